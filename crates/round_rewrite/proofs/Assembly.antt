@@ -71,6 +71,7 @@ module _ (p : Program) (last : ℕ) where
   bare_rewritten_routine (Some r) =
       λ i. Some (record {
         places = r.places + Rattle.round_rewrite.specs.Table.temporaries Rattle.round_rewrite.specs.Places.is_global r.body;
+        gives = r.gives;
         body =
             (bare-numbered 1 (rewritten (places p.globals last r.places) last r.body)
             ∙ bare-rewritten (places p.globals last r.places) last r.body) i;

@@ -53,6 +53,12 @@ bit-drawn (suc d) j [] tmp i h = refl
 bit-drawn (suc d) j (t ∷ ts) tmp i h = bit-drawn d (suc j) ts (with_bit tmp j t) i (omega arith)
     ∙ get_or-set_other tmp j i t false (omega arith)
 
+pub bit-undrawn : (d j : ℕ) (ts tmp : List Bool) (i : ℕ) → j + d ≤ i → bit (drawn_to d j ts tmp) i ≡ bit tmp i
+bit-undrawn zero j ts tmp i h = refl
+bit-undrawn (suc d) j [] tmp i h = refl
+bit-undrawn (suc d) j (t ∷ ts) tmp i h = bit-undrawn d (suc j) ts (with_bit tmp j t) i (omega arith)
+    ∙ get_or-set_other tmp j i t false (omega arith)
+
 -- the values of the `?` with a global target
 pub picks : List Place → List (RightSide Place) → List Bool → List Bool
 picks [] rs vs = []
@@ -113,7 +119,17 @@ drawn_writes X l tmp own (suc d) j (t ∷ ts) e =
           ∙ ih.1,
     )
 
-module _ {n last : ℕ} (small : last < most_rounds) (now : Moment n last) (own : ℕ) (l tmp : List Bool)
+-- writes to a frame's own places leave what stands behind them
+pub writes_more : (n own : ℕ) (xs : List Place) (vs l more : List Bool) → PlacesInScope n own xs → length l ≡ own
+    → written_locals xs vs (l ++ more) ≡ written_locals xs vs l ++ more
+writes_more n own [] vs l more h e = refl
+writes_more n own (x ∷ xs) [] l more h e = refl
+writes_more n own (global i ∷ xs) (v ∷ vs) l more h e = writes_more n own xs vs l more h.1 e
+writes_more n own (local i ∷ xs) (v ∷ vs) l more h e =
+    ap (written_locals xs vs) (set-append_left l more i v (let z : i < own = h.0 in omega arith))
+    ∙ writes_more n own xs vs (with_bit l i v) more h.1 (length-set l i v ∙ e)
+
+module _ {n last : ℕ} (small : last < most_rounds) (now : Moment n last) (own : ℕ) (l more tmp : List Bool)
     (el : length l ≡ own) where
   open now use {C, S, q, b, shape, within}
 
@@ -243,10 +259,10 @@ module _ {n last : ℕ} (small : last < most_rounds) (now : Moment n last) (own 
   drawn_is j = bit_right l tmp (own + j) j (ap (λ z. z + j) (sym el))
 
   expr_is : (e : Expression Place) → Rattle.resolved.specs.Scoped.InScope n own e
-      → value_of X (l ++ tmp) (expression (places n last own) last e) ≡ value_of (row C q) l e
-  expr_is e h = expression_is small now own (l ++ tmp) l tmp refl el e h
+      → value_of X (l ++ tmp) (expression (places n last own) last e) ≡ value_of (row C q) (l ++ more) e
+  expr_is e h = expression_is small now own (l ++ tmp) l tmp more refl el e h
 
-  pub sides_are : (j : ℕ) (xs : List Place) (rs : List (RightSide Place)) (vs : List Bool) → AreValues (row C q) l rs vs
+  pub sides_are : (j : ℕ) (xs : List Place) (rs : List (RightSide Place)) (vs : List Bool) → AreValues (row C q) (l ++ more) rs vs
       → Picked j xs rs vs tmp → PlacesInScope n own xs → SidesInScope n own rs
       → AreValues X (l ++ tmp) (sides (places n last own) last j xs rs) (spread_all xs rs vs)
   unfolding spread_all
@@ -264,32 +280,34 @@ module _ {n last : ℕ} (small : last < most_rounds) (now : Moment n last) (own 
 
   pub sides_back : (j : ℕ) (xs : List Place) (rs : List (RightSide Place)) (ws : List Bool) → PlacesInScope n own xs
       → SidesInScope n own rs → AreValues X (l ++ tmp) (sides (places n last own) last j xs rs) ws
-      → (vs : List Bool) × AreValues (row C q) l rs vs × (ws ≡ spread_all xs rs vs)
+      → (vs : List Bool) × AreValues (row C q) (l ++ more) rs vs × Picked j xs rs vs tmp × (ws ≡ spread_all xs rs vs)
   unfolding spread_all
-  sides_back j [] rs [] hx hr a = let (vs, h) = some_values (row C q) l rs in (vs, h, refl)
+  sides_back j [] rs [] hx hr a = let (vs, h) = some_values (row C q) (l ++ more) rs in (vs, h, tt, refl)
   sides_back j [] rs (w ∷ ws) hx hr a = absurd a
-  sides_back j (x ∷ xs) [] [] hx hr a = ([], tt, refl)
+  sides_back j (x ∷ xs) [] [] hx hr a = ([], tt, tt, refl)
   sides_back j (x ∷ xs) [] (w ∷ ws) hx hr a = absurd a
   sides_back j (global i ∷ xs) (any ∷ rs) ws hx hr a =
       let (us, e, h) = spread_back (var (local (own + j))) (bit tmp j) i hx.0 (drawn_is j) (numbers 0 (suc last)) all_below _ ws a in
-      let (vs, hv, ev) = sides_back (suc j) xs rs us hx.1 hr.1 h in
-      (bit tmp j ∷ vs, (tt, hv), e ∙ ap (λ z. map (spread i (bit tmp j)) (numbers 0 (suc last)) ++ z) ev)
+      let (vs, hv, pv, ev) = sides_back (suc j) xs rs us hx.1 hr.1 h in
+      (bit tmp j ∷ vs, (tt, hv), (refl, pv), e ∙ ap (λ z. map (spread i (bit tmp j)) (numbers 0 (suc last)) ++ z) ev)
   sides_back j (global i ∷ xs) (value e ∷ rs) ws hx hr a =
       let (us, e1, h) =
-      spread_back (expression (places n last own) last e) (value_of (row C q) l e) i hx.0 (expr_is e hr.0)
+      spread_back (expression (places n last own) last e) (value_of (row C q) (l ++ more) e) i hx.0 (expr_is e hr.0)
       (numbers 0 (suc last)) all_below _ ws a in
-      let (vs, hv, ev) = sides_back j xs rs us hx.1 hr.1 h in
-      (value_of (row C q) l e ∷ vs, (refl, hv), e1 ∙ ap (λ z. map (spread i (value_of (row C q) l e)) (numbers 0 (suc last)) ++ z) ev)
+      let (vs, hv, pv, ev) = sides_back j xs rs us hx.1 hr.1 h in
+      (value_of (row C q) (l ++ more) e ∷ vs, (refl, hv), pv,
+          e1 ∙ ap (λ z. map (spread i (value_of (row C q) (l ++ more) e)) (numbers 0 (suc last)) ++ z) ev)
   sides_back j (local i ∷ xs) (any ∷ rs) [] hx hr a = absurd a
   sides_back j (local i ∷ xs) (any ∷ rs) (w ∷ ws) hx hr a =
-      let (vs, hv, ev) = sides_back j xs rs ws hx.1 hr.1 a.1 in
-      (w ∷ vs, (tt, hv), ap (λ z. w ∷ z) ev)
+      let (vs, hv, pv, ev) = sides_back j xs rs ws hx.1 hr.1 a.1 in
+      (w ∷ vs, (tt, hv), pv, ap (λ z. w ∷ z) ev)
   sides_back j (local i ∷ xs) (value e ∷ rs) [] hx hr a = absurd a
   sides_back j (local i ∷ xs) (value e ∷ rs) (w ∷ ws) hx hr a =
-      let (vs, hv, ev) = sides_back j xs rs ws hx.1 hr.1 a.1 in
-      (w ∷ vs, (a.0 ∙ expr_is e hr.0, hv), ap (λ z. w ∷ z) ev)
+      let (vs, hv, pv, ev) = sides_back j xs rs ws hx.1 hr.1 a.1 in
+      (w ∷ vs, (a.0 ∙ expr_is e hr.0, hv), pv, ap (λ z. w ∷ z) ev)
 
-  pub writes : (xs : List Place) (rs : List (RightSide Place)) (vs h : List Bool) → AreValues (row C q) l rs vs → PlacesInScope n own xs
+  pub writes : (xs : List Place) (rs : List (RightSide Place)) (vs h : List Bool) → AreValues (row C q) (l ++ more) rs vs
+      → PlacesInScope n own xs
       → length h ≡ n
       → written_globals (targets (places n last own) last xs rs) (spread_all xs rs vs) (lay (with_row C q h) S (bits_of q false b))
       ≡ lay (with_row C q (written_globals xs vs h)) S (bits_of q false b)
@@ -304,7 +322,7 @@ module _ {n last : ℕ} (small : last < most_rounds) (now : Moment n last) (own 
       ∙ writes xs rs vs (with_bit h i v) a.1 hx.1 (length-set h i v ∙ eh)
   writes (local i ∷ xs) (r ∷ rs) (v ∷ vs) h a hx eh = writes xs rs vs h a.1 hx.1 eh
 
-  pub writes_locals : (xs : List Place) (rs : List (RightSide Place)) (vs l' : List Bool) → AreValues (row C q) l rs vs
+  pub writes_locals : (xs : List Place) (rs : List (RightSide Place)) (vs l' : List Bool) → AreValues (row C q) (l ++ more) rs vs
       → PlacesInScope n own xs → length l' ≡ own
       → written_locals (targets (places n last own) last xs rs) (spread_all xs rs vs) (l' ++ tmp) ≡ written_locals xs vs l' ++ tmp
   unfolding spread_all copies_of

@@ -1,11 +1,13 @@
 -- How the rewriting goes with joining, with leaving out labels and numbers, and with jumps.
 use Rattle.std.proofs.Common.{◌≡◌, ℕ, zero, suc, Bool, true, false, cond, Option, Some, None, option_map, refl, sym, ◌∙◌, ap}
-use Rattle.std.proofs.Common.{ap₂}
-use Rattle.language.specs.Tree.{Simple, skip, assign, assert, assume, goto, leave, call, Mark, Block, done, one, choose, loop, RightSide}
+use Rattle.std.proofs.Common.{ap₂, map}
+use Rattle.language.specs.Tree.{Simple, skip, assign, assert, assume, goto, leave, call, leave_with, call_for, Mark, Block, done, one}
+use Rattle.language.specs.Tree.{choose, loop, RightSide}
 use Rattle.language.specs.Value.{Place}
 use Rattle.language.specs.Rest.{Label, Code, join, rest_from, first_of_two, has_label}
 use Rattle.language.proofs.Rests.{join_join, first_none}
-use Rattle.round_rewrite.specs.Table.{Naming, plain, draws, drawing, prologue, statement, rewritten, side}
+use Rattle.round_rewrite.specs.Table.{Naming, plain, draws, drawing, prologue, stop_test, received, receiver, statement, rewritten, side}
+use Rattle.round_rewrite.specs.Table.{expression}
 use Rattle.round_rewrite.proofs.Plain.{bare, bare-join, found, firsts}
 
 first_assoc : {A : Type 0} (x y z : Option A) → first_of_two (first_of_two x y) z ≡ first_of_two x (first_of_two y z)
@@ -39,6 +41,20 @@ rest-join x (loop m r y t) b k =
     (sym (first_assoc (rest_from x y (loop m r y (join t (join b k)))) (rest_from x t (join b k)) (rest_from x b k)))
     ∙ sym (cond_first (has_label x m) _ _ (rest_from x b k)))
 
+-- where a list or another comes after
+cond_join : {V P L : Type 0} (c : Bool) (a b k : Block V P L) → join (cond c a b) k ≡ cond c (join a k) (join b k)
+cond_join true a b k = refl
+cond_join false a b k = refl
+
+bare-cond : (c : Bool) (a b : Code) → bare (cond c a b) ≡ cond c (bare a) (bare b)
+bare-cond true a b = refl
+bare-cond false a b = refl
+
+rest-same : (x : Label) (c : Bool) (a b k : Code) → rest_from x a k ≡ rest_from x b k
+    → rest_from x (cond c a b) k ≡ rest_from x b k
+rest-same x true a b k e = e
+rest-same x false a b k e = refl
+
 module _ {V W P Q L : Type 0} (w : Naming V W P Q) (last : ℕ) where
   drawing-join : (n : ℕ) (t b : Block W Q L) → join (drawing w last n t) b ≡ drawing w last n (join t b)
   drawing-join zero t b = refl
@@ -52,6 +68,11 @@ module _ {V W P Q L : Type 0} (w : Naming V W P Q) (last : ℕ) where
   statement-join (goto l) t b = refl
   statement-join leave t b = refl
   statement-join (call p es) t b = refl
+  statement-join (leave_with e) t b = refl
+  statement-join (call_for x p es) t b =
+      ap
+      (λ z. one plain (call_for (receiver w last x) (w.called p) (map (expression w last) es)) (stop_test w last z))
+      (cond_join (w.is_shared x) (received w last x t) t b)
 
 module _ (w : Naming Place Place ℕ ℕ) (last : ℕ) where
   pub bare-drawing : (n : ℕ) (t : Code) → bare (drawing w last n t) ≡ drawing w last n (bare t)
@@ -66,6 +87,11 @@ module _ (w : Naming Place Place ℕ ℕ) (last : ℕ) where
   bare-statement (goto l) t = refl
   bare-statement leave t = refl
   bare-statement (call p es) t = refl
+  bare-statement (leave_with e) t = refl
+  bare-statement (call_for x p es) t =
+      ap
+      (λ z. one plain (call_for (receiver w last x) (w.called p) (map (expression w last) es)) (stop_test w last z))
+      (bare-cond (w.is_shared x) (received w last x t) t)
 
   rest-drawing : (x : Label) (n : ℕ) (t k : Code) → rest_from x (drawing w last n t) k ≡ rest_from x t k
   rest-drawing x zero t k = refl
@@ -79,6 +105,8 @@ module _ (w : Naming Place Place ℕ ℕ) (last : ℕ) where
   rest-statement x (goto l) t k = refl
   rest-statement x leave t k = refl
   rest-statement x (call p es) t k = refl
+  rest-statement x (leave_with e) t k = refl
+  rest-statement x (call_for y p es) t k = rest-same x (w.is_shared y) (received w last y t) t k refl
 
   -- the rewritten block without labels and numbers
   abbrev pub put : Code → Code

@@ -1,10 +1,11 @@
 -- Rounds of all threads, one after the other, and turns of one thread after the other over rows, are the same.
 use Rattle.std.proofs.Common.{◌≡◌, ℕ, zero, suc, ◌+◌, ◌<◌, ◌≤◌, Bool, true, false, cond, List, [], ◌∷◌, length}
 use Rattle.std.proofs.Common.{Option, Some, None, slice_get, refl, sym, ◌∙◌, ap, subst, arith, ◌⊎◌, inl, inr}
-use Rattle.language.specs.Tree.{skip, assign, assert, assume, goto, leave, call, done, one, choose, loop}
+use Rattle.language.specs.Tree.{skip, assign, assert, assume, goto, leave, call, leave_with, call_for, done, one, choose, loop}
 use Rattle.language.specs.Value.{values_of}
 use Rattle.language.specs.Rest.{Code, rest_from}
-use Rattle.language.specs.Step.{Routine, Program, Frame, frame, State, state, fresh, AtRoutine, AtRest, body_of, StepsTo, AfterSteps, Runs}
+use Rattle.language.specs.Step.{Routine, Program, Frame, frame, waiting, State, state, fresh, frame_size, result_of, given_back, AtRoutine}
+use Rattle.language.specs.Step.{AtRest, body_of, StepsTo, AfterSteps, Runs}
 use Rattle.language.specs.Rounds.{Round, Rounds, FailsInRound}
 use Rattle.language.proofs.Lengths.{length_globals}
 use Rattle.round_rewrite.proofs.Laid.{Long}
@@ -24,9 +25,15 @@ routine_keeps : (o : Option Routine) (F : Routine → State) (n : ℕ) (P : Stat
 routine_keeps None F n P e h = absurd h
 routine_keeps (Some c) F n P e h = (F c, h, e c)
 
+given_keeps : (v : Bool) (g : List Bool) (fs : List Frame) → how_many (given_back v g fs) ≡ length g
+given_keeps v g [] = refl
+given_keeps v g (frame c l t ∷ fs) = refl
+given_keeps v g (waiting c l x t ∷ fs) = length_globals (x ∷ []) (v ∷ []) g
+
 step_keeps : (p : Program) (s : State) (P : State → Type 0) → StepsTo p s P → (u : State) × P u × (how_many u ≡ how_many s)
 step_keeps p (state g []) P h = absurd h
-step_keeps p (state g (frame c l done ∷ fs)) P h = (_, h, refl)
+step_keeps p (state g (waiting c l x t ∷ fs)) P h = absurd h
+step_keeps p (state g (frame c l done ∷ fs)) P h = (_, h, given_keeps (result_of (slice_get p.routines c) l) g fs)
 step_keeps p (state g (frame c l (one m skip t) ∷ fs)) P h = (_, h, refl)
 step_keeps p (state g (frame c l (one m (assign xs rs) t) ∷ fs)) P h = (_, h.2, length_globals xs h.0 g)
 step_keeps p (state g (frame c l (one m (assert r) t) ∷ fs)) P h = (_, h.1, refl)
@@ -35,7 +42,12 @@ step_keeps p (state g (frame c l (one m (goto x) t) ∷ fs)) P h =
     rest_keeps (rest_from x (body_of (slice_get p.routines c)) done) (λ u. state g (frame c l u ∷ fs)) (length g) P (λ u. refl) h
 step_keeps p (state g (frame c l (one m leave t) ∷ fs)) P h = (_, h, refl)
 step_keeps p (state g (frame c l (one m (call q es) t) ∷ fs)) P h =
-    routine_keeps (slice_get p.routines q) (λ r. state g (frame q (fresh r.places (values_of g l es)) r.body ∷ frame c l t ∷ fs))
+    routine_keeps (slice_get p.routines q) (λ r. state g (frame q (fresh (frame_size r) (values_of g l es)) r.body ∷ frame c l t ∷ fs))
+    (length g) P (λ u. refl) h
+step_keeps p (state g (frame c l (one m (leave_with e) t) ∷ fs)) P h = (_, h, refl)
+step_keeps p (state g (frame c l (one m (call_for x q es) t) ∷ fs)) P h =
+    routine_keeps (slice_get p.routines q)
+    (λ r. state g (frame q (fresh (frame_size r) (values_of g l es)) r.body ∷ waiting c l x t ∷ fs))
     (length g) P (λ u. refl) h
 step_keeps p (state g (frame c l (choose m r a b t) ∷ fs)) P h = (_, h.2, refl)
 step_keeps p (state g (frame c l (loop m r a t) ∷ fs)) P h = (_, h.2, refl)

@@ -1,18 +1,21 @@
 -- A stack of the source and the temporaries together give the rewritten stack.
 use Rattle.std.proofs.Common.{◌≡◌, ℕ, zero, suc, ◌+◌, ◌-◌, ◌*◌, ◌<◌, ◌≤◌, max, Bool, true, false, cond, List, [], ◌∷◌, ◌++◌, length, map}
-use Rattle.std.proofs.Common.{Option, Some, None, option_map, slice_get, sym, ◌∙◌, ap, ap₂, arith, ◌⊎◌, inl, inr, append_assoc}
-use Rattle.language.specs.Tree.{Simple, skip, assign, assert, assume, goto, leave, call, Mark, done, one, choose, loop, RightSide}
-use Rattle.language.specs.Value.{Place}
+use Rattle.std.proofs.Common.{Option, Some, None, option_map, slice_get, refl, sym, ◌∙◌, ap, ap₂, arith, add_assoc, ◌⊎◌, inl, inr}
+use Rattle.std.proofs.Common.{append_assoc}
+use Rattle.std.proofs.lemmas.List.{get_or-set_same, get_or-set_other, set_past, length-set, set-append_left}
+use Rattle.language.specs.Tree.{Expression, Simple, assign, call_for, Mark, done, one, choose, loop, RightSide}
+use Rattle.language.specs.Value.{Place, global, local, bit, with_bit, written_locals}
 use Rattle.language.specs.Rest.{Label, Code, join, rest_from, first_of_two, has_label}
-use Rattle.language.specs.Step.{Routine, Program, Frame, frame, zeros, fresh}
-use Rattle.round_rewrite.specs.Table.{plain, draws, temporaries, side, prologue, statement, stop_test, draws_of}
+use Rattle.language.specs.Step.{Routine, Program, Frame, frame, state, zeros, fresh, frame_size, result_of, with_result, given_back}
+use Rattle.language.specs.Flow.{caller_frame}
+use Rattle.round_rewrite.specs.Table.{plain, takes, draws, temporaries, side, prologue, statement, stop_test, received, receiver, draws_of}
 use Rattle.language.specs.Parts as parts
 use Rattle.round_rewrite.specs.Places.{places, is_global}
 use Rattle.round_rewrite.specs.Limits.{most_rounds}
-use Rattle.resolved.specs.Scoped.{SimpleInScope, SideInScope, Throughout, FitsScopes}
+use Rattle.resolved.specs.Scoped.{SimpleInScope, SideInScope, PlaceInScope, Throughout, FitsScopes}
 use Rattle.round_rewrite.proofs.Plain.{World}
 use Rattle.round_rewrite.proofs.Blocks.{put}
-use Rattle.round_rewrite.proofs.Laid.{Shape}
+use Rattle.round_rewrite.proofs.Laid.{Shape, bit_right, with_right}
 use Rattle.round_rewrite.proofs.Prologue.{Site}
 
 -- in scope, with room for so many temporaries
@@ -66,6 +69,16 @@ room_simple : (s : Simple Place ℕ Label) (t : Code) (m : Mark Label) (d : ℕ)
     → (draws_of is_global (parts.plain s) ≤ d) × (temporaries is_global t ≤ d)
 room_simple s t m d h = (omega arith, omega arith)
 
+-- an assignment with room has room for what it draws
+pub draws_room : (routines : List Routine) (n own d : ℕ) (xs : List Place) (rs : List (RightSide Place))
+    → Roomy routines n own d (assign xs rs) → draws is_global xs rs ≤ d
+draws_room routines n own d xs rs (scope, room) = omega arith
+
+-- a call for a value with room has room for the value
+pub takes_room : (routines : List Routine) (n own d : ℕ) (x : Place) (q : ℕ) (es : List (Expression Place))
+    → Roomy routines n own d (call_for x q es) → takes is_global (Some x) ≤ d
+takes_room routines n own d x q es (scope, room) = omega arith
+
 -- a block in scope, with room for its temporaries, fits
 pub roomy : (routines : List Routine) (n own d : ℕ) (b : Code) → Throughout (SimpleInScope routines n own) (SideInScope n own) b
     → temporaries is_global b ≤ d → Fits routines n own d b
@@ -82,45 +95,118 @@ roomy routines n own d (choose m r a b t) h room = (
 roomy routines n own d (loop m r a t) h room =
     (h.0, roomy routines n own d a h.1 (omega arith), roomy routines n own d t h.2 (omega arith))
 
--- an open call: its procedure, how many places it has of its own, their values, and those of the temporaries
+-- An open call: its procedure, how many places it has of its own, their values, the result behind them, if the
+-- procedure gives one, and what the rewritten frame has behind the places: the temporaries, and the result once more.
 pub record Activation : Type 0 where
   pub c : ℕ
   pub own : ℕ
   pub l : List Bool
+  pub more : List Bool
   pub tmp : List Bool
 
--- an open call and what it has left to do: a frame of the source with the temporaries
+-- an open call, the variable that gets the value of its own call, if it waits for one, and what it has left to do: a
+-- frame of the source with the temporaries
 pub record Both : Type 0 where
   pub activation : Activation
   pub open activation use *
+  pub awaits : Option Place
   pub rest : Code
 
+-- an open call that waits for nothing
 abbrev pub both : Activation → Code → Both
-both a rest = record { activation = a; rest = rest }
+both a rest = record { activation = a; awaits = None; rest = rest }
+
+-- an open call that waits for a value
+abbrev pub awaiting : Activation → Place → Code → Both
+awaiting a x rest = record { activation = a; awaits = Some x; rest = rest }
+
+-- how many values a frame has for the result
+abbrev pub results : Routine → ℕ
+results r = cond r.gives 1 0
 
 -- a call that begins with these values
 abbrev pub entered : ℕ → Routine → List Bool → Both
 entered q r vs =
-    both (record { c = q; own = r.places; l = fresh r.places vs; tmp = zeros (temporaries is_global r.body) }) r.body
+    both
+    (record {
+      c = q;
+      own = r.places;
+      l = fresh r.places vs;
+      more = zeros (results r);
+      tmp = zeros (temporaries is_global r.body + results r);
+    })
+    r.body
+
+-- the values of the source's frame
+abbrev pub source_values : Activation → List Bool
+source_values a = a.l ++ a.more
+
+-- those of the rewritten frame
+abbrev pub put_values : Activation → List Bool
+put_values a = a.l ++ a.tmp
 
 -- the frame of the source
 abbrev pub source : Both → Frame
-source b = frame b.c b.l b.rest
+source b = caller_frame b.c (source_values b.activation) b.awaits b.rest
+
+-- a caller's places when the value that it waits for is there
+abbrev pub given_places : Bool → Option Place → List Bool → List Bool
+given_places v None l = l
+given_places v (Some (local i)) l = with_bit l i v
+given_places v (Some (global i)) l = l
+
+-- its temporaries: the first one has the value for a global
+abbrev pub given_temporaries : Bool → Option Place → List Bool → List Bool
+given_temporaries v None tmp = tmp
+given_temporaries v (Some (local i)) tmp = tmp
+given_temporaries v (Some (global i)) tmp = with_bit tmp 0 v
+
+-- the open call when the value that it waits for is there
+abbrev pub given : Bool → Option Place → Activation → Activation
+given v o a = record a { l = given_places v o a.l; tmp = given_temporaries v o a.tmp }
+
+-- the globals when the source's frame has got the value
+abbrev pub given_globals : Bool → Option Place → List Bool → List Bool
+given_globals v None g = g
+given_globals v (Some (local i)) g = g
+given_globals v (Some (global i)) g = with_bit g i v
+
+-- these values when the variable has got the value
+abbrev pub given_values : Option Place → Bool → List Bool → List Bool
+given_values None v L = L
+given_values (Some x) v L = written_locals (x ∷ []) (v ∷ []) L
+
+-- the variable is in scope, and the first temporary is there where it is a global
+abbrev pub Waits : ℕ → ℕ → ℕ → Option Place → Type 0
+Waits n own d None = Unit {0}
+Waits n own d (Some x) = PlaceInScope n own x × (takes is_global (Some x) ≤ d)
 
 module _ (p : Program) (last : ℕ) where
-  -- the frame is one of a procedure that is there, and fits
+  -- the frame is one of a procedure that is there, and fits; both results are the same
   pub record Good (b : Both) : Type 0 where
     pub routine : Routine
     pub there : slice_get p.routines b.c ≡ Some routine
     pub own_is : routine.places ≡ b.own
     pub long : length b.l ≡ b.own
-    pub room : temporaries is_global routine.body ≤ length b.tmp
-    pub fits : Fits p.routines p.globals b.own (length b.tmp) b.rest
+    pub gives : length b.more ≡ results routine
+    pub room : length b.tmp ≡ temporaries is_global routine.body + length b.more
+    pub result : bit b.tmp (temporaries is_global routine.body) ≡ bit b.more 0
+    pub waits : Waits p.globals b.own (temporaries is_global routine.body) b.awaits
+    pub fits : Fits p.routines p.globals b.own (temporaries is_global routine.body) b.rest
+
+  -- how many temporaries the procedure of a frame has
+  abbrev pub room_of : {b : Both} → Good b → ℕ
+  room_of h = temporaries is_global h.routine.body
 
   -- the same of all frames
   abbrev pub AllGood : List Both → Type 0
   AllGood [] = Unit {0}
   AllGood (b ∷ bs) = Good b × AllGood bs
+
+  -- the same of a whole stack, whose top frame waits for nothing
+  abbrev pub GoodStack : List Both → Type 0
+  GoodStack [] = Unit {0}
+  GoodStack (b ∷ bs) = (b.awaits ≡ None) × Good b × AllGood bs
 
   -- a rest, rewritten
   abbrev pub put_rest : ℕ → Code → Code
@@ -136,29 +222,47 @@ module _ (p : Program) (last : ℕ) where
       loop plain (side (places p.globals last own) last r)
       (join (put_rest own x) (prologue (places p.globals last own) last plain done)) (put_rest own t)
 
+  -- what a caller has to do behind its test of `stop`: where a global waits, it gets the value first
+  abbrev pub behind : ℕ → Option Place → Code → Code
+  behind own None t = t
+  behind own (Some x) t = cond (is_global x) (received (places p.globals last own) last x t) t
+
+  -- the variable of the rewritten program that gets the value
+  abbrev pub put_target : ℕ → Option Place → Option Place
+  put_target own None = None
+  put_target own (Some x) = Some (receiver (places p.globals last own) last x)
+
   -- the rewritten frames below the top one: each tests `stop` when it goes on
-  abbrev pub callers : List Both → Frame → List Frame
-  callers [] m = m ∷ []
+  abbrev pub callers : List Both → Code → List Frame
+  callers [] m = frame 0 [] m ∷ []
   callers (b ∷ bs) m =
-      frame (suc b.c) (b.l ++ b.tmp) (stop_test (places p.globals last b.own) last (put_rest b.own b.rest)) ∷ callers bs m
+      caller_frame (suc b.c) (put_values b.activation) (put_target b.own b.awaits)
+      (stop_test (places p.globals last b.own) last (behind b.own b.awaits (put_rest b.own b.rest))) ∷ callers bs m
 
   -- the rewritten frames, where the top one has this to do
-  abbrev pub top : Activation → Code → List Both → Frame → List Frame
-  top a rest bs m = frame (suc a.c) (a.l ++ a.tmp) rest ∷ callers bs m
+  abbrev pub top : Activation → Code → List Both → Code → List Frame
+  top a rest bs m = frame (suc a.c) (put_values a) rest ∷ callers bs m
 
   -- the top frame of a rewritten stack, over these rows and saved guesses
-  abbrev pub site : (C S : List (List Bool)) → Shape p.globals last C S → Activation → List Both → Frame → Site p.globals last
+  abbrev pub site : (C S : List (List Bool)) → Shape p.globals last C S → Activation → List Both → Code → Site p.globals last
   site C S shape a bs m =
-      record { C = C; S = S; shape = shape; c = suc a.c; own = a.own; L = a.l ++ a.tmp; fs = callers bs m }
+      record { C = C; S = S; shape = shape; c = suc a.c; own = a.own; L = put_values a; fs = callers bs m }
 
-  -- the rewritten stack
-  abbrev pub stack : List Both → Frame → List Frame
-  stack [] m = m ∷ []
+  -- the same of a caller that has got a value, whatever it is
+  abbrev pub frame_site : (C S : List (List Bool)) → Shape p.globals last C S → Both → List Bool → List Both → Code
+      → Site p.globals last
+  frame_site C S shape d L bs m =
+      record { C = C; S = S; shape = shape; c = suc d.c; own = d.own; L = L; fs = callers bs m }
+
+  -- the rewritten stack, where `m` is what the first procedure has left to do
+  abbrev pub stack : List Both → Code → List Frame
+  stack [] m = frame 0 [] m ∷ []
   stack (b ∷ bs) m = top b.activation (put_rest b.own b.rest) bs m
 
   -- a procedure, rewritten
   abbrev pub put_routine : Routine → Routine
-  put_routine r = record { places = r.places + temporaries is_global r.body; body = put_rest r.places r.body }
+  put_routine r =
+      record { places = r.places + temporaries is_global r.body; gives = r.gives; body = put_rest r.places r.body }
 
   -- the world of the rewritten program, at the procedures of the source
   pub record IsWorld (w : World) : Type 0 where
@@ -175,6 +279,12 @@ pub record Setting : Type 0 where
   pub w : World
   pub isw : IsWorld p last w
 
+-- zeros are 0
+pub bit_zeros : (n i : ℕ) → bit (zeros n) i ≡ false
+bit_zeros zero i = refl
+bit_zeros (suc n) zero = refl
+bit_zeros (suc n) (suc i) = bit_zeros n i
+
 -- zeros behind zeros
 pub zeros-add : (a b : ℕ) → zeros (a + b) ≡ zeros a ++ zeros b
 zeros-add zero b = ap zeros (Rattle.std.proofs.Common.zero-add b)
@@ -186,3 +296,162 @@ fresh_more own d vs h =
     let e : own + d - length vs ≡ (own - length vs) + d = omega arith in
     ap (λ k. vs ++ zeros k) e
     ∙ (ap (λ z. vs ++ z) (zeros-add (own - length vs) d) ∙ sym (append_assoc vs (zeros (own - length vs)) (zeros d)))
+
+-- the result behind other values
+behind_places : (gives : Bool) (l more : List Bool) (i : ℕ) → i ≡ length l → length more ≡ cond gives 1 0
+    → cond gives (bit (l ++ more) i) false ≡ bit more 0
+behind_places true l more i e h = bit_right l more i 0 (omega arith)
+behind_places false l [] i e h = refl
+behind_places false l (x ∷ more) i e h = absurd (omega arith)
+
+-- the same behind temporaries
+behind_temporaries : (gives : Bool) (l tmp more : List Bool) (i d : ℕ) → i ≡ length l + d → length more ≡ cond gives 1 0
+    → bit tmp d ≡ bit more 0 → cond gives (bit (l ++ tmp) i) false ≡ bit more 0
+behind_temporaries true l tmp more i d e h same = bit_right l tmp i d e ∙ same
+behind_temporaries false l tmp [] i d e h same = refl
+behind_temporaries false l tmp (x ∷ more) i d e h same = absurd (omega arith)
+
+-- a result that is written twice is the same in both places
+written_twice : (tmp more : List Bool) (d : ℕ) (v : Bool) → length tmp ≡ d + length more → bit tmp d ≡ bit more 0
+    → bit (with_bit tmp d v) d ≡ bit (with_bit more 0 v) 0
+written_twice tmp [] d v e same = ap (λ z. bit z d) (set_past tmp d v (omega arith)) ∙ same
+written_twice tmp (x ∷ more) d v e same = get_or-set_same tmp d v false (omega arith)
+
+module _ (p : Program) (last : ℕ) where
+  -- the result of a frame of the source
+  pub source_result : (b : Both) → Good p last b
+      → result_of (slice_get p.routines b.c) (source_values b.activation) ≡ bit b.more 0
+  source_result b h =
+      ap (λ o. result_of o (source_values b.activation)) h.there
+      ∙ behind_places h.routine.gives b.l b.more h.routine.places (h.own_is ∙ sym h.long) h.gives
+
+  -- another result of a frame of the source
+  pub source_with : (b : Both) → Good p last b → (v : Bool)
+      → with_result (slice_get p.routines b.c) (source_values b.activation) v ≡ b.l ++ with_bit b.more 0 v
+  source_with b h v =
+      ap (λ o. with_result o (source_values b.activation) v) h.there
+      ∙ with_right b.l b.more h.routine.places 0 v (let e : h.routine.places ≡ length b.l = h.own_is ∙ sym h.long in omega arith)
+
+  -- the frame that waits gets the value: in the source
+  pub source_given : (v : Bool) (g : List Bool) (a : Activation) (o : Option Place) (n d : ℕ) (t : Code) (fs : List Frame)
+      → length a.l ≡ a.own → Waits n a.own d o
+      → given_back v g (caller_frame a.c (source_values a) o t ∷ fs)
+      ≡ state (given_globals v o g) (frame a.c (source_values (given v o a)) t ∷ fs)
+  source_given v g a None n d t fs e h = refl
+  source_given v g a (Some (local i)) n d t fs e h =
+      ap (λ z. state g (frame a.c z t ∷ fs)) (set-append_left a.l a.more i v (let k : i < a.own = h.0 in omega arith))
+  source_given v g a (Some (global i)) n d t fs e h = refl
+
+  -- the same in the rewritten program, whose globals stay as they are
+  pub put_given : (v : Bool) (g : List Bool) (a : Activation) (o : Option Place) (n d : ℕ) (t : Code) (fs : List Frame)
+      → length a.l ≡ a.own → Waits n a.own d o
+      → given_back v g (caller_frame (suc a.c) (put_values a) (put_target p last a.own o) t ∷ fs)
+      ≡ state g (frame (suc a.c) (put_values (given v o a)) t ∷ fs)
+  put_given v g a None n d t fs e h = refl
+  put_given v g a (Some (local i)) n d t fs e h =
+      ap (λ z. state g (frame (suc a.c) z t ∷ fs)) (set-append_left a.l a.tmp i v (let k : i < a.own = h.0 in omega arith))
+  put_given v g a (Some (global i)) n d t fs e h =
+      ap (λ z. state g (frame (suc a.c) z t ∷ fs)) (with_right a.l a.tmp (a.own + 0) 0 v (ap (λ k. k + 0) (sym e)))
+
+  -- the values of a caller when its frame has got the value, whatever it is
+  abbrev pub got : Bool → Both → List Bool
+  got v d = given_values (put_target p last d.own d.awaits) v (put_values d.activation)
+
+  -- a rewritten caller gets a value: a place of its frame, or none, has it
+  pub got_back : (v : Bool) (g : List Bool) (d : Both) (t : Code) (fs : List Frame)
+      → given_back v g (caller_frame (suc d.c) (put_values d.activation) (put_target p last d.own d.awaits) t ∷ fs)
+      ≡ state g (frame (suc d.c) (got v d) t ∷ fs)
+  got_back v g d t fs = by_target d.awaits
+    where
+      by_target : (o : Option Place)
+          → given_back v g (caller_frame (suc d.c) (put_values d.activation) (put_target p last d.own o) t ∷ fs)
+          ≡ state g (frame (suc d.c) (given_values (put_target p last d.own o) v (put_values d.activation)) t ∷ fs)
+      by_target None = refl
+      by_target (Some (local i)) = refl
+      by_target (Some (global i)) = refl
+
+  -- a frame that has got its value fits
+  pub given_good : (v : Bool) (b : Both) → Good p last b → Good p last (both (given v b.awaits b.activation) b.rest)
+  given_good v b h = record {
+    routine = h.routine;
+    there = h.there;
+    own_is = h.own_is;
+    long = length-given v b.awaits b.l ∙ h.long;
+    gives = h.gives;
+    room = length-temporaries v b.awaits b.tmp ∙ h.room;
+    result = kept v b.awaits b.tmp (temporaries is_global h.routine.body) h.waits ∙ h.result;
+    waits = tt;
+    fits = h.fits;
+  }
+    where
+      length-given : (v : Bool) (o : Option Place) (l : List Bool) → length (given_places v o l) ≡ length l
+      length-given v None l = refl
+      length-given v (Some (local i)) l = length-set l i v
+      length-given v (Some (global i)) l = refl
+
+      length-temporaries : (v : Bool) (o : Option Place) (tmp : List Bool) → length (given_temporaries v o tmp) ≡ length tmp
+      length-temporaries v None tmp = refl
+      length-temporaries v (Some (local i)) tmp = refl
+      length-temporaries v (Some (global i)) tmp = length-set tmp 0 v
+
+      kept : (v : Bool) (o : Option Place) (tmp : List Bool) (d : ℕ) → Waits p.globals b.own d o
+          → bit (given_temporaries v o tmp) d ≡ bit tmp d
+      kept v None tmp d w = refl
+      kept v (Some (local i)) tmp d w = refl
+      kept v (Some (global i)) tmp d w = get_or-set_other tmp 0 d v false (let k : 1 ≤ d = w.1 in omega arith)
+
+-- the rewritten machine and the source's results
+module _ (setting : Setting) where
+  open setting use {p, last, w, isw}
+
+  -- a procedure of the rewritten program
+  put_at : (b : Both) → (h : Good p last b) → w.enters (suc b.c) ≡ Some (put_routine p last h.routine)
+  put_at b h = isw.enters_is b.c ∙ ap (option_map (put_routine p last)) h.there
+
+  -- the result of a rewritten frame is that of the source
+  pub put_result : (b : Both) → Good p last b → result_of (w.enters (suc b.c)) (put_values b.activation) ≡ bit b.more 0
+  put_result b h =
+      let e : h.routine.places ≡ length b.l = h.own_is ∙ sym h.long in
+      ap (λ o. result_of o (put_values b.activation)) (put_at b h)
+      ∙ behind_temporaries h.routine.gives b.l b.tmp b.more (h.routine.places + temporaries is_global h.routine.body)
+      (temporaries is_global h.routine.body) (ap (λ k. k + temporaries is_global h.routine.body) e) h.gives h.result
+
+  -- another result of a rewritten frame
+  pub put_with : (b : Both) → (h : Good p last b) → (v : Bool)
+      → with_result (w.enters (suc b.c)) (put_values b.activation) v ≡ b.l ++ with_bit b.tmp (temporaries is_global h.routine.body) v
+  put_with b h v =
+      let e : h.routine.places ≡ length b.l = h.own_is ∙ sym h.long in
+      ap (λ o. with_result o (put_values b.activation) v) (put_at b h)
+      ∙ with_right b.l b.tmp (h.routine.places + temporaries is_global h.routine.body) (temporaries is_global h.routine.body) v
+      (ap (λ k. k + temporaries is_global h.routine.body) e)
+
+  -- a frame with another result, at its end
+  abbrev pub resulting : (a : Activation) (rest : Code) → Good p last (both a rest) → Bool → Activation
+  resulting a rest h v = record a { more = with_bit a.more 0 v; tmp = with_bit a.tmp (temporaries is_global h.routine.body) v }
+
+  pub resulting_good : (a : Activation) (rest : Code) (h : Good p last (both a rest)) (v : Bool)
+      → Good p last (both (resulting a rest h v) done)
+  resulting_good a rest h v = record {
+    routine = h.routine;
+    there = h.there;
+    own_is = h.own_is;
+    long = h.long;
+    gives = length-set a.more 0 v ∙ h.gives;
+    room =
+        length-set a.tmp (temporaries is_global h.routine.body) v
+        ∙ (h.room ∙ ap (λ k. temporaries is_global h.routine.body + k) (sym (length-set a.more 0 v)));
+    result = written_twice a.tmp a.more (temporaries is_global h.routine.body) v h.room h.result;
+    waits = tt;
+    fits = tt;
+  }
+
+-- the values of a new frame of the source, and those of a new rewritten frame
+pub source_fresh : (r : Routine) (vs : List Bool) → length vs ≤ r.places
+    → fresh (frame_size r) vs ≡ fresh r.places vs ++ zeros (results r)
+source_fresh r vs h = fresh_more r.places (results r) vs h
+
+pub put_fresh : (p : Program) (last : ℕ) (r : Routine) (vs : List Bool) → length vs ≤ r.places
+    → fresh (frame_size (put_routine p last r)) vs ≡ fresh r.places vs ++ zeros (temporaries is_global r.body + results r)
+put_fresh p last r vs h =
+    ap (λ n. fresh n vs) (add_assoc r.places (temporaries is_global r.body) (results r))
+    ∙ fresh_more r.places (temporaries is_global r.body + results r) vs h

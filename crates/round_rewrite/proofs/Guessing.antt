@@ -5,7 +5,7 @@ use Rattle.std.proofs.lemmas.List.{length-set, nil_from_length}
 use Rattle.language.specs.Tree.{var, RightSide, any, value, Simple, assign, Mark, done, one, choose, loop}
 use Rattle.language.specs.Value.{Place, global, local, bit, with_bit, AreValues, written_globals, written_locals}
 use Rattle.language.specs.Rest.{Label, Code}
-use Rattle.language.specs.Step.{Frame, frame, State, state}
+use Rattle.language.specs.Step.{Frame, frame, waiting, State, state}
 use Rattle.round_rewrite.specs.Table.{numbers, plain, each, guess}
 use Rattle.round_rewrite.specs.Places.{places, copy_at, save_at, all_globals, bad_at}
 use Rattle.round_rewrite.proofs.Laid.{Long, row, with_row, row_bit, row_with, with_right, bit_right, length-flat, flat, lay, Shape}
@@ -17,6 +17,7 @@ use Rattle.round_rewrite.proofs.Leading.{Leads}
 -- the first procedure is over, and `bad` is 1
 abbrev pub Bad : ℕ → ℕ → State → Type 0
 Bad n last (state g []) = ⊥
+Bad n last (state g (waiting c l x t ∷ fs)) = ⊥
 Bad n last (state g (frame c l done ∷ [])) = (c ≡ 0) × (bit g (bad_at n last) ≡ true)
 Bad n last (state g (frame c l done ∷ f ∷ fs)) = ⊥
 Bad n last (state g (frame c l (one m s t) ∷ fs)) = ⊥
@@ -24,6 +25,7 @@ Bad n last (state g (frame c l (choose m r a b t) ∷ fs)) = ⊥
 Bad n last (state g (frame c l (loop m r a t) ∷ fs)) = ⊥
 
 pub bad_single : (n last : ℕ) (g : List Bool) (f f' : Frame) (fs : List Frame) → Bad n last (state g (f ∷ f' ∷ fs)) → ⊥
+bad_single n last g (waiting c l x t) f' fs h = h
 bad_single n last g (frame c l done) f' fs h = h
 bad_single n last g (frame c l (one m s t)) f' fs h = h
 bad_single n last g (frame c l (choose m r a b t)) f' fs h = h

@@ -25,6 +25,7 @@ pub mod Numbering
 pub mod Placing
 pub mod Resolved
 pub mod Matching
+pub mod Giving
 pub mod Meaning
 pub mod Pushed
 pub mod InTurn

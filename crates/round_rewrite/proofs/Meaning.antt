@@ -31,6 +31,7 @@ use Rattle.round_rewrite.proofs.Numbering.{free_name, length-rows}
 use Rattle.round_rewrite.proofs.Placing.{Vocabulary, wider, bad_place, length-numbers}
 use Rattle.round_rewrite.proofs.Resolved.{by_test, temporaries_resolved, block_resolved}
 use Rattle.round_rewrite.proofs.Matching.{main_resolved, same_text_other}
+use Rattle.round_rewrite.proofs.Giving.{gives_rewritten, gives_main}
 use Rattle.round_rewrite.proofs.Theorem.{keeps}
 use Rattle.resolved.specs.Limits.{most_places}
 use Rattle.round_rewrite.specs.Limits.{most_rounds}
@@ -88,8 +89,11 @@ module _ (t : Tree) (last : ℕ) (ok : IsRewritable t) (small : last < most_roun
 
   main_is : routine_of t' (main_procedure last t) ≡ main_routine last (meaning_of t)
   main_is =
-      ap (λ b. record { places = 0; body = b }) (main_resolved t gs ps last ok.globals ok.distinct
-      (omega arith) small ps' called t.threads ok.threads)
+      λ i. record {
+        places = 0;
+        gives = gives_main Name (names []) last gs (map (λ (line : ThreadLine). line.name) t.threads) i;
+        body = main_resolved t gs ps last ok.globals ok.distinct (omega arith) small ps' called t.threads ok.threads i;
+      }
 
   abbrev own_of : Procedure → List Name
   own_of p = p.formals ++ p.locals
@@ -128,7 +132,11 @@ module _ (t : Tree) (last : ℕ) (ok : IsRewritable t) (small : last < most_roun
       ap (λ l.
       resolve_block (record { globals = t'.globals; locals = l; procedures = ps' }) (rewritten (names own) last p.body))
       (sym (append_assoc p.formals p.locals (temps_of p))) in
-      λ i. record { places = (length-own p ∙ ap (λ z. length own + z) counts) i; body = (scoped ∙ bodies) i }
+      λ i. record {
+        places = (length-own p ∙ ap (λ z. length own + z) counts) i;
+        gives = gives_rewritten (names own) last p.body i;
+        body = (scoped ∙ bodies) i;
+      }
 
   routines_are : (procs : List Procedure) → EachProcedure (ProcedureRewritable t) procs →
       EachProcedure (λ (p : Procedure). width t' p ≤ most_places) (map (rewritten_procedure last) procs) →

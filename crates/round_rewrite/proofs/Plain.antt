@@ -2,10 +2,13 @@
 use Rattle.std.proofs.Common.{◌≡◌, ℕ, zero, suc, ◌+◌, Bool, true, false, cond, List, [], ◌∷◌, map, Option, Some, None}
 use Rattle.std.proofs.Common.{option_map, slice_get, refl, sym, ◌∙◌, ap, ap₂}
 use mathlib.Core.Path.{fun_ext}
-use Rattle.language.specs.Tree.{skip, assign, assert, assume, goto, leave, call, Mark, done, one, choose, loop, RightSide}
-use Rattle.language.specs.Value.{Place, values_of, IsValue, AreValues, written_globals, written_locals}
+use Rattle.language.specs.Tree.{skip, assign, assert, assume, goto, leave, call, leave_with, call_for, Mark, done, one, choose, loop}
+use Rattle.language.specs.Tree.{RightSide}
+use Rattle.language.specs.Value.{Place, value_of, values_of, IsValue, AreValues, written_globals, written_locals}
 use Rattle.language.specs.Rest.{Label, Code, join, rest_from, first_of_two, has_label}
-use Rattle.language.specs.Step.{Routine, Program, Frame, frame, State, state, fresh, AtRoutine, AtRest, body_of, StepsTo, AfterSteps}
+use Rattle.language.specs.Step.{Routine, Program, Frame, frame, waiting, State, state, fresh, frame_size, result_of, with_result}
+use Rattle.language.specs.Step.{given_back}
+use Rattle.language.specs.Step.{AtRoutine, AtRest, body_of, StepsTo, AfterSteps}
 use Rattle.language.specs.Sequential.{statements, marked, numbered}
 use Rattle.round_rewrite.specs.Table.{plain}
 
@@ -18,12 +21,13 @@ bare (loop m r a t) = loop plain r (bare a) (bare t)
 
 abbrev pub bare_frame : Frame → Frame
 bare_frame (frame c l rest) = frame c l (bare rest)
+bare_frame (waiting c l x rest) = waiting c l x (bare rest)
 
 abbrev pub bare_state : State → State
 bare_state (state g fs) = state g (map bare_frame fs)
 
 abbrev pub bare_routine : Routine → Routine
-bare_routine r = record { places = r.places; body = bare r.body }
+bare_routine r = record { places = r.places; gives = r.gives; body = bare r.body }
 
 -- where calls and jumps lead to
 pub record World : Type 0 where
@@ -38,7 +42,8 @@ world_of p = record {
 
 abbrev pub PlainSteps : World → State → (State → Type 0) → Type 0
 PlainSteps w (state g []) Q = ⊥
-PlainSteps w (state g (frame c l done ∷ fs)) Q = Q (state g fs)
+PlainSteps w (state g (waiting c l x t ∷ fs)) Q = ⊥
+PlainSteps w (state g (frame c l done ∷ fs)) Q = Q (given_back (result_of (w.enters c) l) g fs)
 PlainSteps w (state g (frame c l (one m skip t) ∷ fs)) Q = Q (state g (frame c l t ∷ fs))
 PlainSteps w (state g (frame c l (one m (assign xs rs) t) ∷ fs)) Q =
     (vs : List Bool) × AreValues g l rs vs
@@ -49,7 +54,12 @@ PlainSteps w (state g (frame c l (one m (goto x) t) ∷ fs)) Q = AtRest (w.jumps
 PlainSteps w (state g (frame c l (one m leave t) ∷ fs)) Q = Q (state g (frame c l done ∷ fs))
 PlainSteps w (state g (frame c l (one m (call q es) t) ∷ fs)) Q =
     AtRoutine (w.enters q) (λ routine.
-    Q (state g (frame q (fresh routine.places (values_of g l es)) routine.body ∷ frame c l t ∷ fs)))
+    Q (state g (frame q (fresh (frame_size routine) (values_of g l es)) routine.body ∷ frame c l t ∷ fs)))
+PlainSteps w (state g (frame c l (one m (leave_with e) t) ∷ fs)) Q =
+    Q (state g (frame c (with_result (w.enters c) l (value_of g l e)) done ∷ fs))
+PlainSteps w (state g (frame c l (one m (call_for x q es) t) ∷ fs)) Q =
+    AtRoutine (w.enters q) (λ routine.
+    Q (state g (frame q (fresh (frame_size routine) (values_of g l es)) routine.body ∷ waiting c l x t ∷ fs)))
 PlainSteps w (state g (frame c l (choose m r a b t) ∷ fs)) Q =
     (v : Bool) × IsValue g l r v × Q (state g (frame c l (cond v (join a t) (join b t)) ∷ fs))
 PlainSteps w (state g (frame c l (loop m r a t) ∷ fs)) Q =
@@ -83,11 +93,29 @@ at_routine : (o : Option Routine) (Q : Routine → Type 0)
 at_routine None Q = refl
 at_routine (Some r) Q = refl
 
+-- labels make no difference to results
+result_bare : (o : Option Routine) (l : List Bool) → result_of o l ≡ result_of (option_map bare_routine o) l
+result_bare None l = refl
+result_bare (Some r) l = refl
+
+with_result_bare : (o : Option Routine) (l : List Bool) (v : Bool) → with_result o l v ≡ with_result (option_map bare_routine o) l v
+with_result_bare None l v = refl
+with_result_bare (Some r) l v = refl
+
+bare_given : (v : Bool) (g : List Bool) (fs : List Frame) → bare_state (given_back v g fs) ≡ given_back v g (map bare_frame fs)
+bare_given v g [] = refl
+bare_given v g (frame c l t ∷ fs) = refl
+bare_given v g (waiting c l x t ∷ fs) = refl
+
 -- a step is a step of the plain machine
 pub plain_step : (p : Program) (s : State) (Q : State → Type 0)
     → StepsTo p s (λ u. Q (bare_state u)) ≡ PlainSteps (world_of p) (bare_state s) Q
 plain_step p (state g []) Q = refl
-plain_step p (state g (frame c l done ∷ fs)) Q = refl
+plain_step p (state g (waiting c l x t ∷ fs)) Q = refl
+plain_step p (state g (frame c l done ∷ fs)) Q =
+    ap Q
+    (bare_given (result_of (slice_get p.routines c) l) g fs
+    ∙ ap (λ v. given_back v g (map bare_frame fs)) (result_bare (slice_get p.routines c) l))
 plain_step p (state g (frame c l (one m skip t) ∷ fs)) Q = refl
 plain_step p (state g (frame c l (one m (assign xs rs) t) ∷ fs)) Q = refl
 plain_step p (state g (frame c l (one m (assert r) t) ∷ fs)) Q = refl
@@ -97,7 +125,12 @@ plain_step p (state g (frame c l (one m (goto x) t) ∷ fs)) Q =
 plain_step p (state g (frame c l (one m leave t) ∷ fs)) Q = refl
 plain_step p (state g (frame c l (one m (call q es) t) ∷ fs)) Q =
     at_routine (slice_get p.routines q)
-    (λ r. Q (state g (frame q (fresh r.places (values_of g l es)) r.body ∷ frame c l (bare t) ∷ map bare_frame fs)))
+    (λ r. Q (state g (frame q (fresh (frame_size r) (values_of g l es)) r.body ∷ frame c l (bare t) ∷ map bare_frame fs)))
+plain_step p (state g (frame c l (one m (leave_with e) t) ∷ fs)) Q =
+    ap (λ z. Q (state g (frame c z done ∷ map bare_frame fs))) (with_result_bare (slice_get p.routines c) l (value_of g l e))
+plain_step p (state g (frame c l (one m (call_for x q es) t) ∷ fs)) Q =
+    at_routine (slice_get p.routines q)
+    (λ r. Q (state g (frame q (fresh (frame_size r) (values_of g l es)) r.body ∷ waiting c l x (bare t) ∷ map bare_frame fs)))
 plain_step p (state g (frame c l (choose m r a b t) ∷ fs)) Q =
     λ i. (v : Bool) × IsValue g l r v × Q (state g (frame c l (bare-branch v a b t i) ∷ map bare_frame fs))
 plain_step p (state g (frame c l (loop m r a t) ∷ fs)) Q =

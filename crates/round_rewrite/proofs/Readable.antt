@@ -1,10 +1,11 @@
 -- The rewritten tree is one of the grammar where the source's tree is.
 use Rattle.std.proofs.Common.{◌≡◌, ℕ, zero, suc, ◌+◌, ◌<◌, ◌≤◌, true, false, cond, not, List, [], ◌∷◌, ◌++◌}
-use Rattle.std.proofs.Common.{length, map, codes, refl, sym, ◌∙◌, subst, arith}
+use Rattle.std.proofs.Common.{length, map, codes, Some, refl, sym, ◌∙◌, subst, arith}
 use Rattle.std.proofs.lemmas.List.{length-map}
 use Rattle.std.specs.List.{AllByRecursion}
 use Rattle.language.specs.Tree.{Name, Expression, const, var, negation, two, xor, RightSide, any, value, Simple, skip, assign, assert}
-use Rattle.language.specs.Tree.{assume, goto, leave, call, Mark, Block, done, one, choose, loop, Procedure, ThreadLine, Tree}
+use Rattle.language.specs.Tree.{assume, goto, leave, call, leave_with, call_for, Mark, Block, done, one, choose, loop, Procedure}
+use Rattle.language.specs.Tree.{ThreadLine, Tree}
 use Rattle.language.specs.Rest.{join}
 use Rattle.language.specs.Resolve.{is_declared}
 use Rattle.syntax.specs.Grammar.{IsSome}
@@ -15,7 +16,7 @@ use Rattle.resolved.specs.Statements.{variables_of, variables_of_side, variables
 use Rattle.resolved.proofs.Each.{each_left, each_right}
 use Rattle.round_rewrite.specs.Table.{numbers, plain, temporaries, in_round, expression, side, rounds, targets, sides, draws, drawing}
 use Rattle.round_rewrite.specs.Table.{stop_test, rise, prologue, statement, rewritten, guess, guesses, starts, check, checks, copied}
-use Rattle.round_rewrite.specs.Table.{globals}
+use Rattle.round_rewrite.specs.Table.{globals, takes, received}
 use Rattle.round_rewrite.specs.Names.{named, copy_name, save_name, drawn_name, names, rewritten_procedure, main_procedure, rewritten_tree}
 use Rattle.round_rewrite.specs.Narrow.{IsNarrow}
 use Rattle.round_rewrite.specs.Places.{global_count}
@@ -23,7 +24,7 @@ use Rattle.round_rewrite.specs.Writing.{procedure_needs, AreFew}
 use Rattle.round_rewrite.proofs.Resolved.{by_test, rest_room}
 use Rattle.round_rewrite.proofs.Widths.{narrow_procedures, few_needs}
 use Rattle.round_rewrite.proofs.Uses.{each_both, any_uses, written_each, drawn_each, sides_even, Held, at_uses, arguments_use, side_uses}
-use Rattle.round_rewrite.proofs.Uses.{targets_held, sides_use}
+use Rattle.round_rewrite.proofs.Uses.{targets_held, sides_use, expression_uses, receiver_held, landing_has}
 use Rattle.round_rewrite.proofs.Ids.{copy_id, save_id, drawn_id, high_id, low_id, stop_id, bad_id, main_id}
 use Rattle.resolved.specs.Limits.{most_places}
 use Rattle.round_rewrite.specs.Limits.{most_rounds}
@@ -220,6 +221,22 @@ module _ (own : List Name) (last d : ℕ) (small : last < most_rounds) (few : d 
       (tt, side_ids_used (side (names own) last r) (side_uses own last d IsId IsId held r (side_uses_ids r w)), h)
   statement_in_grammar m (goto l) b k w room h = (tt, w, h)
   statement_in_grammar m leave b k w room h = (tt, tt, h)
+  statement_in_grammar m (leave_with e) b k w room h =
+      (tt, ids_used (expression (names own) last e) (expression_uses own last d IsId IsId held e (uses_ids e w)), h)
+  statement_in_grammar m (call_for x q es) b k w room h =
+      let taken : takes (names own).is_shared (Some x) ≤ d = omega arith in (
+        tt,
+        (
+          receiver_held own last d IsId IsId held x w.0 taken,
+          w.1,
+          arguments_ids_used (map (expression (names own) last) es)
+              (arguments_use own last d IsId IsId held es (arguments_use_ids es w.2)),
+        ),
+        stop_test_in_grammar (cond ((names own).is_shared x) (received (names own) last x k) k)
+            (landing_has own last d IsId IsId held BlockInGrammar x k w.0 taken h
+            (λ xs rs some even hx hr.
+            prologue_in_grammar plain (one plain (assign xs rs) k) tt (tt, assign_in_grammar xs rs some even hx hr, h))),
+      )
   statement_in_grammar m (call q es) b k w room h = (
     tt,
     (

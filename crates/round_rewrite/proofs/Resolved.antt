@@ -1,15 +1,16 @@
 -- The rewritten block by names, resolved, is the rewritten block by places of the resolved block.
 use Rattle.std.proofs.Common.{◌≡◌, ℕ, zero, suc, ◌+◌, ◌/◌, ◌%◌, ◌<◌, ◌≤◌, max, Bool, true, false, cond, not}
-use Rattle.std.proofs.Common.{List, [], ◌∷◌, ◌++◌, length, map, codes, refl, sym, ◌∙◌, ap, subst, ap₂, arith}
+use Rattle.std.proofs.Common.{List, [], ◌∷◌, ◌++◌, Some, length, map, codes, refl, sym, ◌∙◌, ap, subst, ap₂, arith}
 use Rattle.std.proofs.lemmas.List.{map-append}
 use Rattle.language.specs.Tree.{Name, Expression, const, var, negation, two, or, and, xor, RightSide, any, value, Simple, skip, assign}
-use Rattle.language.specs.Tree.{assert, assume, goto, leave, call, Mark, Block, done, one, choose, loop, Tree}
+use Rattle.language.specs.Tree.{assert, assume, goto, leave, call, leave_with, call_for, Mark, Block, done, one, choose, loop, Tree}
 use Rattle.language.specs.Value.{Place, global, local}
-use Rattle.language.specs.Rest.{join}
+use Rattle.language.specs.Rest.{Label, join}
 use Rattle.language.specs.Resolve.{number_of, is_declared, Scope, place_of, resolve_expression, resolve_side, resolve_simple, resolve_mark}
 use Rattle.language.specs.Resolve.{resolve_block}
 use Rattle.round_rewrite.specs.Table.{Naming, numbers, plain, literal, in_round, joined, read, expression, side, written, rounds, targets}
-use Rattle.round_rewrite.specs.Table.{sides, draws, temporaries, drawing, stop_test, prologue, statement, rewritten, draws_of}
+use Rattle.round_rewrite.specs.Table.{sides, draws, takes, temporaries, drawing, stop_test, prologue, received, receiver, statement}
+use Rattle.round_rewrite.specs.Table.{rewritten, draws_of}
 use Rattle.round_rewrite.specs.Places.{places, is_global, copy_at, high_at, low_at, stop_at, bad_at}
 use Rattle.round_rewrite.specs.Names.{named, copy_name, drawn_name, names}
 use Rattle.scopes.specs.Rewritable.{Declared, AllDeclared, ExpressionDeclared, ExpressionsDeclared, SideDeclared, SidesDeclared}
@@ -17,8 +18,6 @@ use Rattle.scopes.specs.Rewritable.{SimpleDeclared, BlockDeclared, AreFree}
 use Rattle.round_rewrite.proofs.Placing.{Vocabulary, scope, wider, copy_place, kept_place, drawn_place, high_place, low_bit_place}
 use Rattle.round_rewrite.proofs.Placing.{stop_place, bad_place}
 use Rattle.language.specs.Parts as parts
-use Rattle.language.specs.Parts.{targets_of, sides_of}
-use Rattle.resolved.proofs.Parts.{parts_resolve}
 use Rattle.resolved.specs.Limits.{most_places}
 use Rattle.round_rewrite.specs.Limits.{most_rounds}
 
@@ -227,9 +226,15 @@ module _ (t : Tree) (vocabulary : Vocabulary) (ps' : List Name)
 
   draws_of_resolved : (c : Simple Name Name Name)
       → draws_of N.is_shared (parts.plain c) ≡ draws_of is_global (parts.plain (resolve_simple s c))
-  draws_of_resolved c =
-      let resolved = parts_resolve s c in
-      draws_resolved (targets_of (parts.plain c)) (sides_of (parts.plain c)) ∙ sym (ap₂ (draws is_global) resolved.targets resolved.sides)
+  draws_of_resolved skip = refl
+  draws_of_resolved (assign xs rs) = ap (max 0) (draws_resolved xs rs)
+  draws_of_resolved (assert r) = refl
+  draws_of_resolved (assume r) = refl
+  draws_of_resolved (goto l) = refl
+  draws_of_resolved leave = refl
+  draws_of_resolved (call q es) = refl
+  draws_of_resolved (leave_with e) = refl
+  draws_of_resolved (call_for x q es) = ap (λ c. max (cond c 1 0) 0) (shared_is x)
 
   pub temporaries_resolved : (b : Block Name Name Name) → temporaries N.is_shared b ≡ temporaries is_global (resolve_block s b)
   temporaries_resolved done = refl
@@ -265,12 +270,49 @@ module _ (t : Tree) (vocabulary : Vocabulary) (ps' : List Name)
       (choose plain any (one plain (assign (st i ∷ []) (value (const true) ∷ [])) done) (one plain skip done)
       (choose plain (value (var (st i))) (one plain leave done) (one plain skip done) (resolve_block s' k)))
 
+  received_resolved : (x : Name) → Declared s x → is_declared x.text own ≡ false → 1 ≤ d → (k : Block Name Name Name)
+      → resolve_block s' (received N last x k) ≡ received P last (place_of s x) (resolve_block s' k)
+  received_resolved x h hidden room k =
+      prologue_resolved plain
+      (one plain (assign (map (λ k. copy_name k x) (rounds N last)) (map (written N last (var (drawn_name 0)) x) (rounds N last))) k)
+      ∙ (λ i.
+      prologue P last plain
+      (one plain
+      (assign (copies_resolved x h hidden 0 (suc last) (omega arith) i)
+      (written_resolved x h hidden (var (drawn_name 0)) (var (local (length own + 0))) (drawn_resolved 0 (omega arith)) 0 (suc last)
+      (omega arith) i))
+      (resolve_block s' k)))
+
+  -- a global that waits for a value takes a temporary
+  shared_room : (x : Name) → is_declared x.text own ≡ false → takes N.is_shared (Some x) ≤ d → 1 ≤ d
+  shared_room x e room = subst (λ c. cond (not c) 1 0 ≤ d) e room
+
+  receiver_resolved : (x : Name) → takes N.is_shared (Some x) ≤ d
+      → place_of s' (receiver N last x) ≡ receiver P last (place_of s x)
+  receiver_resolved x room = by_test (is_declared x.text own)
+      (λ e. ap (λ c. place_of s' (cond (not c) (drawn_name 0) x)) e
+      ∙ (kept_place vocabulary ps' x e ∙ (own_place x e ∙ sym (ap (receiver P last) (own_place x e)))))
+      (λ e. ap (λ c. place_of s' (cond (not c) (drawn_name 0) x)) e
+      ∙ (drawn_place vocabulary ps' 0 (let k : 1 ≤ d = shared_room x e room in omega arith)
+      ∙ sym (ap (receiver P last) (shared_place x e))))
+
+  landing_resolved : (x : Name) → Declared s x → takes N.is_shared (Some x) ≤ d → (k : Block Name Name Name)
+      → resolve_block s' (cond (N.is_shared x) (received N last x k) k)
+      ≡ cond (is_global (place_of s x)) (received P last (place_of s x) (resolve_block s' k)) (resolve_block s' k)
+  landing_resolved x h room k =
+      let there : Bool → Block Place ℕ Label =
+      λ c. cond c (received P last (place_of s x) (resolve_block s' k)) (resolve_block s' k) in
+      by_test (is_declared x.text own)
+      (λ e. ap (λ c. resolve_block s' (cond (not c) (received N last x k) k)) e ∙ sym (ap there (ap is_global (own_place x e))))
+      (λ e. ap (λ c. resolve_block s' (cond (not c) (received N last x k) k)) e
+      ∙ (received_resolved x h e (shared_room x e room) k ∙ sym (ap there (ap is_global (shared_place x e)))))
+
   statement_resolved : (c : Simple Name Name Name) (k : Block Name Name Name) → SimpleDeclared t s c
       → draws_of N.is_shared (parts.plain c) ≤ d
       → resolve_block s' (statement N last c k) ≡ statement P last (resolve_simple s c) (resolve_block s' k)
   statement_resolved skip k h room = refl
   statement_resolved (assign xs rs) k h room =
-      let few_draws : draws N.is_shared xs rs ≤ d = room in
+      let few_draws : draws N.is_shared xs rs ≤ d = omega arith in
       drawing_resolved (draws N.is_shared xs rs) (one plain (assign (targets N last xs rs) (sides N last 0 xs rs)) k) few_draws
       ∙ (λ i.
       drawing P last (draws_resolved xs rs i)
@@ -284,6 +326,14 @@ module _ (t : Tree) (vocabulary : Vocabulary) (ps' : List Name)
   statement_resolved leave k h room = refl
   statement_resolved (call q es) k h room =
       λ i. one plain (call (called q h.callee.0 i) (expressions_resolved es h.arguments i)) (stop_resolved k i)
+  statement_resolved (leave_with e) k h room =
+      λ i. one plain (leave_with (expression_resolved e h.arguments.0 i)) (resolve_block s' k)
+  statement_resolved (call_for x q es) k h room =
+      let one_taken : takes N.is_shared (Some x) ≤ d = omega arith in
+      λ i.
+      one plain (call_for (receiver_resolved x one_taken i) (called q h.callee.0 i) (expressions_resolved es h.arguments i))
+      ((stop_resolved (cond (N.is_shared x) (received N last x k) k)
+      ∙ ap (stop_test P last) (landing_resolved x h.targets.0 one_taken k)) i)
 
   drawn_room : (m : Mark Name) (c : Simple Name Name Name) (k : Block Name Name Name) → temporaries N.is_shared (one m c k) ≤ d
       → draws_of N.is_shared (parts.plain c) ≤ d

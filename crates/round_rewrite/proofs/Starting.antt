@@ -4,7 +4,7 @@ use Rattle.std.proofs.Common.{Some, None, option_map, slice_get, refl, sym, ◌�
 use Rattle.language.specs.Tree.{RightSide, value, const, assign, call, one}
 use Rattle.language.specs.Value.{Place, global, with_bit, AreValues, written_globals, written_locals}
 use Rattle.language.specs.Rest.{Code}
-use Rattle.language.specs.Step.{Routine, Program, Frame, frame, State, state, zeros, fresh, AtRoutine}
+use Rattle.language.specs.Step.{Routine, Program, Frame, frame, State, state, zeros, fresh, frame_size, AtRoutine}
 use Rattle.language.specs.Rounds.{starting_stack}
 use Rattle.round_rewrite.specs.Table.{Naming, plain, temporaries, starts}
 use Rattle.round_rewrite.specs.Places.{places, is_global, high_at, low_at, stop_at}
@@ -12,11 +12,11 @@ use Rattle.resolved.specs.Scoped.{EachThread}
 use Rattle.round_rewrite.proofs.Laid.{Long, AreRows, bits_of, lay, Shape, bits_with}
 use Rattle.round_rewrite.proofs.Plain.{PlainAfter}
 use Rattle.round_rewrite.proofs.Leading.{Leads}
-use Rattle.round_rewrite.proofs.Frames.{entered, source, AllGood, put_rest, put_routine, stack, Setting, fresh_more}
+use Rattle.round_rewrite.proofs.Frames.{entered, results, source, GoodStack, put_rest, put_routine, stack, Setting, source_fresh, put_fresh}
 use Rattle.round_rewrite.proofs.Forward.{call_good}
 use Rattle.round_rewrite.proofs.Turns.{Turns, FailTurns}
 use Rattle.round_rewrite.proofs.Compose.{Threads, FailThreads, run_keeps, fail_is_turns}
-use Rattle.round_rewrite.proofs.ThreadBack.{Seat, moment, Ends, thread_back}
+use Rattle.round_rewrite.proofs.ThreadBack.{Seat, moment, level, Ends, thread_back}
 use Rattle.round_rewrite.proofs.ThreadOn.{turns_on, fails_on}
 use Rattle.round_rewrite.proofs.Guessing.{Bad, bad_single, unstep_main, main_at}
 
@@ -58,7 +58,7 @@ fails_keep p n G (s ∷ ss) H long (inr (K, s', ts, more)) =
 -- the frame that a thread starts with
 abbrev first_frame : ℕ → Option Routine → List Frame
 first_frame c None = []
-first_frame c (Some r) = frame c (zeros r.places) r.body ∷ []
+first_frame c (Some r) = frame c (zeros (frame_size r)) r.body ∷ []
 
 -- a procedure that is there
 there_is : (o : Option Routine) → AtRoutine o (λ r. Unit {0}) → (r : Routine) × (o ≡ Some r)
@@ -72,14 +72,15 @@ module _ (setting : Setting) (S : List (List Bool)) (saves : AreRows setting.p.g
   naming = places p.globals last 0
 
   -- a new thread's frame fits
-  starter_good : (c : ℕ) (r : Routine) → slice_get p.routines c ≡ Some r → AllGood p last (entered c r [] ∷ [])
-  starter_good c r e = (call_good p last c r [] fits e (omega arith), tt)
+  starter_good : (c : ℕ) (r : Routine) → slice_get p.routines c ≡ Some r → GoodStack p last (entered c r [] ∷ [])
+  starter_good c r e = (refl, call_good p last c r [] fits e (omega arith), tt)
 
   -- a new thread's frame is that of the source
   starter_is : (c : ℕ) (r : Routine) → slice_get p.routines c ≡ Some r
       → map source (entered c r [] ∷ []) ≡ starting_stack p.routines c
   starter_is c r e =
-      let f : fresh r.places [] ≡ zeros r.places = ap zeros (let z : r.places - 0 ≡ r.places = omega arith in z) in
+      let f : fresh r.places [] ++ zeros (results r) ≡ zeros (frame_size r) =
+      sym (source_fresh r [] (omega arith)) ∙ ap zeros (let z : frame_size r - 0 ≡ frame_size r = omega arith in z) in
       ap (λ l. frame c l r.body ∷ []) f ∙ sym (ap (first_frame c) e)
 
   -- a thread starts in the first row
@@ -130,24 +131,24 @@ module _ (setting : Setting) (S : List (List Bool)) (saves : AreRows setting.p.g
 
   -- a new rewritten frame's values
   fresh_now : (r : Routine)
-      → fresh (r.places + temporaries is_global r.body) [] ≡ fresh r.places [] ++ zeros (temporaries is_global r.body)
-  fresh_now r = fresh_more r.places (temporaries is_global r.body) [] (omega arith)
+      → fresh (frame_size (put_routine p last r)) [] ≡ fresh r.places [] ++ zeros (temporaries is_global r.body + results r)
+  fresh_now r = put_fresh p last r [] (omega arith)
 
   module _ (Q : State → Type 0) (t : Code) where
     -- the start of one thread
     start_leads : (G : List (List Bool)) → Shape p.globals last G S → (q : ℕ) (s b : Bool) (c : ℕ) (r : Routine)
         → slice_get p.routines c ≡ Some r
-        → Leads w (state (lay G S (bits_of 0 false b)) (stack p last (entered c r [] ∷ []) (frame 0 [] t))) Q
+        → Leads w (state (lay G S (bits_of 0 false b)) (stack p last (entered c r [] ∷ []) t)) Q
         → Leads w (main_at (lay G S (bits_of q s b)) (one plain (assign zero_targets zero_sides) (one plain (call (suc c) []) t))) Q
     start_leads G shape q s b c r e (k, h) =
         let Y : List Bool = lay G S (bits_of 0 false b) in
         let h1 : PlainAfter w k
         (state Y
-        (frame (suc c) (fresh (r.places + temporaries is_global r.body) []) (put_rest p last r.places r.body) ∷ frame 0 [] t ∷ [])) Q =
+        (frame (suc c) (fresh (frame_size (put_routine p last r)) []) (put_rest p last r.places r.body) ∷ frame 0 [] t ∷ [])) Q =
         subst (λ l. PlainAfter w k (state Y (frame (suc c) l (put_rest p last r.places r.body) ∷ frame 0 [] t ∷ [])) Q)
         (sym (fresh_now r)) h in
         let h2 : PlainAfter w (suc k) (main_at Y (one plain (call (suc c) []) t)) Q =
-        subst (λ o. AtRoutine o (λ z. PlainAfter w k (state Y (frame (suc c) (fresh z.places []) z.body ∷ frame 0 [] t ∷ [])) Q))
+        subst (λ o. AtRoutine o (λ z. PlainAfter w k (state Y (frame (suc c) (fresh (frame_size z) []) z.body ∷ frame 0 [] t ∷ [])) Q))
         (sym (enters_now c r e)) h1 in (
           suc (suc k),
           (
@@ -174,7 +175,7 @@ module _ (setting : Setting) (S : List (List Bool)) (saves : AreRows setting.p.g
         let after : Code = starts naming last T t in
         let k = turns_keep p p.globals (g ∷ G) (starting_stack p.routines c) (x ∷ H) s' are.0 ts in
         start_leads Q after (g ∷ G) (moment seat b).shape q s b c r e
-        (turns_on setting S (frame 0 [] after) Q b G seat 0 (omega arith) (entered c r [] ∷ []) (starter_good c r e) x H s'
+        (turns_on setting S after Q b G seat 0 (omega arith) (entered c r [] ∷ []) (starter_good c r e) x H s'
         (subst (λ y. Turns p (g ∷ G) y (x ∷ H) s') (sym (starter_is c r e)) ts)
         (starts_lead T there.1 (x ∷ H) (k.0, k.1 ∙ are.1) G' ss' more b out))
 
@@ -193,7 +194,7 @@ module _ (setting : Setting) (S : List (List Bool)) (saves : AreRows setting.p.g
         let (s', ts) = fail_is_turns p (g ∷ G) (starting_stack p.routines c) (x ∷ H) ft in
         let k = turns_keep p p.globals (g ∷ G) (starting_stack p.routines c) (x ∷ H) s' are.0 ts in
         start_leads Q after (g ∷ G) (moment seat b).shape q s b c r e
-        (fails_on setting S (frame 0 [] after) Q b G seat 0 (omega arith) (entered c r [] ∷ []) (starter_good c r e) x H
+        (fails_on setting S after Q b G seat 0 (omega arith) (entered c r [] ∷ []) (starter_good c r e) x H
         (subst (λ y. FailTurns p (g ∷ G) y (x ∷ H)) (sym (starter_is c r e)) ft)
         (starts_lead T there.1 (x ∷ H) (k.0, k.1 ∙ are.1) G' ss' more true out))
     fails_lead (c ∷ T) there (g ∷ G) are G' (inr ([], s', ts, more)) out b q s = absurd ts
@@ -203,7 +204,7 @@ module _ (setting : Setting) (S : List (List Bool)) (saves : AreRows setting.p.g
         let after : Code = starts naming last T t in
         let k = turns_keep p p.globals (g ∷ G) (starting_stack p.routines c) (x ∷ H) s' are.0 ts in
         start_leads Q after (g ∷ G) (moment seat b).shape q s b c r e
-        (turns_on setting S (frame 0 [] after) Q b G seat 0 (omega arith) (entered c r [] ∷ []) (starter_good c r e) x H s'
+        (turns_on setting S after Q b G seat 0 (omega arith) (entered c r [] ∷ []) (starter_good c r e) x H s'
         (subst (λ y. Turns p (g ∷ G) y (x ∷ H) s') (sym (starter_is c r e)) ts)
         (fails_lead T there.1 (x ∷ H) (k.0, k.1 ∙ are.1) G' more out b))
 
@@ -213,7 +214,7 @@ module _ (setting : Setting) (S : List (List Bool)) (saves : AreRows setting.p.g
       → PlainAfter w N (main_at (lay G S (bits_of q s b)) (one plain (assign zero_targets zero_sides) (one plain (call (suc c) []) t)))
       (Bad p.globals last)
       → (M : ℕ)
-      × PlainAfter w M (state (lay G S (bits_of 0 false b)) (stack p last (entered c r [] ∷ []) (frame 0 [] t))) (Bad p.globals last)
+      × PlainAfter w M (state (lay G S (bits_of 0 false b)) (stack p last (entered c r [] ∷ []) t)) (Bad p.globals last)
   start_back G shape q s b c r e t N h =
       let n : ℕ = p.globals in
       let X : List Bool = lay G S (bits_of q s b) in
@@ -232,11 +233,11 @@ module _ (setting : Setting) (S : List (List Bool)) (saves : AreRows setting.p.g
       let (M2, e2, h4) = unstep_main w n last M1 Y [] plain (call (suc c) []) t h3 in
       let h5 : PlainAfter w M2
       (state Y
-      (frame (suc c) (fresh (r.places + temporaries is_global r.body) []) (put_rest p last r.places r.body) ∷ frame 0 [] t ∷ []))
+      (frame (suc c) (fresh (frame_size (put_routine p last r)) []) (put_rest p last r.places r.body) ∷ frame 0 [] t ∷ []))
       (Bad n last) =
       subst
       (λ o.
-      AtRoutine o (λ z. PlainAfter w M2 (state Y (frame (suc c) (fresh z.places []) z.body ∷ frame 0 [] t ∷ [])) (Bad n last)))
+      AtRoutine o (λ z. PlainAfter w M2 (state Y (frame (suc c) (fresh (frame_size z) []) z.body ∷ frame 0 [] t ∷ [])) (Bad n last)))
       (enters_now c r e) h4 in (
         M2,
         subst (λ l. PlainAfter w M2 (state Y (frame (suc c) l (put_rest p last r.places r.body) ∷ frame 0 [] t ∷ [])) (Bad n last))
@@ -292,14 +293,14 @@ module _ (setting : Setting) (S : List (List Bool)) (saves : AreRows setting.p.g
         (main_at (lay (g ∷ G) S (bits_of q s b)) (one plain (assign zero_targets zero_sides) (one plain (call (suc c) []) t)))
         (Bad p.globals last)
         → (f : ℕ)
-        × Ends setting S (frame 0 [] t) (Bad p.globals last) (bad_single p.globals last) f G (first_seat g G are) b
+        × Ends setting S t (Bad p.globals last) (bad_single p.globals last) f G (first_seat g G are) b
         (map source (entered c r [] ∷ []))
     one_ran c r e g G are q s b N h =
         let seat : Seat p.globals last S G = first_seat g G are in
         let (M, h1) = start_back (g ∷ G) (moment seat b).shape q s b c r e t N h in (
           M,
-          thread_back setting S (frame 0 [] t) (Bad p.globals last) (bad_single p.globals last) (suc M) M (omega arith) G seat b
-              (entered c r [] ∷ []) (starter_good c r e) h1,
+          thread_back setting S t (Bad p.globals last) (bad_single p.globals last) (suc M) M (omega arith) G seat b
+              (level (entered c r [] ∷ [])) (starter_good c r e) h1,
         )
 
   -- a run through the starts of all threads

@@ -1,9 +1,9 @@
 -- The rewriting theorem over places.
-use Rattle.std.proofs.Common.{◌≡◌, ℕ, suc, ◌<◌, Bool, true, List, [], ◌∷◌, None, refl, sym, subst, inl, inr}
+use Rattle.std.proofs.Common.{◌≡◌, ℕ, suc, ◌<◌, Bool, true, false, List, [], ◌∷◌, None, refl, sym, subst, inl, inr}
 use Rattle.language.specs.Tree.{done, one, choose, loop}
 use Rattle.language.specs.Value.{bit}
 use Rattle.language.specs.Rest.{Code}
-use Rattle.language.specs.Step.{Program, frame, State, state, zeros, AfterSteps, Runs}
+use Rattle.language.specs.Step.{Program, frame, waiting, State, state, zeros, AfterSteps, Runs}
 use Rattle.language.specs.Rounds.{Unsafe}
 use Rattle.language.specs.Sequential.{numbered, in_text_order, Valuation, point_of, Entered, SomeBad}
 use Rattle.round_rewrite.specs.Table.{main}
@@ -33,11 +33,13 @@ module _ (p : Program) (last : ℕ) (fits : FitsScopes p) (small : last < most_r
   to_pair : (n : ℕ) (u : State) → AfterSteps result n start (λ v. v ≡ u) → Bad p.globals last (bare_state u) →
       SomeBad result (bad_at p.globals last)
   to_pair n (state g []) run h = absurd h
+  to_pair n (state g (waiting c l x t ∷ fs)) run h = absurd h
   to_pair n (state g (frame c l done ∷ [])) run h = (
     zero_valuation,
-    record { globals = g },
+    record { globals = g; result = false },
     (
       l,
+      refl,
       (
         inl (refl, refl),
         (
@@ -90,7 +92,7 @@ module _ (p : Program) (last : ℕ) (fits : FitsScopes p) (small : last < most_r
   from_entry a b l rest e (inr (c, asks)) run bad = absurd (never_asked last p c a asks)
 
   pub bad_unsafe : SomeBad result (bad_at p.globals last) → Unsafe p (suc last)
-  bad_unsafe (a, b, (l, (entered, (rest, e, run))), bad) = from_entry a b.globals l rest e entered run bad
+  bad_unsafe (a, b, (l, none, (entered, (rest, e, run))), bad) = from_entry a b.globals l rest e entered run bad
 
 -- the theorem
 pub keeps : (p : Program) (last : ℕ) → FitsScopes p → last < most_rounds → KeepsFailures (suc last) p

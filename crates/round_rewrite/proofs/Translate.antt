@@ -101,23 +101,26 @@ module _ {n last : ℕ} (small : last < most_rounds) (now : Moment n last) (own 
         ∙ or_false _
   ]
 
-  -- a rewritten read is the read of the round's copy; locals stand before the temporaries
-  pub expression_is : (l tmp : List Bool) → L ≡ l ++ tmp → length l ≡ own → (e : Expression Place) → InScope n own e
-      → value_of globals_now L (expression (places n last own) last e) ≡ value_of (row C q) l e
-  expression_is l tmp eL el (const c) h = refl
-  expression_is l tmp eL el (var (global i)) h = from last i (omega arith) h within
-  expression_is l tmp eL el (var (local i)) h = ap (λ z. bit z i) eL ∙ get_or_append_left l tmp false i (omega arith)
-  expression_is l tmp eL el (negation e) h = ap not (expression_is l tmp eL el e h)
-  expression_is l tmp eL el (two o x y) h = ap₂ (operate o) (expression_is l tmp eL el x h.0) (expression_is l tmp eL el y h.1)
+  -- a rewritten read is the read of the round's copy: the frame's own places come first in both
+  pub expression_is : (l tmp more : List Bool) → L ≡ l ++ tmp → length l ≡ own → (e : Expression Place) → InScope n own e
+      → value_of globals_now L (expression (places n last own) last e) ≡ value_of (row C q) (l ++ more) e
+  expression_is l tmp more eL el (const c) h = refl
+  expression_is l tmp more eL el (var (global i)) h = from last i (omega arith) h within
+  expression_is l tmp more eL el (var (local i)) h =
+      ap (λ z. bit z i) eL
+      ∙ (get_or_append_left l tmp false i (omega arith) ∙ sym (get_or_append_left l more false i (omega arith)))
+  expression_is l tmp more eL el (negation e) h = ap not (expression_is l tmp more eL el e h)
+  expression_is l tmp more eL el (two o x y) h =
+      ap₂ (operate o) (expression_is l tmp more eL el x h.0) (expression_is l tmp more eL el y h.1)
 
-  pub expressions_are : (l tmp : List Bool) → L ≡ l ++ tmp → length l ≡ own → (es : List (Expression Place))
+  pub expressions_are : (l tmp more : List Bool) → L ≡ l ++ tmp → length l ≡ own → (es : List (Expression Place))
       → AreInScope n own es
-      → values_of globals_now L (map (expression (places n last own) last) es) ≡ values_of (row C q) l es
-  expressions_are l tmp eL el [] h = refl
-  expressions_are l tmp eL el (e ∷ es) h =
-      ap₂ (λ x xs. x ∷ xs) (expression_is l tmp eL el e h.0) (expressions_are l tmp eL el es h.1)
+      → values_of globals_now L (map (expression (places n last own) last) es) ≡ values_of (row C q) (l ++ more) es
+  expressions_are l tmp more eL el [] h = refl
+  expressions_are l tmp more eL el (e ∷ es) h =
+      ap₂ (λ x xs. x ∷ xs) (expression_is l tmp more eL el e h.0) (expressions_are l tmp more eL el es h.1)
 
-  pub side_is : (l tmp : List Bool) → L ≡ l ++ tmp → length l ≡ own → (r : RightSide Place) → SideInScope n own r → (v : Bool)
-      → IsValue globals_now L (side (places n last own) last r) v ≡ IsValue (row C q) l r v
-  side_is l tmp eL el any h v = refl
-  side_is l tmp eL el (value e) h v = ap (λ z. v ≡ z) (expression_is l tmp eL el e h)
+  pub side_is : (l tmp more : List Bool) → L ≡ l ++ tmp → length l ≡ own → (r : RightSide Place) → SideInScope n own r → (v : Bool)
+      → IsValue globals_now L (side (places n last own) last r) v ≡ IsValue (row C q) (l ++ more) r v
+  side_is l tmp more eL el any h v = refl
+  side_is l tmp more eL el (value e) h v = ap (λ z. v ≡ z) (expression_is l tmp more eL el e h)

@@ -1,13 +1,15 @@
 -- Nobody calls the first procedure of a rewritten program, so it is entered once, with every value 0.
 use Rattle.std.proofs.Common.{◌≡◌, ℕ, zero, suc, ◌+◌, Bool, true, false, cond, List, [], ◌∷◌, map, Option, Some, None}
 use Rattle.std.proofs.Common.{slice_get, refl, sym, ◌∙◌, subst}
-use Rattle.language.specs.Tree.{RightSide, Simple, skip, assign, assert, assume, goto, leave, call, Mark, done, one, choose, loop}
+use Rattle.language.specs.Tree.{var, RightSide, Simple, skip, assign, assert, assume, goto, leave, call, leave_with, call_for, Mark, done}
+use Rattle.language.specs.Tree.{one, choose, loop}
 use Rattle.language.specs.Value.{Place, values_of}
 use Rattle.language.specs.Rest.{Label, Code, join, rest_from}
-use Rattle.language.specs.Step.{Routine, Program, Frame, frame, State, state, fresh, AtRoutine, AtRest, body_of, StepsTo, AfterSteps}
+use Rattle.language.specs.Step.{Routine, Program, Frame, frame, waiting, State, state, fresh, frame_size, result_of, given_back, AtRoutine}
+use Rattle.language.specs.Step.{AtRest, body_of, StepsTo, AfterSteps}
 use Rattle.language.specs.Sequential.{statements, numbered, numbered_routine, in_text_order, Valuation, Calls, Asks}
 use Rattle.round_rewrite.specs.Table.{Naming, numbers, plain, side, draws, drawing, statement, prologue, rewritten, guess, guesses, starts}
-use Rattle.round_rewrite.specs.Table.{check, checks, main}
+use Rattle.round_rewrite.specs.Table.{check, checks, main, received, rounds, written}
 use Rattle.round_rewrite.specs.Places.{places, all_globals, rewritten_routine, main_routine, rewritten_program}
 use Rattle.resolved.specs.Scoped.{Throughout}
 use Rattle.round_rewrite.proofs.Frames.{throughout-join, throughout-rest, IfThere}
@@ -22,6 +24,8 @@ Elsewhere (assume r) = Unit {0}
 Elsewhere (goto x) = Unit {0}
 Elsewhere leave = Unit {0}
 Elsewhere (call q es) = (k : ℕ) × (q ≡ suc k)
+Elsewhere (leave_with e) = Unit {0}
+Elsewhere (call_for x q es) = (k : ℕ) × (q ≡ suc k)
 
 abbrev Any : RightSide Place → Type 0
 Any r = Unit {0}
@@ -32,6 +36,7 @@ Away b = Throughout Elsewhere Any b
 abbrev AllAway : List Frame → Type 0
 AllAway [] = Unit {0}
 AllAway (frame c l rest ∷ fs) = Away rest × AllAway fs
+AllAway (waiting c l x rest ∷ fs) = Away rest × AllAway fs
 
 abbrev StateAway : State → Type 0
 StateAway (state g fs) = AllAway fs
@@ -55,6 +60,18 @@ module _ (n last own : ℕ) where
   away-drawing zero t h = h
   away-drawing (suc d) t h = (tt, h)
 
+  away-prologue : (m : Mark Label) (t : Code) → Away t → Away (prologue w last m t)
+  away-prologue m t h = (tt, (tt, (tt, tt)), (tt, (tt, tt), (tt, tt), (tt, (tt, tt), (tt, tt), h)))
+
+  away-received : (x : Place) (t : Code) → Away t → Away (received w last x t)
+  away-received x t h =
+      away-prologue plain
+      (one plain (assign (map (λ k. w.copy k x) (rounds w last)) (map (written w last (var (w.drawn 0)) x) (rounds w last))) t) (tt, h)
+
+  away-cond : (c : Bool) (a b : Code) → Away a → Away b → Away (cond c a b)
+  away-cond true a b ha hb = ha
+  away-cond false a b ha hb = hb
+
   away-statement : (s : Simple Place ℕ Label) (t : Code) → Away t → Away (statement w last s t)
   away-statement skip t h = (tt, h)
   away-statement (assign xs rs) t h =
@@ -66,9 +83,11 @@ module _ (n last own : ℕ) where
   away-statement (goto x) t h = (tt, h)
   away-statement leave t h = (tt, h)
   away-statement (call q es) t h = ((q, refl), (tt, (tt, tt), (tt, tt), h))
-
-  away-prologue : (m : Mark Label) (t : Code) → Away t → Away (prologue w last m t)
-  away-prologue m t h = (tt, (tt, (tt, tt)), (tt, (tt, tt), (tt, tt), (tt, (tt, tt), (tt, tt), h)))
+  away-statement (leave_with e) t h = (tt, h)
+  away-statement (call_for x q es) t h = (
+    (q, refl),
+    (tt, (tt, tt), (tt, tt), away-cond (w.is_shared x) (received w last x t) t (away-received x t h) h),
+  )
 
   away-rewritten : (b : Code) → Away (rewritten w last b)
   away-rewritten done = tt
@@ -139,9 +158,16 @@ module _ (p : Program) (bodies : (c : ℕ) → RoutineAway (slice_get p.routines
   away-again true m r a t ha ht = throughout-join Elsewhere Any a (loop m r a t) ha (tt, ha, ht)
   away-again false m r a t ha ht = ht
 
+  given_away : (v : Bool) (g : List Bool) (fs : List Frame) → AllAway fs → StateAway (given_back v g fs)
+  given_away v g [] h = tt
+  given_away v g (frame c l t ∷ fs) h = h
+  given_away v g (waiting c l x t ∷ fs) h = h
+
   step_away : (s : State) (P : State → Type 0) → StateAway s → StepsTo p s P → (u : State) × P u × StateAway u
   step_away (state g []) P h a = absurd a
-  step_away (state g (frame c l done ∷ fs)) P h a = (_, a, h.1)
+  step_away (state g (waiting c l x t ∷ fs)) P h a = absurd a
+  step_away (state g (frame c l done ∷ fs)) P h a =
+      (_, a, given_away (result_of (slice_get p.routines c) l) g fs h.1)
   step_away (state g (frame c l (one m skip t) ∷ fs)) P h a = (_, a, (h.0.1, h.1))
   step_away (state g (frame c l (one m (assign xs rs) t) ∷ fs)) P h a = (_, a.2, (h.0.1, h.1))
   step_away (state g (frame c l (one m (assert r) t) ∷ fs)) P h a = (_, a.1, (h.0.1, h.1))
@@ -152,7 +178,12 @@ module _ (p : Program) (bodies : (c : ℕ) → RoutineAway (slice_get p.routines
       (λ u hu. (hu, h.1)) a
   step_away (state g (frame c l (one m leave t) ∷ fs)) P h a = (_, a, (tt, h.1))
   step_away (state g (frame c l (one m (call q es) t) ∷ fs)) P h a =
-      routine_away (slice_get p.routines q) (λ r. state g (frame q (fresh r.places (values_of g l es)) r.body ∷ frame c l t ∷ fs)) P
+      routine_away (slice_get p.routines q) (λ r. state g (frame q (fresh (frame_size r) (values_of g l es)) r.body ∷ frame c l t ∷ fs)) P
+      (bodies q) (λ r hr. (hr, (h.0.1, h.1))) a
+  step_away (state g (frame c l (one m (leave_with e) t) ∷ fs)) P h a = (_, a, (tt, h.1))
+  step_away (state g (frame c l (one m (call_for x q es) t) ∷ fs)) P h a =
+      routine_away (slice_get p.routines q)
+      (λ r. state g (frame q (fresh (frame_size r) (values_of g l es)) r.body ∷ waiting c l x t ∷ fs)) P
       (bodies q) (λ r hr. (hr, (h.0.1, h.1))) a
   step_away (state g (frame c l (choose m r x y t) ∷ fs)) P h (v, is, a) = (_, a, (away-branch v x y t h.0.1 h.0.2 h.0.3, h.1))
   step_away (state g (frame c l (loop m r x t) ∷ fs)) P h (v, is, a) = (_, a, (away-again v m r x t h.0.1 h.0.2, h.1))
@@ -187,5 +218,7 @@ never_asked last p c a (g, l, rest, fs, (n, run), calls) =
     no_call g l (one m (goto x) t) h k = k
     no_call g l (one m leave t) h k = k
     no_call g l (one m (call q es) t) h k = let e : suc h.0.0 ≡ 0 = sym h.0.1 ∙ k.0 in cc
+    no_call g l (one m (leave_with e) t) h k = k
+    no_call g l (one m (call_for x q es) t) h k = let e : suc h.0.0 ≡ 0 = sym h.0.1 ∙ k.0 in cc
     no_call g l (choose m r x y t) h k = k
     no_call g l (loop m r x t) h k = k

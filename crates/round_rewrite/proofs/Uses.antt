@@ -1,15 +1,15 @@
 -- Which variables the parts of the rewritten statements use, where D is to hold of each of them and S holds of those of
 -- the source.
 use Rattle.std.proofs.Common.{◌≡◌, ℕ, zero, suc, ◌+◌, ◌/◌, ◌%◌, ◌≤◌, ◌<◌, true, false, cond, not, List, []}
-use Rattle.std.proofs.Common.{◌∷◌, ◌++◌, length, map, codes, refl, sym, ◌∙◌, ap, subst, ap₂, arith, length-append}
+use Rattle.std.proofs.Common.{◌∷◌, ◌++◌, Some, length, map, codes, refl, sym, ◌∙◌, ap, subst, ap₂, arith, length-append}
 use Rattle.std.proofs.lemmas.List.{length-map}
-use Rattle.language.specs.Tree.{Name, Expression, const, var, negation, two, RightSide, any, value}
+use Rattle.language.specs.Tree.{Name, Expression, const, var, negation, two, RightSide, any, value, assign, Block, one}
 use Rattle.language.specs.Resolve.{is_declared}
 use Rattle.resolved.specs.Resolves.{Each}
 use Rattle.resolved.specs.Statements.{variables_of, variables_of_side, variables_of_sides, variables_of_all}
 use Rattle.resolved.proofs.Each.{each_left, each_right}
 use Rattle.round_rewrite.specs.Table.{Naming, numbers, literal, in_round, joined, read, expression, side, written, rounds, targets, sides}
-use Rattle.round_rewrite.specs.Table.{draws}
+use Rattle.round_rewrite.specs.Table.{draws, takes, plain, prologue, received, receiver}
 use Rattle.round_rewrite.specs.Names.{named, copy_name, drawn_name, names}
 use Rattle.round_rewrite.proofs.Resolved.{by_test}
 
@@ -160,7 +160,7 @@ module _ (own : List Name) (last d : ℕ) (D S : Name → Type 0) (held : Held o
       (variables_of (in_round (names own) last k) ++ (copy_name k x ∷ []))
       (each_both D (variables_of (in_round (names own) last k)) (variables_of e) (at_uses k) g) (copy_uses x h hidden k le)
 
-  row_uses : (e : Expression Name) → Each D (variables_of e) → (x : Name) → S x → is_declared x.text own ≡ false → (j m : ℕ)
+  pub row_uses : (e : Expression Name) → Each D (variables_of e) → (x : Name) → S x → is_declared x.text own ≡ false → (j m : ℕ)
       → j + m ≤ suc last → Each D (variables_of_sides (map (written (names own) last e x) (numbers j m)))
   row_uses e g x h hidden j zero le = tt
   row_uses e g x h hidden j (suc m) le =
@@ -168,7 +168,7 @@ module _ (own : List Name) (last d : ℕ) (D S : Name → Type 0) (held : Held o
       (variables_of_sides (map (written (names own) last e x) (numbers (suc j) m)))
       (written_uses e g x h hidden j (omega arith)) (row_uses e g x h hidden (suc j) m (omega arith))
 
-  copies_held : (x : Name) → S x → is_declared x.text own ≡ false → (j m : ℕ) → j + m ≤ suc last
+  pub copies_held : (x : Name) → S x → is_declared x.text own ≡ false → (j m : ℕ) → j + m ≤ suc last
       → Each D (map (λ k. copy_name k x) (numbers j m))
   copies_held x h hidden j zero le = tt
   copies_held x h hidden j (suc m) le = (held.copied x h hidden j (omega arith), copies_held x h hidden (suc j) m (omega arith))
@@ -217,3 +217,29 @@ module _ (own : List Name) (last d : ℕ) (D S : Name → Type 0) (held : Held o
       (λ e.
       subst (λ c. Each D (variables_of_sides (cond (not c) (here ++ others) (value (expression (names own) last v) ∷ others)))) (sym e)
       (sides_both D here others (row_uses (expression (names own) last v) uses x h.0 e 0 (suc last) (omega arith)) rec))
+
+  -- what gets the value of a call
+  pub receiver_held : (x : Name) → S x → takes (names own).is_shared (Some x) ≤ d → D (receiver (names own) last x)
+  receiver_held x h room = by_test (is_declared x.text own)
+      (λ e. subst (λ c. D (cond (not c) (drawn_name 0) x)) (sym e) (held.kept x h e))
+      (λ e.
+      let more : 1 ≤ d = subst (λ c. cond (not c) 1 0 ≤ d) e room in
+      subst (λ c. D (cond (not c) (drawn_name 0) x)) (sym e) (held.drawn 0 (omega arith)))
+
+  -- a property of what stands behind the call, from that of the write to the copies, where a global gets the value
+  pub landing_has : (P : Block Name Name Name → Type 0) (x : Name) (k : Block Name Name Name) → S x
+      → takes (names own).is_shared (Some x) ≤ d → P k
+      → ((xs : List Name) (rs : List (RightSide Name)) → 0 < length xs → length xs ≡ length rs → Each D xs
+      → Each D (variables_of_sides rs) → P (prologue (names own) last plain (one plain (assign xs rs) k)))
+      → P (cond ((names own).is_shared x) (received (names own) last x k) k)
+  landing_has P x k h room pk f = by_test (is_declared x.text own)
+      (λ e. subst (λ c. P (cond (not c) (received (names own) last x k) k)) (sym e) pk)
+      (λ e.
+      let more : 1 ≤ d = subst (λ c. cond (not c) 1 0 ≤ d) e room in
+      subst (λ c. P (cond (not c) (received (names own) last x k) k)) (sym e)
+      (f (map (λ k. copy_name k x) (rounds (names own) last))
+      (map (written (names own) last (var (drawn_name 0)) x) (rounds (names own) last)) (omega arith)
+      (length-map (rounds (names own) last) (λ k. copy_name k x)
+      ∙ sym (length-map (rounds (names own) last) (written (names own) last (var (drawn_name 0)) x)))
+      (copies_held x h e 0 (suc last) (omega arith))
+      (row_uses (var (drawn_name 0)) (held.drawn 0 (omega arith), tt) x h e 0 (suc last) (omega arith))))

@@ -1,10 +1,12 @@
 -- How wide the procedures of the rewritten program are, and how many there are.
-use Rattle.std.proofs.Common.{◌≡◌, ℕ, zero, suc, ◌+◌, ◌<◌, ◌≤◌, Some, inl, refl, slice_get, take, is_some}
+use Rattle.std.proofs.Common.{◌≡◌, ℕ, zero, suc, ◌+◌, ◌<◌, ◌≤◌, cond, Some, inl, refl, slice_get, take, is_some}
 use Rattle.std.proofs.Common.{true≢false, List, [], ◌∷◌, ◌++◌, length, length-append, get_or, map, codes, sym, ◌∙◌, ap}
 use Rattle.std.proofs.Common.{subst, arith, append_assoc}
 use Rattle.std.proofs.lemmas.List.{length-map}
 use Rattle.std.proofs.lemmas.Option.{same_Some}
-use Rattle.language.specs.Tree.{Name, Procedure, Tree}
+use Rattle.language.specs.Tree.{Name, Procedure, ThreadLine, Tree}
+use Rattle.language.specs.Step.{frame_size}
+use Rattle.language.specs.Resolve.{gives_value, routine_of}
 use Rattle.trees.specs.declared.tree.Proc.{Proc}
 use Rattle.trees.specs.Trees.{proc_of, procs_of}
 use Rattle.scopes.specs.declared.fault.ScopeFault.TheVariants as fault
@@ -12,13 +14,15 @@ use Rattle.scopes.specs.Checked.{IsChecked}
 use Rattle.resolved.specs.There.{IsThere}
 use Rattle.round_rewrite.specs.Table.{numbers, copied, globals}
 use Rattle.round_rewrite.specs.Places.{global_count}
-use Rattle.round_rewrite.specs.Names.{named, names, copy_name, save_name, drawn_name, rewritten_procedure, rewritten_tree}
+use Rattle.round_rewrite.specs.Names.{named, names, copy_name, save_name, drawn_name, rewritten_procedure, main_procedure}
+use Rattle.round_rewrite.specs.Names.{rewritten_tree}
 use Rattle.resolved.specs.Narrow.{EachProcedure, width}
 use Rattle.round_rewrite.specs.Narrow.{rewritten_width, AreNarrow, IsNarrow}
 use Rattle.round_rewrite.specs.Writing.{own_width, procedure_needs, IsOwnNarrow, AreFew}
 use Rattle.round_rewrite.proofs.Numbering.{length-rows}
 use Rattle.round_rewrite.proofs.Placing.{length-numbers}
 use Rattle.round_rewrite.proofs.Copied.{gathered}
+use Rattle.round_rewrite.proofs.Giving.{gives_rewritten, gives_main}
 use Rattle.resolved.specs.Limits.{most_places}
 
 four_behind : {B : Type 0} (xs : List B) (a b c d : B)
@@ -56,7 +60,12 @@ module _ (t : Tree) (last n : ℕ) (is : global_count (length t.globals) last �
 
   -- what a procedure has when it is rewritten: the globals, and its own
   pub rewritten_places : (p : Procedure) → rewritten_width last t p ≡ n + own_width p
-  rewritten_places p = λ i. wide i + own_places last p i
+  rewritten_places p =
+      let r : ℕ = cond (gives_value p.body) 1 0 in
+      let sum : (length p.formals + (length p.locals + procedure_needs p)) + r ≡ own_width p = omega arith in
+      λ i.
+      wide i
+      + ((λ j. own_places last p j + cond (gives_rewritten (names (p.formals ++ p.locals)) last p.body j) 1 0) ∙ sum) i
 
   into : (ps : List Procedure) → AreNarrow last t ps →
       EachProcedure (λ p. width (rewritten_tree last t) p ≤ most_places) (map (rewritten_procedure last) ps)
@@ -73,15 +82,24 @@ module _ (t : Tree) (last n : ℕ) (is : global_count (length t.globals) last �
   own [] e = e
   own (p ∷ ps) e = (subst (λ z. z ≤ most_places) (rewritten_places p) e.0, own ps e.1)
 
+  -- the first procedure has no places of its own
+  no_result : frame_size (routine_of (rewritten_tree last t) (main_procedure last t)) ≡ 0
+  no_result =
+      ap (λ b. 0 + cond b 1 0)
+      (gives_main Name (names []) last t.globals (map (λ (line : ThreadLine). line.name) t.threads))
+
   -- the program is narrow where the globals are at most 64 and each procedure of the source is when it is rewritten
   pub narrow : n ≤ most_places → AreNarrow last t t.procedures → IsNarrow last t
   narrow few e =
       let w = wide in
-      let main : length (rewritten_tree last t).globals + 0 ≤ most_places = omega (arith, w, few) in
+      let main : width (rewritten_tree last t) (main_procedure last t) ≤ most_places = omega (arith, w, few, no_result) in
       (main, into t.procedures e)
 
   pub narrow_globals : IsNarrow last t → n ≤ most_places
-  narrow_globals e = let w = wide in let m : length (rewritten_tree last t).globals + 0 ≤ most_places = e.0 in omega (arith, w, m)
+  narrow_globals e =
+      let w = wide in
+      let m : width (rewritten_tree last t) (main_procedure last t) ≤ most_places = e.0 in
+      omega (arith, w, m, no_result)
 
   pub narrow_sources : IsNarrow last t → AreNarrow last t t.procedures
   narrow_sources e = out t.procedures e.1
@@ -112,7 +130,7 @@ module _ (t : Tree) (last n : ℕ) (is : global_count (length t.globals) last �
 pub few_needs : (n : ℕ) (ps : List Procedure) → EachProcedure (IsOwnNarrow n) ps → AreFew ps
 few_needs n [] e = tt
 few_needs n (p ∷ ps) e = (
-  let h : n + (length p.formals + (length p.locals + procedure_needs p)) ≤ most_places =
+  let h : n + own_width p ≤ most_places =
       e.0 in let k : procedure_needs p ≤ most_places = omega (arith, h) in k,
   few_needs n ps e.1,
 )

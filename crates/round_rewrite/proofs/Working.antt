@@ -4,8 +4,8 @@ use Rattle.std.proofs.Common.{◌≡◌, ℕ, zero, suc, ◌+◌, ◌<◌, ◌�
 use Rattle.std.proofs.Common.{◌++◌, length, map, codes, Option, Some, None, option_map, inl, inr, refl, sym, ◌∙◌, ap, subst}
 use Rattle.std.proofs.Common.{ap₂, arith, append_assoc}
 use Rattle.std.proofs.lemmas.List.{length-map}
-use Rattle.language.specs.Tree.{Name, var, RightSide, any, value, Simple, skip, assign, assert, assume, goto, leave, call, Mark, Block}
-use Rattle.language.specs.Tree.{done, one, choose, loop, Procedure, ThreadLine, Tree}
+use Rattle.language.specs.Tree.{Name, var, RightSide, any, value, Simple, skip, assign, assert, assume, goto, leave, call, leave_with}
+use Rattle.language.specs.Tree.{call_for, Mark, Block, done, one, choose, loop, Procedure, ThreadLine, Tree}
 use Rattle.language.specs.Rest.{same_text, join}
 use Rattle.language.specs.Resolve.{is_declared}
 use Rattle.language.proofs.Names.{declared_first}
@@ -22,7 +22,7 @@ use Rattle.scopes.proofs.Resolving.{labels_append, working_resolves}
 use Rattle.scopes.proofs.Rewriting.{checked_rewritable}
 use Rattle.round_rewrite.specs.Table as table
 use Rattle.round_rewrite.specs.Table.{numbers, temporaries, in_round, expression, side, targets, sides, draws, drawing, stop_test, prologue}
-use Rattle.round_rewrite.specs.Table.{statement, rewritten, guess, guesses, starts, check, checks, main, copied, globals}
+use Rattle.round_rewrite.specs.Table.{takes, received, statement, rewritten, guess, guesses, starts, check, checks, main, copied, globals}
 use Rattle.round_rewrite.specs.Names as renamed
 use Rattle.round_rewrite.specs.Names.{copy_name, save_name, drawn_name, names, rewritten_procedure, main_procedure, rewritten_tree}
 use Rattle.round_rewrite.proofs.Spelling.{same_text_refl}
@@ -31,7 +31,7 @@ use Rattle.round_rewrite.proofs.Placing.{bit_names, last_names, copies_spelled, 
 use Rattle.round_rewrite.proofs.Resolved.{by_test, rest_room}
 use Rattle.round_rewrite.proofs.Meaning.{not_main}
 use Rattle.round_rewrite.proofs.Uses.{each_both, any_uses, written_each, drawn_each, sides_even, Held, at_uses, arguments_use, side_uses}
-use Rattle.round_rewrite.proofs.Uses.{targets_held, sides_use}
+use Rattle.round_rewrite.proofs.Uses.{targets_held, sides_use, receiver_held, landing_has}
 use Rattle.round_rewrite.specs.Limits.{most_rounds}
 
 -- a name that is declared in the second of two lists is declared in both
@@ -113,6 +113,13 @@ module _ (own : List Name) (last : ℕ) where
   statement_labels (goto l) k = refl
   statement_labels leave k = refl
   statement_labels (call q es) k = refl
+  statement_labels (leave_with e) k = refl
+  statement_labels (call_for x q es) k = landing_labels ((names own).is_shared x)
+    where
+      landing_labels : (c : Bool)
+          → labels_of (statements_of (cond c (received (names own) last x k) k)) ≡ labels_of (statements_of k)
+      landing_labels true = refl
+      landing_labels false = refl
 
   pub labels_kept : (b : Block Name Name Name) → labels_of (statements_of (rewritten (names own) last b)) ≡ labels_of (statements_of b)
   labels_kept done = refl
@@ -370,6 +377,34 @@ module _ (t : Tree) (last : ℕ) (ok : IsChecked t) (small : last < most_rounds)
     statement_works m (goto l) b k w room h =
         (record { variables = tt; called = tt; sides = λ is. refl; labelled = label_there l w.labelled }, h)
     statement_works m leave b k w room h = (leave_works p', h)
+    statement_works m (leave_with e) b k w room h = (
+      record {
+        variables = arguments_use own last drawn (In p') Known held (e ∷ []) w.variables;
+        called = tt;
+        sides = λ is. refl;
+        labelled = tt;
+      },
+      h,
+    )
+    statement_works m (call_for x q es) b k w room h =
+        let taken : takes (names own).is_shared (Some x) ≤ drawn = omega arith in (
+          record {
+            variables = (
+              receiver_held own last drawn (In p') Known held x w.variables.0 taken,
+              arguments_use own last drawn (In p') Known held es w.variables.1,
+            );
+            called =
+                subst (λ n. Takes (named q.text t'.procedures) n) (sym (length-map es (expression (names own) last)))
+                (takes_there q (length es) w.called);
+            sides = λ is. cc;
+            labelled = tt;
+          },
+          stop_test_works p' (cond ((names own).is_shared x) (received (names own) last x k) k) own
+              (landing_has own last drawn (In p') Known held (λ b. Work p' (statements_of b)) x k w.variables.0 taken h
+              (λ xs rs some even hx hr.
+              prologue_works table.plain (one table.plain (assign xs rs) k)
+              (assign_works p' xs rs (each_both (In p') xs (variables_of_sides rs) hx hr) even, h))),
+        )
     statement_works m (call q es) b k w room h = (
       record {
         variables = arguments_use own last drawn (In p') Known held es w.variables;

@@ -61,6 +61,7 @@ places globals last own = record {
 abbrev pub rewritten_routine : ℕ → ℕ → Routine → Routine
 rewritten_routine globals last routine = record {
   places = routine.places + temporaries is_global routine.body;
+  gives = routine.gives;
   body = rewritten (places globals last routine.places) last routine.body;
 }
 
@@ -72,6 +73,7 @@ all_globals count = map global (numbers 0 count)
 abbrev pub main_routine : ℕ → Program → Routine
 main_routine last program = record {
   places = 0;
+  gives = false;
   body = main (places program.globals last 0) last (all_globals program.globals) program.threads;
 }
 

@@ -1,11 +1,12 @@
 -- The rewriting for so many rounds, as one table over trees. Rounds count from 0 here; `last` is the last
 -- of them. (Only the idea, to guess the globals of later rounds and to check the guesses at the end, is that
 -- of Lal and Reps 2008.)
-use Rattle.std.specs.Prelude.{ℕ, zero, suc, ◌/◌, ◌%◌, Bool, true, false, List, [], ◌∷◌, ◌++◌, None, map, reverse, cond, max}
+use Rattle.std.specs.Prelude.{ℕ, zero, suc, ◌/◌, ◌%◌, Bool, true, false, List, [], ◌∷◌, ◌++◌, Option, Some, None, map, reverse, cond, max}
 use Rattle.language.specs.Tree.{Expression, const, var, negation, two, or, xor, and, equal, RightSide, any, value, Simple, skip, assign}
-use Rattle.language.specs.Tree.{assert, assume, goto, leave, call, Mark, Block, done, one, choose, loop}
+use Rattle.language.specs.Tree.{assert, assume, goto, leave, call, leave_with, call_for, Mark, Block, done, one, choose, loop}
 use Rattle.language.specs.Parts as parts
-use Rattle.language.specs.Parts.{Head, targets_of, sides_of}
+use Rattle.language.specs.Parts.{Head, sides_of}
+use Rattle.trees.specs.Parts.{assigned_by, receiver_of}
 pub use Rattle.language.specs.Sequential.{numbers}
 use Rattle.language.specs.Rest.{join}
 
@@ -61,9 +62,14 @@ draws is_shared (x ∷ xs) [] = 0
 draws is_shared (x ∷ xs) (any ∷ rs) = cond (is_shared x) (suc (draws is_shared xs rs)) (draws is_shared xs rs)
 draws is_shared (x ∷ xs) (value operand ∷ rs) = draws is_shared xs rs
 
--- how many temporaries a statement draws, without those that it holds
+-- how many temporaries the value of a call takes: one where a global gets it
+abbrev pub takes : {V : Type 0} → (V → Bool) → Option V → ℕ
+takes is_shared None = 0
+takes is_shared (Some x) = cond (is_shared x) 1 0
+
+-- how many temporaries a statement needs, without those that it holds
 abbrev pub draws_of : {V P L : Type 0} → (V → Bool) → Head V P L → ℕ
-draws_of is_shared head = draws is_shared (targets_of head) (sides_of head)
+draws_of is_shared head = max (takes is_shared (receiver_of head)) (draws is_shared (assigned_by head) (sides_of head))
 
 -- how many temporaries a block needs
 abbrev pub temporaries : {V P L : Type 0} → (V → Bool) → Block V P L → ℕ
@@ -125,6 +131,10 @@ module _ {V W P Q : Type 0} (naming : Naming V W P Q) (last : ℕ) where
       cond (naming.is_shared x) (map (written (expression operand) x) rounds ++ sides j xs rs)
       (value (expression operand) ∷ sides j xs rs)
 
+  -- what the value of a call goes to: a global's to the first temporary, a local's to the local itself
+  abbrev pub receiver : V → W
+  receiver x = cond (naming.is_shared x) (naming.drawn 0) (naming.kept x)
+
   module _ {L : Type 0} where
     -- the draw of so many temporaries, if any
     abbrev pub drawing : ℕ → Block W Q L → Block W Q L
@@ -149,6 +159,13 @@ module _ {V W P Q : Type 0} (naming : Naming V W P Q) (last : ℕ) where
         (choose plain any (one plain (assign (naming.stop ∷ []) (value (const true) ∷ [])) done) (one plain skip done)
         (stop_test rest))
 
+    -- Behind the call whose value a global gets: in a round that may be a later one, the global gets what the call
+    -- has left in the first temporary.
+    abbrev pub received : V → Block W Q L → Block W Q L
+    received x rest =
+        prologue plain
+        (one plain (assign (map (λ k. naming.copy k x) rounds) (map (written (var (naming.drawn 0)) x) rounds)) rest)
+
     -- a statement that holds no others, behind its prologue
     abbrev pub statement : Simple V P L → Block W Q L → Block W Q L
     statement skip rest = one plain skip rest
@@ -161,6 +178,10 @@ module _ {V W P Q : Type 0} (naming : Naming V W P Q) (last : ℕ) where
     statement (goto label) rest = one plain (goto label) rest
     statement leave rest = one plain leave rest
     statement (call callee es) rest = one plain (call (naming.called callee) (map expression es)) (stop_test rest)
+    statement (leave_with operand) rest = one plain (leave_with (expression operand)) rest
+    statement (call_for x callee es) rest =
+        one plain (call_for (receiver x) (naming.called callee) (map expression es))
+        (stop_test (cond (naming.is_shared x) (received x rest) rest))
 
     -- the rewritten block
     abbrev pub rewritten : Block V P L → Block W Q L

@@ -1,7 +1,7 @@
--- Three programs and what they are rewritten to, byte for byte: texts that were worked out by hand.
+-- Four programs and what they are rewritten to, byte for byte: texts that were worked out by hand.
 use Rattle.std.specs.Prelude.{ℕ, false, List, [], ◌∷◌, ◌++◌, Some, None, codes}
 use Rattle.language.specs.Tree.{Name, implies, xor, equal, const, var, negation, two, any, value, skip, assign}
-use Rattle.language.specs.Tree.{assert, assume, goto, leave, call, Mark, done, one, choose, loop, Tree}
+use Rattle.language.specs.Tree.{assert, assume, goto, leave, call, leave_with, call_for, Mark, done, one, choose, loop, Tree}
 use Rattle.round_rewrite.specs.Names.{named}
 
 -- a text by its lines, each ended by a line feed
@@ -81,6 +81,29 @@ each_construct = record {
             (one unmarked leave done));
       }) ∷ [];
   threads = (record { at = 0; name = named (codes "t") }) ∷ (record { at = 0; name = named (codes "t") }) ∷ [];
+}
+
+-- A thread that calls a procedure for its value twice, for a global and for a local: `?`, and a label at the call whose
+-- value the global gets.
+abbrev pub giving : Tree
+giving = record {
+  globals = x ∷ y ∷ [];
+  procedures =
+      (record {
+        name = named (codes "p");
+        formals = v ∷ [];
+        locals = [];
+        body = one unmarked (leave_with (negation (var v))) done;
+      }) ∷ (record {
+        name = named (codes "t");
+        formals = [];
+        locals = l ∷ [];
+        body =
+            one (record { label = Some (named (codes "L")); at = 0 }) (call_for x (named (codes "p")) (var y ∷ []))
+            (one unmarked (call_for l (named (codes "p")) (const false ∷ []))
+            (one unmarked (assign (y ∷ []) (any ∷ [])) done));
+      }) ∷ [];
+  threads = (record { at = 0; name = named (codes "t") }) ∷ [];
 }
 
 -- the text of the first
@@ -401,6 +424,137 @@ constructs_in_three_rounds =
     codes "    skip;" ∷
     codes "  fi" ∷
     codes "  return;" ∷
+    codes "end" ∷
+    codes "thread main__;" ∷
+    [])
+
+-- the text of the fourth
+abbrev pub giving_text : List ℕ
+giving_text =
+    text (
+    codes "decl x, y;" ∷
+    codes "p(v)" ∷
+    codes "begin" ∷
+    codes "  return !v;" ∷
+    codes "end" ∷
+    codes "t()" ∷
+    codes "begin" ∷
+    codes "  decl l;" ∷
+    codes "  L: x := p(y);" ∷
+    codes "  l := p(0);" ∷
+    codes "  y := ?;" ∷
+    codes "end" ∷
+    codes "thread t;" ∷
+    [])
+
+-- the fourth, rewritten for two rounds
+abbrev pub giving_in_two_rounds : List ℕ
+giving_in_two_rounds =
+    text (
+    codes "decl x__1, y__1, x__2, y__2, x__s2, y__s2, rh__, rl__, stop__, bad__;" ∷
+    codes "main__()" ∷
+    codes "begin" ∷
+    codes "  x__2, y__2 := ?, ?;" ∷
+    codes "  x__s2, y__s2 := x__2, y__2;" ∷
+    codes "  rh__, rl__, stop__ := 0, 0, 0;" ∷
+    codes "  t();" ∷
+    codes "  assume(x__s2 = x__1);" ∷
+    codes "  assume(y__s2 = y__1);" ∷
+    codes "end" ∷
+    codes "p(v)" ∷
+    codes "begin" ∷
+    codes "  while (?) do" ∷
+    codes "    assume(!(!rh__ & rl__));" ∷
+    codes "    rh__, rl__ := rh__ ^ rl__, !rl__;" ∷
+    codes "  od" ∷
+    codes "  if (?) then" ∷
+    codes "    stop__ := 1;" ∷
+    codes "  else" ∷
+    codes "    skip;" ∷
+    codes "  fi" ∷
+    codes "  if (stop__) then" ∷
+    codes "    return;" ∷
+    codes "  else" ∷
+    codes "    skip;" ∷
+    codes "  fi" ∷
+    codes "  return !v;" ∷
+    codes "end" ∷
+    codes "t()" ∷
+    codes "begin" ∷
+    codes "  decl l, tmp__t1;" ∷
+    codes "  L: while (?) do" ∷
+    codes "    assume(!(!rh__ & rl__));" ∷
+    codes "    rh__, rl__ := rh__ ^ rl__, !rl__;" ∷
+    codes "  od" ∷
+    codes "  if (?) then" ∷
+    codes "    stop__ := 1;" ∷
+    codes "  else" ∷
+    codes "    skip;" ∷
+    codes "  fi" ∷
+    codes "  if (stop__) then" ∷
+    codes "    return;" ∷
+    codes "  else" ∷
+    codes "    skip;" ∷
+    codes "  fi" ∷
+    codes "  tmp__t1 := p(((!rh__ & !rl__) & y__1) | ((!rh__ & rl__) & y__2));" ∷
+    codes "  if (stop__) then" ∷
+    codes "    return;" ∷
+    codes "  else" ∷
+    codes "    skip;" ∷
+    codes "  fi" ∷
+    codes "  while (?) do" ∷
+    codes "    assume(!(!rh__ & rl__));" ∷
+    codes "    rh__, rl__ := rh__ ^ rl__, !rl__;" ∷
+    codes "  od" ∷
+    codes "  if (?) then" ∷
+    codes "    stop__ := 1;" ∷
+    codes "  else" ∷
+    codes "    skip;" ∷
+    codes "  fi" ∷
+    codes "  if (stop__) then" ∷
+    codes "    return;" ∷
+    codes "  else" ∷
+    codes "    skip;" ∷
+    codes "  fi" ∷
+    (codes "  x__1, x__2 := ((!rh__ & !rl__) & tmp__t1) | (!(!rh__ & !rl__) & x__1), ((!rh__ & rl__) & "
+    ++ codes "tmp__t1) | (!(!rh__ & rl__) & x__2);") ∷
+    codes "  while (?) do" ∷
+    codes "    assume(!(!rh__ & rl__));" ∷
+    codes "    rh__, rl__ := rh__ ^ rl__, !rl__;" ∷
+    codes "  od" ∷
+    codes "  if (?) then" ∷
+    codes "    stop__ := 1;" ∷
+    codes "  else" ∷
+    codes "    skip;" ∷
+    codes "  fi" ∷
+    codes "  if (stop__) then" ∷
+    codes "    return;" ∷
+    codes "  else" ∷
+    codes "    skip;" ∷
+    codes "  fi" ∷
+    codes "  l := p(0);" ∷
+    codes "  if (stop__) then" ∷
+    codes "    return;" ∷
+    codes "  else" ∷
+    codes "    skip;" ∷
+    codes "  fi" ∷
+    codes "  while (?) do" ∷
+    codes "    assume(!(!rh__ & rl__));" ∷
+    codes "    rh__, rl__ := rh__ ^ rl__, !rl__;" ∷
+    codes "  od" ∷
+    codes "  if (?) then" ∷
+    codes "    stop__ := 1;" ∷
+    codes "  else" ∷
+    codes "    skip;" ∷
+    codes "  fi" ∷
+    codes "  if (stop__) then" ∷
+    codes "    return;" ∷
+    codes "  else" ∷
+    codes "    skip;" ∷
+    codes "  fi" ∷
+    codes "  tmp__t1 := ?;" ∷
+    (codes "  y__1, y__2 := ((!rh__ & !rl__) & tmp__t1) | (!(!rh__ & !rl__) & y__1), ((!rh__ & rl__) & "
+    ++ codes "tmp__t1) | (!(!rh__ & rl__) & y__2);") ∷
     codes "end" ∷
     codes "thread main__;" ∷
     [])

@@ -1,11 +1,12 @@
 -- What a writer stands for, and what it is to put statements behind others.
-use Rattle.std.specs.Prelude.{◌≡◌, ◌≤◌, ◌+◌, ℕ, length, Bool, max, true, List, [], ◌∷◌, ◌++◌, map, codes}
+use Rattle.std.specs.Prelude.{◌≡◌, ◌≤◌, ◌+◌, ℕ, length, Bool, max, cond, true, List, [], ◌∷◌, ◌++◌, map, codes}
 use Rattle.language.specs.Tree as tree
 use Rattle.language.specs.Tree.{const, var, any, value, skip, assign, leave, Mark, Block, done, one, choose, loop}
 use Rattle.trees.specs.declared.tree.Stmt.{Stmt}
 use Rattle.trees.specs.Trees.{Deed, simple, branch, repeat, Item, names_of, items_of, all_before}
 use Rattle.trees.specs.Parts.{head_of, first_inside, second_inside}
 use Rattle.language.specs.Rest.{join}
+use Rattle.language.specs.Resolve.{gives_value}
 use Rattle.round_rewrite.specs.declared.writer.Writer.{Writer}
 use Rattle.round_rewrite.specs.Table.{Naming, draws_of, temporaries, plain, side, prologue, statement, rewritten}
 use Rattle.round_rewrite.specs.Names.{named, names}
@@ -76,9 +77,10 @@ abbrev pub AreFew : List tree.Procedure → Type 0
 AreFew [] = Unit {0}
 AreFew (procedure ∷ procedures) = (procedure_needs procedure ≤ most_places) × AreFew procedures
 
--- how many places a procedure has of its own when it is rewritten: formals, locals and temporaries
+-- how many places a procedure has of its own when it is rewritten: formals, locals, temporaries and the result
 abbrev pub own_width : tree.Procedure → ℕ
-own_width procedure = length procedure.formals + (length procedure.locals + procedure_needs procedure)
+own_width procedure =
+    length procedure.formals + (length procedure.locals + (procedure_needs procedure + cond (gives_value procedure.body) 1 0))
 
 -- the globals, so many, and what the procedure has of its own are at most 64 places
 abbrev pub IsOwnNarrow : ℕ → tree.Procedure → Type 0

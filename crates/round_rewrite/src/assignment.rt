@@ -71,7 +71,7 @@ impl<'a, N: Allocator, A: Allocator + Copy> Writer<'a, N, A> {
 
     /// Puts the copies of a global for each round behind targets.
     #[tactic(auto, using(crate::proofs::Pushed::pushed))]
-    fn copies(&self, x: &Name<N>, into: &mut Vec<Name<A>, A>) -> Result<(), AllocError>
+    pub fn copies(&self, x: &Name<N>, into: &mut Vec<Name<A>, A>) -> Result<(), AllocError>
         ensures { IfOk result
             (λ _. names_of into.new.items
             ≡ names_of into.old.items ++ map (λ k. copy_name k (name_of x.now))
@@ -112,7 +112,7 @@ impl<'a, N: Allocator, A: Allocator + Copy> Writer<'a, N, A> {
 
     /// Puts what the copies of a global get, where the global gets a temporary, behind right sides.
     #[tactic(auto, using(crate::proofs::Pushed::pushed))]
-    fn drawn_sides(
+    pub fn drawn_sides(
         &self,
         number: usize,
         x: &Name<N>,

@@ -57,8 +57,9 @@ pub fn rewriting_keeps_failures_of_resolved_programs()
         → KeepsFailures rounds p }
 {}
 
-/// Three programs are rewritten to exactly these texts, byte for byte: one thread that does nothing, for one round; one
-/// that sets a global to either value, for two; and a program with each construct, for three.
+/// Four programs are rewritten to exactly these texts, byte for byte: one thread that does nothing, for one round; one
+/// that sets a global to either value, for two; a program with each construct, for three; and one that calls for values,
+/// for two.
 pub fn worked_programs_are_rewritten_to_these_texts()
     ensures skipping { printed worked.skipping ≡ worked.skipping_text }
     ensures one_round { printed (rewritten_for 1 worked.skipping) ≡ worked.skipping_in_one_round }
@@ -68,4 +69,6 @@ pub fn worked_programs_are_rewritten_to_these_texts()
     ensures constructs { printed worked.each_construct ≡ worked.construct_text }
     ensures three_rounds { printed (rewritten_for 3 worked.each_construct)
         ≡ worked.constructs_in_three_rounds }
+    ensures giving { printed worked.giving ≡ worked.giving_text }
+    ensures giving_two { printed (rewritten_for 2 worked.giving) ≡ worked.giving_in_two_rounds }
 {}

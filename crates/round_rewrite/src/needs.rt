@@ -1,13 +1,14 @@
 //! How many temporaries a procedure needs.
 
-ghost use Rattle.std.specs.Prelude.{◌≡◌, max};
-ghost use Rattle.trees.specs.Trees.{deed_of, block_of};
-ghost use Rattle.round_rewrite.specs.Table.{temporaries};
+ghost use Rattle.std.specs.Prelude.{◌≡◌, max, option_map};
+ghost use Rattle.trees.specs.Trees.{name_of, deed_of, block_of};
+ghost use Rattle.trees.specs.Parts.{head_of};
+ghost use Rattle.round_rewrite.specs.Table.{takes, draws_of, temporaries};
 ghost use Rattle.round_rewrite.specs.Writing.{deed_needs};
 
 use crate::writer::Writer;
 use std::alloc::Allocator;
-use trees::{Core, Stmt};
+use trees::{Core, Name, Stmt};
 
 /// The larger of two numbers.
 fn larger(a: usize, b: usize) -> usize
@@ -19,7 +20,28 @@ fn larger(a: usize, b: usize) -> usize
 impl<'a, N: Allocator, A: Allocator + Copy> Writer<'a, N, A> {
     ghost use Rattle.round_rewrite.specs.Writing.{naming_of};
 
-    /// How many temporaries statements need: as many as the assignment that draws most.
+    /// How many temporaries the value of a call takes: one where a global gets it.
+    fn takes(&self, receiver: Option<&Name<N>>) -> usize
+        ensures { result ≡ takes (naming_of self.now).is_shared
+            (option_map (λ r. name_of r.now) receiver.entry) }
+    {
+        match receiver {
+            Some(x) => usize::from(self.is_shared(x)),
+            None => 0,
+        }
+    }
+
+    /// How many temporaries one statement needs, without those that it holds.
+    fn own_needs(&self, core: &Core<N>) -> usize
+        ensures { result ≡ draws_of (naming_of self.now).is_shared (head_of (deed_of core.now)) }
+    {
+        larger(
+            self.takes(core.receiver()),
+            self.draws(core.targets(), core.sides()),
+        )
+    }
+
+    /// How many temporaries statements need: as many as the one that needs most.
     #[cycle(needs)]
     pub fn needs(&self, stmts: &[Stmt<N>]) -> usize
         ensures { result ≡ temporaries (naming_of self.now).is_shared (block_of stmts.now) }
@@ -38,6 +60,6 @@ impl<'a, N: Allocator, A: Allocator + Copy> Writer<'a, N, A> {
     {
         let (first, second) = core.inside();
         let held = larger(self.needs(first), self.needs(second));
-        larger(self.draws(core.targets(), core.sides()), held)
+        larger(self.own_needs(core), held)
     }
 }

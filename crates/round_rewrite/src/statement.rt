@@ -1,16 +1,16 @@
 //! What statements are rewritten to.
 
-ghost use Rattle.std.specs.Prelude.{◌≡◌, ◌<◌, ◌^◌, [], IfOk, option_map};
-ghost use Rattle.language.specs.Tree.{goto, assert, assume, assign, call};
-ghost use Rattle.trees.specs.Trees.{branch, repeat, name_of, names_of, rhs_of, rhss_of, exprs_of};
-ghost use Rattle.trees.specs.Trees.{items_of, deed_of, block_of};
-ghost use Rattle.round_rewrite.specs.Table.{drawing, prologue, statement};
+ghost use Rattle.std.specs.Prelude.{◌≡◌, ◌<◌, ◌^◌, [], IfOk, cond, option_map};
+ghost use Rattle.language.specs.Tree.{goto, assert, assume, assign, call, call_for, leave_with};
+ghost use Rattle.trees.specs.Trees.{branch, repeat, name_of, names_of, rhs_of, rhss_of, expr_of};
+ghost use Rattle.trees.specs.Trees.{exprs_of, items_of, deed_of, block_of};
+ghost use Rattle.round_rewrite.specs.Table.{drawing, prologue, received, receiver, statement};
 ghost use Rattle.round_rewrite.specs.Writing.{Lays, bare_form, forms};
 
 use crate::assignment::{any_values, temporaries};
 use crate::block::{push, push_marked};
 use crate::cores::{checked, stop_choice, stop_test};
-use crate::names::again;
+use crate::names::{again, drawn};
 use crate::writer::Writer;
 use std::alloc::{AllocError, Allocator};
 use trees::{Core, Expr, Name, Rhs, Stmt};
@@ -84,6 +84,76 @@ impl<'a, N: Allocator, A: Allocator + Copy> Writer<'a, N, A> {
         let arguments = self.arguments(es)?;
         push(Core::Call(name, arguments), into)?;
         push(stop_test(self.alloc)?, into)
+    }
+
+    /// Puts what a return of a value is rewritten to behind others.
+    fn given(&self, e: &Expr<N>, into: &mut Vec<Stmt<A>, A>) -> Result<(), AllocError>
+        ensures { IfOk result (λ _. Lays into.old.items into.new.items
+            (λ k.
+            statement (naming_of self.now) self.now.rounds.last (leave_with (expr_of e.now)) k)) }
+    {
+        let value = self.expression(e)?;
+        push(Core::Give(value), into)
+    }
+
+    /// What the value of a call goes to: a global's to the first temporary, a local's to the local itself.
+    fn receiver(&self, x: &Name<N>) -> Result<Name<A>, AllocError>
+        ensures { IfOk result
+            (λ n. name_of n ≡ receiver (naming_of self.now) self.now.rounds.last (name_of x.now)) }
+    {
+        if self.is_shared(x) {
+            drawn(*self.alloc, 0)
+        } else {
+            again(*self.alloc, x)
+        }
+    }
+
+    /// Puts what gives a global the value of a call, behind a prologue of its own, behind others.
+    fn received(&self, x: &Name<N>, into: &mut Vec<Stmt<A>, A>) -> Result<(), AllocError>
+        ensures { IfOk result (λ _. Lays into.old.items into.new.items
+            (λ k. received (naming_of self.now) self.now.rounds.last (name_of x.now) k)) }
+    {
+        self.prologue(None, 0, into)?;
+        let mut targets = Vec::new(*self.alloc);
+        self.copies(x, &mut targets)?;
+        let mut sides = Vec::new(*self.alloc);
+        self.drawn_sides(0, x, &mut sides)?;
+        push(Core::Assign(targets, sides), into)
+    }
+
+    /// Puts what comes behind the call for a value, where a global gets it, behind others.
+    fn landing(&self, x: &Name<N>, into: &mut Vec<Stmt<A>, A>) -> Result<(), AllocError>
+        ensures { IfOk result (λ _. Lays into.old.items into.new.items
+            (λ k.
+            cond ((naming_of self.now).is_shared (name_of x.now))
+            (received (naming_of self.now) self.now.rounds.last (name_of x.now) k) k)) }
+    {
+        if self.is_shared(x) {
+            self.received(x, into)
+        } else {
+            Ok(())
+        }
+    }
+
+    /// Puts what a call for a value is rewritten to behind others.
+    fn call_for(
+        &self,
+        x: &Name<N>,
+        p: &Name<N>,
+        es: &[Expr<N>],
+        into: &mut Vec<Stmt<A>, A>,
+    ) -> Result<(), AllocError>
+        ensures { IfOk result (λ _. Lays into.old.items into.new.items
+            (λ k.
+            statement (naming_of self.now) self.now.rounds.last
+            (call_for (name_of x.now) (name_of p.now) (exprs_of es.now)) k)) }
+    {
+        let target = self.receiver(x)?;
+        let name = again(*self.alloc, p)?;
+        let arguments = self.arguments(es)?;
+        push(Core::CallTo(target, name, arguments), into)?;
+        push(stop_test(self.alloc)?, into)?;
+        self.landing(x, into)
     }
 
     /// The label once more.
@@ -200,6 +270,8 @@ impl<'a, N: Allocator, A: Allocator + Copy> Writer<'a, N, A> {
             Core::Assume(r) => self.assumed(r, into),
             Core::Assign(xs, rs) => self.assignment(xs, rs, into),
             Core::Call(p, es) => self.call(p, es, into),
+            Core::CallTo(x, p, es) => self.call_for(x, p, es, into),
+            Core::Give(e) => self.given(e, into),
             Core::If(r, a, b) => self.branch(r, a, b, into),
             Core::While(r, a) => self.repeat(r, a, into),
         }

@@ -14,7 +14,7 @@ use crate::writer::Writer;
 use resolved::MOST_PLACES;
 use scopes::Checked;
 use std::alloc::Allocator;
-use trees::{Proc, Program};
+use trees::{Proc, Program, give_value};
 
 /// A procedure that has too many places when it is rewritten.
 #[derive(Clone, Copy, Debug, PartialEq, Eq)]
@@ -52,8 +52,9 @@ fn places<N: Allocator, A: Allocator + Copy>(
         locals,
     };
     let needs = writer.needs(&proc.body) as u128;
+    let results = usize::from(give_value(&proc.body)) as u128;
     let declared = formals.len() as u128 + locals.len() as u128;
-    global_count(rounds, globals) + (declared + needs)
+    global_count(rounds, globals) + (declared + needs + results)
 }
 
 /// The first procedure, in the order of the source, that has more than 64 places when it is rewritten.

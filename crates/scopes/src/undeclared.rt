@@ -2,7 +2,8 @@
 
 ghost use Rattle.std.specs.Prelude.{◌≡◌, None, option_map, IfOk};
 ghost use Rattle.trees.specs.Trees.{name_of, expr_of, rhs_of, proc_of, procs_of, tree_of};
-ghost use Rattle.scopes.specs.Find.{Finds};
+ghost use Rattle.language.specs.Parts.{targets_of, arguments_of};
+ghost use Rattle.scopes.specs.Find.{AnyOf, Finds, as_list};
 ghost use Rattle.resolved.specs.Statements.{lent, statement_of, used_by, variables_of};
 ghost use Rattle.resolved.specs.Statements.{variables_of_side, variables_of_test};
 ghost use Rattle.scopes.specs.Faults.{named, AnyUnknown, CallsUnknown, IsUndeclaredIn};
@@ -65,15 +66,54 @@ pub fn in_test<A: Allocator + Copy>(known: &Known<A>, test: Option<&Rhs<A>>) -> 
     in_rhs(known, test?)
 }
 
+/// The same for a variable that may be there.
+pub fn in_receiver<A: Allocator + Copy>(known: &Known<A>, receiver: Option<&Name<A>>) -> Option<u32>
+    ensures { Finds
+        (AnyUnknown (lent known.now.names.items)
+        (as_list (option_map (λ r. name_of r.now) receiver.entry))) result }
+{
+    known.unknown(receiver?)
+}
+
+/// The same for the variables that a statement gives values to.
+pub fn in_targets<A: Allocator + Copy>(known: &Known<A>, stmt: &Stmt<A>) -> Option<u32>
+    ensures { Finds
+        (AnyUnknown (lent known.now.names.items) (targets_of (statement_of stmt.now).head)) result }
+{
+    let assigned = earliest(stmt.core.targets(), |target| known.unknown(target));
+    let receiver = in_receiver(known, stmt.core.receiver());
+    earlier(assigned, receiver)
+}
+
+/// The same for an expression that may be there.
+pub fn in_given<A: Allocator + Copy>(known: &Known<A>, given: Option<&Expr<A>>) -> Option<u32>
+    ensures { Finds
+        (λ n. AnyOf (λ e. AnyUnknown (lent known.now.names.items) (variables_of e) n)
+        (as_list (option_map (λ r. expr_of r.now) given.entry))) result }
+{
+    in_expr(known, given?)
+}
+
+/// The same for the arguments of a call, or the value that is returned.
+pub fn in_arguments<A: Allocator + Copy>(known: &Known<A>, stmt: &Stmt<A>) -> Option<u32>
+    ensures { Finds
+        (λ n. AnyOf (λ e. AnyUnknown (lent known.now.names.items) (variables_of e) n)
+        (arguments_of (statement_of stmt.now).head)) result }
+{
+    let passed = earliest(stmt.core.arguments(), |e| in_expr(known, e));
+    let given = in_given(known, stmt.core.given());
+    earlier(passed, given)
+}
+
 /// The same for the variables of a statement, without those of the statements that it holds.
 pub fn in_statement<A: Allocator + Copy>(known: &Known<A>, stmt: &Stmt<A>) -> Option<u32>
     ensures { Finds
         (AnyUnknown (lent known.now.names.items) (used_by (statement_of stmt.now).head)) result }
 {
-    let targets = earliest(stmt.core.targets(), |target| known.unknown(target));
+    let targets = in_targets(known, stmt);
     let sides = earliest(stmt.core.sides(), |side| in_rhs(known, side));
     let test = in_test(known, stmt.core.test());
-    let arguments = earliest(stmt.core.arguments(), |e| in_expr(known, e));
+    let arguments = in_arguments(known, stmt);
     let tested = earlier(test, arguments);
     let read = earlier(sides, tested);
     earlier(targets, read)

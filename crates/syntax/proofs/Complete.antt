@@ -1,22 +1,26 @@
 -- The statements that the grammar has are read.
 use Rattle.std.proofs.Common.{◌≡◌, Bool, true, false, ◌&&◌, List, [], ◌∷◌, Some, refl, ◌∙◌, ap, ◌⊎◌, inl, inr}
-use Rattle.language.specs.Tree.{Name, Expression, RightSide, Simple, skip, assign, assert, assume, goto, leave, call, Mark, Block, one}
-use Rattle.language.specs.Tree.{choose, loop}
+use Rattle.language.specs.Tree.{Name, Expression, RightSide, Simple, skip, assign, assert, assume, goto, leave, leave_with, call, call_for}
+use Rattle.language.specs.Tree.{Mark, Block, one, choose, loop}
 use Rattle.tokens.specs.declared.vocabulary.Kind.{Kind}
 use Rattle.tokens.specs.declared.vocabulary.Kind.TheVariants as kind
 use Rattle.tokens.specs.Token.{Tok, same_kind}
 use Rattle.syntax.specs.Parser.{Parser, give, ◌>>=◌, begins, take}
 use Rattle.syntax.specs.Grammar.{Takes, takes, name_at, IsName, is_name, behind, InParens, in_parens, no_more, one_more, Listed, listed}
-use Rattle.syntax.specs.Grammar.{Perhaps, IsExpression, IsRight, IsMarked, bare, labelled, IsSimple, is_skip, is_return, is_goto, is_assert}
-use Rattle.syntax.specs.Grammar.{is_assume, is_assign, is_call, IsSome, Statements, nothing_more, statement, if_statement, while_statement}
+use Rattle.syntax.specs.Grammar.{Perhaps, IsExpression, IsRight, is_any, is_value, IsMarked, bare, labelled, IsSimple, is_skip, is_return}
+use Rattle.syntax.specs.Grammar.{is_give, is_goto}
+use Rattle.syntax.specs.Grammar.{is_assert, is_assume, is_assign, is_call, is_call_for, IsSome, Statements, nothing_more, statement}
+use Rattle.syntax.specs.Grammar.{if_statement, while_statement}
 use Rattle.trees.specs.Trees.{Deed, simple, branch, repeat, before, marked_before}
-use Rattle.syntax.specs.Exact.{name, names, rights, arguments, condition, marked, assignment, calling, named, branching, repeating, deed_by}
-use Rattle.syntax.specs.Exact.{deed_step, starts, starts_here, item_step, rest_step, section}
+use Rattle.syntax.specs.Exact.{name, names, expression, rights, arguments, condition, marked, assignment, calling, asking, names_call}
+use Rattle.syntax.specs.Exact.{asks_behind, named, giving, returning, branching, repeating, deed_by, deed_step, starts, starts_here}
+use Rattle.syntax.specs.Exact.{item_step, rest_step, section}
 use Rattle.syntax.proofs.KindTests.{same_kind-true, same_kind-is}
 use Rattle.syntax.proofs.Fixes.{bind_is}
 use Rattle.syntax.proofs.Expressions.{take_is}
 use Rattle.syntax.proofs.Exactly.{begins_takes, begins_other}
-use Rattle.syntax.proofs.Parts.{exactly_name, exactly_names, exactly_rights, exactly_arguments, exactly_test, semicolon_stops}
+use Rattle.syntax.proofs.Parts.{exactly_name, exactly_names, exactly_expression, exactly_rights, exactly_arguments, exactly_test}
+use Rattle.syntax.proofs.Parts.{begins_no, names_no_call, semicolon_stops}
 use Rattle.syntax.proofs.Sections.{section_is}
 
 -- what a statement does that begins with a token of each kind
@@ -25,7 +29,7 @@ module _ (f : Parser (Block Name Name Name)) (t : Tok) where
   unfolding same_kind
   by_skip e = rw e refl
 
-  by_return : t.kind ≡ kind.Return → deed_by f t ≡ (take kind.Semicolon >>= λ _. give (simple leave))
+  by_return : t.kind ≡ kind.Return → deed_by f t ≡ returning
   unfolding same_kind
   by_return e = rw e refl
 
@@ -78,12 +82,42 @@ next_no : (k : Kind) (ts us vs : List Tok) → same_kind kind.Comma k ≡ false 
 next_no k ts us vs c a (inl e) t = rw e (begins_other k t a)
 next_no k ts us vs c a (inr e) t = comma_no k ts c e
 
+-- what follows the first target asks for no value of a call
+rights_no_call : {vs ws rest : List Tok} {rs : List (RightSide Name)} → Listed IsRight vs rs ws → Takes kind.Semicolon ws rest
+    → names_call vs ≡ false
+unfolding same_kind names_call
+rights_no_call (listed (is_any (takes e)) m) c = rw e refl
+rights_no_call (listed (is_value r) no_more) c = names_no_call r (begins_other kind.Open c refl)
+rights_no_call (listed (is_value r) (one_more (behind d h) m)) c = names_no_call r (begins_other kind.Open d refl)
+
+next_asks_no : (ts us vs : List Tok) → (ts ≡ us) ⊎ (begins kind.Comma ts ≡ true) → Takes kind.Assign us vs → names_call vs ≡ false
+    → asks_behind ts ≡ false
+unfolding same_kind asks_behind
+next_asks_no ts us vs (inl e) (takes is) h = rw (e, is, h) refl
+next_asks_no [] us vs (inr e) t h = refl
+next_asks_no (t ∷ ts) us vs (inr e) a h = let i : t.kind ≡ kind.Comma = same_kind-true e in rw i refl
+
+asks_so : (t u : Tok) (ts : List Tok) → t.kind ≡ kind.Assign → u.kind ≡ kind.Id → begins kind.Open ts ≡ true
+    → asks_behind (t ∷ u ∷ ts) ≡ true
+unfolding same_kind names_call asks_behind
+asks_so t u ts is named o = rw (is, named, o) refl
+
+opens : (us vs : List Tok) (es : List (Expression Name)) → InParens (Perhaps IsExpression) us es vs → begins kind.Open us ≡ true
+opens us vs es (in_parens o h c) = begins_takes o
+
 -- what statements that hold no others do is read
 simple_reads : (f : Parser (Block Name Name Name)) {ts rest : List Tok} {s : Simple Name Name Name} → IsSimple ts s rest
     → deed_step f ts ≡ Some (simple s, rest)
-unfolding same_kind assignment calling named
+unfolding same_kind assignment calling asking names_call asks_behind named giving
 simple_reads f (is_skip (takes {t = t} {rest = us} is) c) = at us (by_skip f t is) ∙ ends (simple skip) c
-simple_reads f (is_return (takes {t = t} {rest = us} is) c) = at us (by_return f t is) ∙ ends (simple leave) c
+simple_reads f (is_return (takes {t = t} {rest = us} is) c) =
+    at us (by_return f t is) ∙ rw (begins_takes c) (ends (simple leave) c)
+simple_reads f (is_give {vs = vs} {rest = rest} {e = e} (takes {t = t} {rest = us} is) r c) =
+    at us (by_return f t is)
+    ∙ rw (begins_no kind.Semicolon refl r)
+    (bind_is expression (λ e. take kind.Semicolon >>= λ _. give (simple (leave_with e))) us e vs
+    (exactly_expression.reads us e vs r (semicolon_stops vs rest c))
+    ∙ ends (simple (leave_with e)) c)
 simple_reads f (is_goto {vs = vs} {l = l} (takes {t = t} {rest = us} is) h c) =
     at us (by_goto f t is)
     ∙ bind_is name (λ l. take kind.Semicolon >>= λ _. give (simple (goto l))) us l vs (exactly_name.reads us l vs h tt)
@@ -100,7 +134,7 @@ simple_reads f (is_assign {ts = []} (listed h m) a l c) = elim h [ ]
 simple_reads f (is_assign {ts = t ∷ ts} {us = us} {vs = vs} {ws = ws} {rest = rest} {xs = xs} {rs = rs} h a l c) =
     let n = names_next t ts us xs h in
     at ts (by_name f t n.0)
-    ∙ rw (next_no kind.Open ts us vs refl refl n.1 a)
+    ∙ rw (next_no kind.Open ts us vs refl refl n.1 a, next_asks_no ts us vs n.1 a (rights_no_call l c))
     (bind_is names (λ xs. take kind.Assign >>= λ _. rights >>= λ rs. take kind.Semicolon >>= λ _. give (simple (assign xs rs)))
     (t ∷ ts) xs us
     (exactly_names.reads (t ∷ ts) xs us h (tt, begins_other kind.Comma a refl))
@@ -116,9 +150,19 @@ simple_reads f (is_call {vs = vs} {p = p} {es = es} (is_name {t = t} {rest = us}
     ∙ bind_is arguments (λ es. take kind.Semicolon >>= λ _. give (simple (call (name_at t) es))) us es vs
     (exactly_arguments.reads us es vs h tt)
     ∙ ends (simple (call (name_at t) es)) c)
-  where
-    opens : (us vs : List Tok) (es : List (Expression Name)) → InParens (Perhaps IsExpression) us es vs → begins kind.Open us ≡ true
-    opens us vs es (in_parens o h c) = begins_takes o
+simple_reads f (is_call_for {xs = xs} {es = es} (is_name {t = x} is) (takes {t = a} {rest = vs} was)
+    (is_name {t = p} {rest = ws} named) h c) =
+    at (a ∷ vs) (by_name f x is)
+    ∙ rw (begins_other {ts = a ∷ p ∷ ws} kind.Open (takes was) refl, asks_so a p ws was named (opens ws xs es h))
+    (bind_is name
+    (λ x. take kind.Assign >>= λ _. name >>= λ p. arguments >>= λ es. take kind.Semicolon >>= λ _. give (simple (call_for x p es)))
+    (x ∷ a ∷ vs) (name_at x) (a ∷ vs) (exactly_name.reads (x ∷ a ∷ vs) (name_at x) (a ∷ vs) (is_name is) tt)
+    ∙ passing (name >>= λ p. arguments >>= λ es. take kind.Semicolon >>= λ _. give (simple (call_for (name_at x) p es))) (takes was)
+    ∙ bind_is name (λ p. arguments >>= λ es. take kind.Semicolon >>= λ _. give (simple (call_for (name_at x) p es)))
+    (p ∷ ws) (name_at p) ws (exactly_name.reads (p ∷ ws) (name_at p) ws (is_name named) tt)
+    ∙ bind_is arguments (λ es. take kind.Semicolon >>= λ _. give (simple (call_for (name_at x) (name_at p) es))) ws es xs
+    (exactly_arguments.reads ws es xs h tt)
+    ∙ ends (simple (call_for (name_at x) (name_at p) es)) c)
 
 -- no statement goes on as a label would
 if_no : {k : Kind} {ts us : List Tok} {t : Tok} → Takes k (t ∷ ts) us → same_kind k kind.Id ≡ false
@@ -137,6 +181,7 @@ simple_no_label : (t : Tok) (ts rest : List Tok) (s : Simple Name Name Name) →
 unfolding same_kind
 simple_no_label t ts rest s (is_skip (takes e) c) = (rw e refl, rw e refl)
 simple_no_label t ts rest s (is_return (takes e) c) = (rw e refl, rw e refl)
+simple_no_label t ts rest s (is_give (takes e) r c) = (rw e refl, rw e refl)
 simple_no_label t ts rest s (is_goto (takes e) h c) = (rw e refl, rw e refl)
 simple_no_label t ts rest s (is_assert (takes e) h c) = (rw e refl, rw e refl)
 simple_no_label t ts rest s (is_assume (takes e) h c) = (rw e refl, rw e refl)
@@ -144,6 +189,7 @@ simple_no_label t ts rest s (is_assign {us = us} {vs = vs} {xs = xs} h a l c) =
     let n = names_next t ts us xs h in
     (colon_no t ts (next_no kind.Colon ts us vs refl refl n.1 a), rw n.0 refl)
 simple_no_label t ts rest s (is_call (is_name e) (in_parens o h c) d) = (colon_no t ts (begins_other kind.Colon o refl), rw e refl)
+simple_no_label t ts rest s (is_call_for (is_name e) a p h c) = (colon_no t ts (begins_other kind.Colon a refl), rw e refl)
 
 -- marks are read, where what follows goes on as no label does
 marked_reads : {ts us : List Tok} {m : Mark Name} → IsMarked ts m us
@@ -191,11 +237,13 @@ simple_cases {us} {vs} {s} h t ws e = simple_no_label t ws vs s (rw e at h)
 simple_here : (us vs : List Tok) (s : Simple Name Name Name) → IsSimple us s vs → starts_here us ≡ true
 simple_here [] vs s (is_skip t c) = elim t [ ]
 simple_here [] vs s (is_return t c) = elim t [ ]
+simple_here [] vs s (is_give t r c) = elim t [ ]
 simple_here [] vs s (is_goto t h c) = elim t [ ]
 simple_here [] vs s (is_assert t h c) = elim t [ ]
 simple_here [] vs s (is_assume t h c) = elim t [ ]
 simple_here [] vs s (is_assign (listed h m) a l c) = elim h [ ]
 simple_here [] vs s (is_call n h c) = elim n [ ]
+simple_here [] vs s (is_call_for n a p h c) = elim n [ ]
 simple_here (t ∷ us) vs s h = (simple_no_label t us vs s h).1
 
 word_case : {k : Kind} {t : Tok} {ws vs : List Tok} → Takes k (t ∷ ws) vs → same_kind k kind.Id ≡ false → starts k ≡ true

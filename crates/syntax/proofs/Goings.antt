@@ -1,15 +1,17 @@
 -- The steps of the loop that reads statements.
 use Rattle.std.specs.Prelude.{option_and_then}
 use Rattle.std.proofs.Common.{◌≡◌, true, false, List, [], ◌∷◌, ◌++◌, Option, Some, None, refl, sym, ◌∙◌, ap}
-use Rattle.language.specs.Tree.{Name, RightSide, Block, done, Mark}
+use Rattle.language.specs.Tree.{Name, RightSide, leave, Block, done, Mark}
 use Rattle.tokens.specs.declared.vocabulary.Kind.{Kind}
 use Rattle.tokens.specs.declared.vocabulary.Kind.TheVariants as kind
 use Rattle.tokens.specs.declared.vocabulary.Token.{Token}
 use Rattle.tokens.specs.Token.{Tok, toks_of, same_kind}
 use Rattle.syntax.specs.Parser.{Parser, give, ◌>>=◌, begins, take}
-use Rattle.trees.specs.Trees.{Deed, branch, repeat, Item, before, all_before}
+use Rattle.trees.specs.Trees.{Deed, simple, branch, repeat, Item, before, all_before}
 use Rattle.syntax.specs.Exact.{item_step, rest_step, starts_here, section, section_behind, item, going_on, put_before, marked}
-use Rattle.syntax.specs.Exact.{condition, calling, assignment, named, deed_step, deed_by, deed, if_deed, while_deed}
+use Rattle.syntax.specs.Exact.{condition, calling, asking, assignment, asks_behind, named, ended, giving, returning, deed_step, deed_by}
+use Rattle.syntax.specs.Exact.{deed}
+use Rattle.syntax.specs.Exact.{if_deed, while_deed}
 use Rattle.syntax.proofs.Fixes.{bind_is}
 use Rattle.syntax.proofs.Sections.{section_is}
 
@@ -136,16 +138,32 @@ pub deed_begins : (k : Kind) (ts us : List Token) (t : Token) → ts ≡ t ∷ u
 unfolding deed
 deed_begins k ts us t e is = rw (e, is) refl
 
--- a name begins a call or an assignment
+-- `return` stands alone, or a value follows
+pub deed_leaves : (ts us : List Token) (t : Token) → ts ≡ t ∷ us → t.kind ≡ kind.Return
+    → begins kind.Semicolon (toks_of us) ≡ true → deed (toks_of ts) ≡ ended (simple leave) (toks_of us)
+unfolding deed same_kind
+deed_leaves ts us t e is h = rw (e, is, h) refl
+
+pub deed_gives : (ts us : List Token) (t : Token) → ts ≡ t ∷ us → t.kind ≡ kind.Return
+    → begins kind.Semicolon (toks_of us) ≡ false → deed (toks_of ts) ≡ giving (toks_of us)
+unfolding deed same_kind
+deed_gives ts us t e is h = rw (e, is, h) refl
+
+-- a name begins a call, a call for a value or an assignment
 pub deed_calls : (ts us : List Token) (t : Token) → ts ≡ t ∷ us → t.kind ≡ kind.Id
     → begins kind.Open (toks_of us) ≡ true → deed (toks_of ts) ≡ calling (toks_of ts)
 unfolding deed named same_kind
 deed_calls ts us t e is h = rw (e, is, h) refl
 
-pub deed_assigns : (ts us : List Token) (t : Token) → ts ≡ t ∷ us → t.kind ≡ kind.Id
-    → begins kind.Open (toks_of us) ≡ false → deed (toks_of ts) ≡ assignment (toks_of ts)
+pub deed_asks : (ts us : List Token) (t : Token) → ts ≡ t ∷ us → t.kind ≡ kind.Id → begins kind.Open (toks_of us) ≡ false
+    → asks_behind (toks_of us) ≡ true → deed (toks_of ts) ≡ asking (toks_of ts)
 unfolding deed named same_kind
-deed_assigns ts us t e is h = rw (e, is, h) refl
+deed_asks ts us t e is h g = rw (e, is, h, g) refl
+
+pub deed_assigns : (ts us : List Token) (t : Token) → ts ≡ t ∷ us → t.kind ≡ kind.Id → begins kind.Open (toks_of us) ≡ false
+    → asks_behind (toks_of us) ≡ false → deed (toks_of ts) ≡ assignment (toks_of ts)
+unfolding deed named same_kind
+deed_assigns ts us t e is h g = rw (e, is, h, g) refl
 
 -- a statement is a mark and what it does
 pub item_no_mark : (ts : List Tok) → marked ts ≡ None → item ts ≡ None

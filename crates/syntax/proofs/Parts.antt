@@ -1,13 +1,14 @@
 -- The parts of statements, read just as the grammar says.
 use Rattle.std.proofs.Common.{◌≡◌, ℕ, ◌<◌, Bool, true, false, ◌||◌, List, [], ◌∷◌, length, Some, refl, ap, ◌⊎◌, inl, inr}
-use Rattle.language.specs.Tree.{Name, Expression, RightSide, any, value}
+use Rattle.language.specs.Tree.{Name, Operator, Expression, RightSide, any, value}
 use Rattle.tokens.specs.declared.vocabulary.Kind.{Kind}
 use Rattle.tokens.specs.declared.vocabulary.Kind.TheVariants as kind
 use Rattle.tokens.specs.Token.{Tok, same_kind}
 use Rattle.syntax.specs.Parser.{Strict, give, ◌>>=◌, begins, take}
-use Rattle.syntax.specs.Grammar.{Takes, takes, name_at, Reads, reads_zero, reads_one, reads_name, reads_not, reads_paren, reads_two, IsName}
-use Rattle.syntax.specs.Grammar.{is_name, InParens, Listed, Perhaps, IsExpression, IsRight, is_any, is_value}
-use Rattle.syntax.specs.Exact.{binds, name, names, expression, right, rights, formals, arguments, enclosed, condition}
+use Rattle.syntax.specs.Grammar.{Takes, takes, name_at, operator_at, Reads, reads_zero, reads_one, reads_name, reads_not, reads_paren}
+use Rattle.syntax.specs.Grammar.{reads_two}
+use Rattle.syntax.specs.Grammar.{IsName, is_name, InParens, Listed, Perhaps, IsExpression, IsRight, is_any, is_value}
+use Rattle.syntax.specs.Exact.{binds, name, names, expression, right, rights, formals, arguments, enclosed, condition, names_call}
 use Rattle.syntax.proofs.KindTests.{same_kind-true, same_kind-is}
 use Rattle.syntax.proofs.Fixes.{carried, between, bind_is, Strict-Shrinks, Shrinks-give, Strict-take, Strict-bind}
 use Rattle.syntax.proofs.Expressions.{Stops, stops_end, stops_at, take_is, take_finds, reading_finds, reading_complete, reading_strict}
@@ -55,6 +56,25 @@ begins_no k h (reads_name {t = t} e) = apart t.kind k (rw e refl) h
 begins_no k h (reads_not {t = t} e r) = apart t.kind k (rw e refl) h
 begins_no k h (reads_paren {t = t} e r c) = apart t.kind k (rw e refl) h
 begins_no k h (reads_two o low left op r) = begins_no k h left
+
+-- behind a name at the beginning of an expression comes an operator or what follows the expression, and so no `(`
+operator_no_open : (t : Tok) (us : List Tok) (o : Operator) → operator_at t.kind ≡ Some o → begins kind.Open (t ∷ us) ≡ false
+unfolding same_kind
+operator_no_open t us o e = by_test (same_kind t.kind kind.Open) refl
+  where
+    by_test : (b : Bool) → same_kind t.kind kind.Open ≡ b → b ≡ false
+    by_test false s = refl
+    by_test true s = let h : t.kind ≡ kind.Open = same_kind-true s in let i : operator_at kind.Open ≡ Some o = rw h at e in cc
+
+pub names_no_call : {l : ℕ} {ts rest : List Tok} {e : Expression Name} → Reads l ts e rest → begins kind.Open rest ≡ false
+    → names_call ts ≡ false
+unfolding same_kind names_call
+names_no_call (reads_zero is) h = rw is refl
+names_no_call (reads_one is) h = rw is refl
+names_no_call (reads_name is) h = rw (is, h) refl
+names_no_call (reads_not is r) h = rw is refl
+names_no_call (reads_paren is r c) h = rw is refl
+names_no_call (reads_two {t = t} {us = us} o low first op second) h = names_no_call first (operator_no_open t us o op)
 
 -- expressions
 pub strict_expression : Strict expression

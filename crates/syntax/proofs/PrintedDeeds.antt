@@ -1,10 +1,10 @@
 -- Texts of what statements do, as they grow.
-use Rattle.std.proofs.Common.{◌≡◌, ℕ, ◌+◌, cond, List, ◌++◌, refl, sym, ◌∙◌, ap, append_assoc, suc, add-one, codes}
+use Rattle.std.proofs.Common.{◌≡◌, ℕ, ◌+◌, cond, List, [], ◌∷◌, ◌++◌, refl, sym, ◌∙◌, ap, append_assoc, suc, add-one, codes}
 use Rattle.std.specs.Prelude.{Result, IfOk, is_ok}
 use Rattle.std.specs.declared.vec.Vec.{Vec}
 use Rattle.language.specs.Tree as tree
-use Rattle.language.specs.Tree.{Expression, RightSide, Simple, skip, assign, assert, assume, goto, leave, call, Block}
-use Rattle.tokens.specs.Parts.{text_of}
+use Rattle.language.specs.Tree.{Expression, RightSide, Simple, skip, assign, assert, assume, goto, leave, leave_with, call, call_for, Block}
+use Rattle.tokens.specs.Parts.{line, text_of}
 use Rattle.tokens.proofs.PartsCut.{text_of-append}
 use Rattle.trees.specs.declared.tree.Name.{Name}
 use Rattle.trees.specs.declared.tree.Expr.{Expr}
@@ -12,11 +12,11 @@ use Rattle.trees.specs.declared.tree.Rhs.{Rhs}
 use Rattle.trees.specs.declared.tree.Stmt.{Stmt}
 use Rattle.trees.specs.declared.tree.Core.{Core}
 use Rattle.trees.specs.declared.tree.Core.TheVariants as core
-use Rattle.trees.specs.Trees.{name_of, names_of, exprs_of, rhs_of, rhss_of, Deed, simple, branch, repeat, deed_of, block_of}
-use Rattle.syntax.specs.Printed.{name_parts, separated, expression_parts, side_parts, margin, block_parts}
+use Rattle.trees.specs.Trees.{name_of, names_of, expr_of, exprs_of, rhs_of, rhss_of, Deed, simple, branch, repeat, deed_of, block_of}
+use Rattle.syntax.specs.Printed.{name_parts, separated, expression_parts, side_parts, ended, margin, block_parts}
 use Rattle.syntax.specs.PrintedDeed.{deed_parts}
 use Rattle.trees.proofs.Folds.{deed_of-Skip, deed_of-Return, deed_of-Goto, deed_of-Assign, deed_of-Assert, deed_of-Assume}
-use Rattle.trees.proofs.Folds.{deed_of-Call, deed_of-If, deed_of-While}
+use Rattle.trees.proofs.Folds.{deed_of-Call, deed_of-Give, deed_of-CallTo, deed_of-If, deed_of-While}
 use Rattle.syntax.proofs.Appended.{four_behind, five_behind}
 use Rattle.syntax.proofs.Prints.{pushed_last, put_last}
 
@@ -29,6 +29,18 @@ call_text : (level : ℕ) (p : tree.Name) (es : List (Expression tree.Name))
     → text_of (deed_parts level (simple (call p es))) ≡ text_of (name_parts p)
     ++ (codes "(" ++ (text_of (separated expression_parts es) ++ codes ");\n"))
 call_text level p es = simp (text_of-append, append_assoc)
+
+call_for_text : (level : ℕ) (x p : tree.Name) (es : List (Expression tree.Name))
+    → text_of (deed_parts level (simple (call_for x p es)))
+    ≡ text_of (name_parts x) ++ (codes " := " ++ text_of (deed_parts level (simple (call p es))))
+call_for_text level x p es = simp (text_of-append, append_assoc)
+
+value_text : (e : Expression tree.Name) → text_of (ended (expression_parts e) ++ (line ∷ [])) ≡ text_of (expression_parts e) ++ codes ";\n"
+value_text e = simp (text_of-append, append_assoc)
+
+give_text : (level : ℕ) (e : Expression tree.Name) → text_of (deed_parts level (simple (leave_with e)))
+    ≡ codes "return " ++ (text_of (expression_parts e) ++ codes ";\n")
+give_text level e = ap (λ (t : List ℕ). codes "return " ++ t) (value_text e)
 
 assert_text : (level : ℕ) (r : RightSide tree.Name) → text_of (deed_parts level (simple (assert r)))
     ≡ codes "assert(" ++ (text_of (side_parts r) ++ codes ");\n")
@@ -67,6 +79,24 @@ module _ {A X E : Type 0} (r : Result X E) (old new s1 s2 s3 : List ℕ) where
   call_pushed p exprs h1 h2 h3 last =
       pushed_last r new s3 _ _ last
       (rw (h3, h2, h1) (four_behind old _ _ _ _ ∙ ap (λ (t : List ℕ). old ++ t) (sym (call_text 0 (name_of p) (exprs_of exprs)))))
+
+module _ {A X E : Type 0} (r : Result X E) (old new s1 s2 : List ℕ) where
+  pub asked_pushed : (x p : Name A) (exprs : List (Expr A))
+      → s1 ≡ old ++ text_of (name_parts (name_of x)) → s2 ≡ s1 ++ codes " := "
+      → IfOk r (λ _. new ≡ s2 ++ text_of (deed_parts 0 (simple (call (name_of p) (exprs_of exprs)))))
+      → IfOk r (λ _. new ≡ old ++ text_of (deed_parts 0 (simple (call_for (name_of x) (name_of p) (exprs_of exprs)))))
+  asked_pushed x p exprs h1 h2 last =
+      put_last r new s2 _ _ last
+      (rw (h2, h1) (append_assoc (old ++ text_of (name_parts (name_of x))) _ _ ∙ append_assoc old _ _
+      ∙ ap (λ (t : List ℕ). old ++ t) (sym (call_for_text 0 (name_of x) (name_of p) (exprs_of exprs)))))
+
+  pub given_pushed : (value : Expr A) → s1 ≡ old ++ codes "return " → s2 ≡ s1 ++ text_of (expression_parts (expr_of value))
+      → new ≡ cond (is_ok r) (s2 ++ codes ";\n") s2
+      → IfOk r (λ _. new ≡ old ++ text_of (deed_parts 0 (simple (leave_with (expr_of value)))))
+  given_pushed value h1 h2 last =
+      pushed_last r new s2 _ _ last
+      (rw (h2, h1) (append_assoc (old ++ codes "return ") _ _ ∙ append_assoc old _ _
+      ∙ ap (λ (t : List ℕ). old ++ t) (sym (give_text 0 (expr_of value)))))
 
 module _ {A X E : Type 0} (level inner : ℕ) (r : Result X E) (old new : List ℕ) (side : Rhs A) (xs : List (Stmt A))
     (below : inner ≡ level + 1) where
@@ -115,6 +145,17 @@ module _ {A X E : Type 0} (level : ℕ) (r : Result X E) (k : Core A) (old new :
   called p es exprs is e last =
       put_last r new old _ _ last
       (rw e (deed_text (simple (call (name_of p) (exprs_of es.items))) _ (ap deed_of is ∙ deed_of-Call p es) refl))
+
+  pub asked : (x p : Name A) (es : Vec (Expr A) A) (exprs : List (Expr A)) → k ≡ core.CallTo x p es → exprs ≡ es.items
+      → IfOk r (λ _. new ≡ old ++ text_of (deed_parts 0 (simple (call_for (name_of x) (name_of p) (exprs_of exprs))))) → Adds
+  asked x p es exprs is e last =
+      put_last r new old _ _ last
+      (rw e (deed_text (simple (call_for (name_of x) (name_of p) (exprs_of es.items))) _ (ap deed_of is ∙ deed_of-CallTo x p es) refl))
+
+  pub given : (value : Expr A) → k ≡ core.Give value
+      → IfOk r (λ _. new ≡ old ++ text_of (deed_parts 0 (simple (leave_with (expr_of value))))) → Adds
+  given value is last =
+      put_last r new old _ _ last (deed_text (simple (leave_with (expr_of value))) _ (ap deed_of is ∙ deed_of-Give value) refl)
 
   pub asserted : (side : Rhs A) → k ≡ core.Assert side
       → IfOk r (λ _. new ≡ old ++ (codes "assert(" ++ (text_of (side_parts (rhs_of side)) ++ codes ");\n"))) → Adds

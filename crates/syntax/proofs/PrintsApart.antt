@@ -3,8 +3,8 @@ use Rattle.std.proofs.Common.{◌≡◌, ℕ, zero, suc, true, false, List, [], 
 use Rattle.std.proofs.Common.{inr, Option, None, Some}
 use Rattle.std.specs.List.{AllByRecursion}
 use Rattle.language.specs.Tree.{Name, Operator, implies, or, xor, and, equal, differs, Expression, const, var, negation, two, RightSide}
-use Rattle.language.specs.Tree.{any, value, Simple, skip, assign, assert, assume, goto, leave, call, Block, done, one, choose, loop}
-use Rattle.language.specs.Tree.{Procedure, ThreadLine, Tree}
+use Rattle.language.specs.Tree.{any, value, Simple, skip, assign, assert, assume, goto, leave, leave_with, call, call_for, Block, done}
+use Rattle.language.specs.Tree.{one, choose, loop, Procedure, ThreadLine, Tree}
 use Rattle.tokens.specs.declared.vocabulary.Kind.{Kind}
 use Rattle.tokens.specs.declared.vocabulary.Kind.TheVariants as kind
 use Rattle.tokens.specs.Spelling.{reserved, name}
@@ -149,9 +149,20 @@ ended_fits parts fits more apart =
     put _ (parts ++ (fixed kind.Semicolon ∷ more)) (append_assoc parts (fixed kind.Semicolon ∷ []) more)
     (fits (fixed kind.Semicolon ∷ more) (semicolon more apart))
 
+call_fits : (p : Name) (es : List (Expression Name)) → IsId p → AllByRecursion ExpressionInGrammar es → Fits (printed.call_parts p es)
+call_fits p es is all after tail = (
+  inl (name is),
+  refl,
+  parens_fit (separated expression_parts es)
+      (list_fits ExpressionInGrammar expression_parts expression_fits es all) after tail.apart,
+)
+
 simple_fits : (s : Simple Name Name Name) → SimpleInGrammar s → (more : List Part) → AreApart more → AreApart (simple_parts s ++ more)
 simple_fits skip ok more apart = (inl (reserved refl), refl, (inr refl, semicolon_free more, apart))
 simple_fits leave ok more apart = (inl (reserved refl), refl, (inr refl, semicolon_free more, apart))
+simple_fits (leave_with e) ok more apart =
+    ended_fits (fixed kind.Return ∷ space ∷ expression_parts e)
+    (λ after tail. (inl (reserved refl), tt, expression_fits e ok after tail)) more apart
 simple_fits (goto l) ok more apart = (inl (reserved refl), tt, (inl (name ok), refl, (inr refl, semicolon_free more, apart)))
 simple_fits (assert r) ok more apart =
     ended_fits (fixed kind.Assert ∷ printed.in_parens (side_parts r))
@@ -169,13 +180,10 @@ simple_fits (assign xs rs) ok more apart =
     (inr refl, tt, list_fits SideInGrammar side_parts side_fits rs ok.3 after tail))))
     more apart
 simple_fits (call p es) ok more apart =
-    ended_fits (name_parts p ++ printed.in_parens (separated expression_parts es))
-    (λ after tail. (
-      inl (name ok.0),
-      refl,
-      parens_fit (separated expression_parts es)
-          (list_fits ExpressionInGrammar expression_parts expression_fits es ok.1) after tail.apart,
-    )) more apart
+    ended_fits (printed.call_parts p es) (call_fits p es ok.0 ok.1) more apart
+simple_fits (call_for x p es) ok more apart =
+    ended_fits (name_parts x ++ (space ∷ fixed kind.Assign ∷ space ∷ printed.call_parts p es))
+    (λ after tail. (inl (name ok.0), tt, (inr refl, tt, call_fits p es ok.1 ok.2 after tail))) more apart
 
 label_fits : (l : Option Name) → LabelInGrammar l → (more : List Part) → AreApart more → AreApart (label_parts l ++ more)
 label_fits None ok more apart = apart

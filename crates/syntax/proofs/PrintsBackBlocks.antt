@@ -1,14 +1,16 @@
 -- The tokens of printed statements and blocks, by the grammar.
 use Rattle.std.proofs.Common.{◌≡◌, ℕ, zero, suc, ◌+◌, List, [], ◌∷◌, ◌++◌, length, map, refl, sym, ◌∙◌, ap, subst, append_assoc, arith}
 use Rattle.std.proofs.Common.{Option, None, Some}
-use Rattle.language.specs.Tree.{Name, RightSide, Simple, skip, assign, assert, assume, goto, leave, call, Block, done, one, choose, loop}
+use Rattle.language.specs.Tree.{Name, Expression, RightSide, Simple, skip, assign, assert, assume, goto, leave, leave_with, call, call_for}
+use Rattle.language.specs.Tree.{Block, done, one, choose, loop}
 use Rattle.tokens.specs.declared.vocabulary.Kind.{Kind}
 use Rattle.tokens.specs.declared.vocabulary.Kind.TheVariants as kind
 use Rattle.tokens.specs.Token.{Tok}
 use Rattle.tokens.specs.Parts.{Part, shown, space, line, spelling, fixed, tokens_of}
 use Rattle.syntax.specs.Grammar.{Takes, takes, IsName, is_name, InParens, Perhaps, IsExpression, IsRight, IsMarked, bare, labelled}
-use Rattle.syntax.specs.Grammar.{IsSimple, is_skip, is_return, is_goto, is_assert, is_assume, is_assign, is_call, IsSome, Statements}
-use Rattle.syntax.specs.Grammar.{nothing_more, statement, if_statement, while_statement}
+use Rattle.syntax.specs.Grammar.{IsSimple, is_skip, is_return, is_give, is_goto, is_assert, is_assume, is_assign, is_call, is_call_for}
+use Rattle.syntax.specs.Grammar.{IsSome}
+use Rattle.syntax.specs.Grammar.{Statements, nothing_more, statement, if_statement, while_statement}
 use Rattle.syntax.specs.Offsets.{unplaced, unplaced_expression, unplaced_side, unplaced_simple, unplaced_mark, unplaced_block}
 use Rattle.syntax.specs.InGrammar.{SimpleInGrammar, BlockInGrammar}
 use Rattle.syntax.specs.Printed as printed
@@ -20,9 +22,25 @@ use Rattle.syntax.proofs.PrintsBack.{Read, Shows, put, expression_shows, side_sh
 side_in_parens : (r : RightSide Name) → Shows (InParens IsRight) unplaced_side (printed.in_parens (side_parts r)) r
 side_in_parens r = parens_show IsRight unplaced_side (side_parts r) r (side_shows r)
 
+arguments_show : (es : List (Expression Name))
+    → Shows (InParens (Perhaps IsExpression)) (map unplaced_expression) (printed.in_parens (separated expression_parts es)) es
+arguments_show es =
+    parens_show (Perhaps IsExpression) (map unplaced_expression) (separated expression_parts es) es
+    (perhaps_shows IsExpression unplaced_expression expression_parts expression_shows es)
+
 pub simple_shows : (s : Simple Name Name Name) → SimpleInGrammar s → Shows IsSimple unplaced_simple (simple_parts s) s
 simple_shows skip ok at more = record { found = skip; next = at + 4 + 1; same = refl; reads = is_skip (takes refl) (takes refl) }
 simple_shows leave ok at more = record { found = leave; next = at + 6 + 1; same = refl; reads = is_return (takes refl) (takes refl) }
+simple_shows (leave_with e) ok at more =
+    let given = expression_shows e (at + 6 + 1) (fixed kind.Semicolon ∷ more) in
+    put at _ (fixed kind.Return ∷ space ∷ (expression_parts e ++ (fixed kind.Semicolon ∷ more)))
+    (ap (λ (ps : List Part). fixed kind.Return ∷ space ∷ ps) (append_assoc (expression_parts e) (fixed kind.Semicolon ∷ []) more))
+    (record {
+      found = leave_with given.found;
+      next = given.next + 1;
+      same = ap leave_with given.same;
+      reads = is_give (takes refl) given.reads (takes refl);
+    })
 simple_shows (goto l) ok at more =
     record {
       found = goto (record { text = l.text; at = at + 4 + 1 });
@@ -66,10 +84,7 @@ simple_shows (assign xs rs) ok at more =
       reads = is_assign targets.reads (takes refl) sides.reads (takes refl);
     })
 simple_shows (call p es) ok at more =
-    let inside =
-    parens_show (Perhaps IsExpression) (map unplaced_expression) (separated expression_parts es) es
-    (perhaps_shows IsExpression unplaced_expression expression_parts expression_shows es) (at + length p.text)
-    (fixed kind.Semicolon ∷ more) in
+    let inside = arguments_show es (at + length p.text) (fixed kind.Semicolon ∷ more) in
     put at _ (shown kind.Id p.text ∷ (printed.in_parens (separated expression_parts es) ++ (fixed kind.Semicolon ∷ more)))
     (ap (λ (ps : List Part). shown kind.Id p.text ∷ ps)
     (append_assoc (printed.in_parens (separated expression_parts es)) (fixed kind.Semicolon ∷ []) more))
@@ -79,17 +94,33 @@ simple_shows (call p es) ok at more =
       same = ap (call (unplaced p)) inside.same;
       reads = is_call (is_name refl) inside.reads (takes refl);
     })
+simple_shows (call_for x p es) ok at more =
+    let called : ℕ = at + length x.text + 1 + 2 + 1 in
+    let inside = arguments_show es (called + length p.text) (fixed kind.Semicolon ∷ more) in
+    put at _
+    (shown kind.Id x.text ∷ space ∷ fixed kind.Assign ∷ space ∷ shown kind.Id p.text
+    ∷ (printed.in_parens (separated expression_parts es) ++ (fixed kind.Semicolon ∷ more)))
+    (ap (λ (ps : List Part). shown kind.Id x.text ∷ space ∷ fixed kind.Assign ∷ space ∷ shown kind.Id p.text ∷ ps)
+    (append_assoc (printed.in_parens (separated expression_parts es)) (fixed kind.Semicolon ∷ []) more))
+    (record {
+      found = call_for (record { text = x.text; at = at }) (record { text = p.text; at = called }) inside.found;
+      next = inside.next + 1;
+      same = ap (call_for (unplaced x) (unplaced p)) inside.same;
+      reads = is_call_for (is_name refl) (takes refl) (is_name refl) inside.reads (takes refl);
+    })
 
 simple_begun : (s : Simple Name Name Name) → SimpleInGrammar s → (more : List Part)
     → (k : Kind) × (w : List ℕ) × (others : List Part) × (simple_parts s ++ more ≡ shown k w ∷ others)
 simple_begun skip ok more = (_, _, _, refl)
 simple_begun leave ok more = (_, _, _, refl)
+simple_begun (leave_with e) ok more = (_, _, _, refl)
 simple_begun (goto l) ok more = (_, _, _, refl)
 simple_begun (assert r) ok more = (_, _, _, refl)
 simple_begun (assume r) ok more = (_, _, _, refl)
 simple_begun (assign [] rs) ok more = absurd (omega arith)
 simple_begun (assign (x ∷ xs) rs) ok more = (_, _, _, refl)
 simple_begun (call p es) ok more = (_, _, _, refl)
+simple_begun (call_for x p es) ok more = (_, _, _, refl)
 
 mark_shows : (label : Option Name) (placed : ℕ) (k : Kind) (w : List ℕ) (others more : List Part) → more ≡ shown k w ∷ others → (at : ℕ)
     → Read IsMarked unplaced_mark (record { label = label; at = placed }) (tokens_of at (label_parts label ++ more)) more

@@ -1,18 +1,19 @@
 -- The function that reads statements, and the grammar of statements: that it reads no more than it is given.
 use Rattle.std.proofs.Common.{◌≡◌, ℕ, suc, ◌<◌, ◌≤◌, Bool, true, false, cond, ◌&&◌, List, [], ◌∷◌, length, Option, Some, None, refl, arith}
 use Rattle.std.proofs.Common.{◌⊎◌, inl, inr}
-use Rattle.language.specs.Tree.{Name, assign, call, Mark, Block, done}
+use Rattle.language.specs.Tree.{Name, assign, leave, leave_with, call, call_for, Mark, Block, done}
 use Rattle.tokens.specs.declared.vocabulary.Kind.TheVariants as kind
 use Rattle.tokens.specs.Token.{Tok, same_kind}
 use Rattle.syntax.specs.Parser.{Parser, Strict, give, refuse, ◌>>=◌, begins, take}
 use Rattle.syntax.specs.Grammar.{name_at}
 use Rattle.trees.specs.Trees.{Deed, simple, branch, repeat, before}
-use Rattle.syntax.specs.Exact.{condition, marked, assignment, calling, named, branching, repeating, deed_by, deed_step, starts_here}
+use Rattle.syntax.specs.Exact.{condition, marked, assignment, calling, asking, asks_behind, named, giving, returning, branching, repeating}
+use Rattle.syntax.specs.Exact.{deed_by, deed_step, starts_here}
 use Rattle.syntax.specs.Exact.{item_step, rest_step, section_step, section}
 use Rattle.syntax.proofs.Fixes.{both, Shrinks, Agree, Strict-Shrinks, Shrinks-give, Shrinks-refuse, Strict-take, Shrinks-bind, Strict-bind}
 use Rattle.syntax.proofs.Fixes.{Shrinks-Strict-bind, Agree-same, Agree-bind, Agree-Strict-bind, Shrinks-cond, IsStep, fix_shrinks, fix_is}
 use Rattle.syntax.proofs.Exactly.{chosen}
-use Rattle.syntax.proofs.Parts.{strict_name, strict_names, strict_rights, strict_arguments, strict_test}
+use Rattle.syntax.proofs.Parts.{strict_name, strict_names, strict_rights, strict_arguments, strict_expression, strict_test}
 
 pub strict_assignment : Strict assignment
 unfolding assignment
@@ -32,18 +33,45 @@ strict_calling =
     Shrinks-bind (Strict-Shrinks strict_arguments)
     (λ es. Shrinks-bind (Strict-Shrinks (Strict-take kind.Semicolon)) (λ _. Shrinks-give (simple (call p es)))))
 
+pub strict_asking : Strict asking
+unfolding asking
+strict_asking =
+    Strict-bind strict_name
+    (λ x.
+    Shrinks-bind (Strict-Shrinks (Strict-take kind.Assign))
+    (λ _.
+    Shrinks-bind (Strict-Shrinks strict_name)
+    (λ p.
+    Shrinks-bind (Strict-Shrinks strict_arguments)
+    (λ es. Shrinks-bind (Strict-Shrinks (Strict-take kind.Semicolon)) (λ _. Shrinks-give (simple (call_for x p es)))))))
+
+pub strict_giving : Strict giving
+unfolding giving
+strict_giving =
+    Strict-bind strict_expression
+    (λ e. Shrinks-bind (Strict-Shrinks (Strict-take kind.Semicolon)) (λ _. Shrinks-give (simple (leave_with e))))
+
+pub shrinks_returning : Shrinks returning
+shrinks_returning = record { by = λ ts d rest e. by_test ts d rest (begins kind.Semicolon ts) e }
+  where
+    by_test : (ts : List Tok) (d : Deed) (rest : List Tok) (b : Bool)
+        → cond {A = Option (Deed × List Tok)} b ((take kind.Semicolon >>= λ _. give (simple leave)) ts) (giving ts) ≡ Some (d, rest)
+        → length rest ≤ length ts
+    by_test ts d rest true e =
+        let j : length rest < length ts = (Strict-bind (Strict-take kind.Semicolon) (λ _. Shrinks-give (simple leave))).by ts d rest e in
+        omega arith
+    by_test ts d rest false e = let j : length rest < length ts = strict_giving.by ts d rest e in omega arith
+
 pub shrinks_named : (t : Tok) → Shrinks (named t)
 unfolding named
-shrinks_named t = record {
-  by =
-      λ ts x rest e. by_choice ts x rest (chosen (begins kind.Open ts) (calling (t ∷ ts)) (assignment (t ∷ ts)) (Some (x, rest)) e);
-}
+shrinks_named t = record { by = λ ts d rest e. by_tests ts d rest (begins kind.Open ts) (asks_behind ts) e }
   where
-    by_choice : (ts : List Tok) (x : Deed) (rest : List Tok)
-        → ((begins kind.Open ts ≡ true) × (calling (t ∷ ts) ≡ Some (x, rest)))
-        ⊎ ((begins kind.Open ts ≡ false) × (assignment (t ∷ ts) ≡ Some (x, rest))) → length rest ≤ length ts
-    by_choice ts x rest (inl h) = let j : length rest < length (t ∷ ts) = strict_calling.by (t ∷ ts) x rest h.1 in omega arith
-    by_choice ts x rest (inr h) = let j : length rest < length (t ∷ ts) = strict_assignment.by (t ∷ ts) x rest h.1 in omega arith
+    by_tests : (ts : List Tok) (d : Deed) (rest : List Tok) (b c : Bool)
+        → cond {A = Option (Deed × List Tok)} b (calling (t ∷ ts)) (cond c (asking (t ∷ ts)) (assignment (t ∷ ts))) ≡ Some (d, rest)
+        → length rest ≤ length ts
+    by_tests ts d rest true c e = let j : length rest < length (t ∷ ts) = strict_calling.by (t ∷ ts) d rest e in omega arith
+    by_tests ts d rest false true e = let j : length rest < length (t ∷ ts) = strict_asking.by (t ∷ ts) d rest e in omega arith
+    by_tests ts d rest false false e = let j : length rest < length (t ∷ ts) = strict_assignment.by (t ∷ ts) d rest e in omega arith
 
 pub shrinks_marked : Shrinks marked
 unfolding marked
@@ -80,6 +108,7 @@ module _ (f g : Parser (Block Name Name Name)) (s : Shrinks f) where
         branching_shrinks,
         repeating_shrinks,
         shrinks_named,
+        shrinks_returning,
         strict_name,
         strict_test,
         Strict-take,

@@ -1,19 +1,22 @@
 -- The function that reads statements is sound and complete for the grammar of statements.
 use Rattle.std.proofs.Common.{◌≡◌, Bool, true, false, cond, ◌&&◌, List, [], ◌∷◌, Option, Some, None, refl, ◌⊎◌, inl, inr}
-use Rattle.language.specs.Tree.{Name, Simple, skip, assign, assert, assume, goto, leave, call, Mark, Block, done}
+use Rattle.language.specs.Tree.{Name, Simple, skip, assign, assert, assume, goto, leave, leave_with, call, call_for, Mark, Block, done}
 use Rattle.tokens.specs.declared.vocabulary.Kind.TheVariants as kind
 use Rattle.tokens.specs.Token.{Tok, same_kind}
 use Rattle.syntax.specs.Parser.{Parser, give, refuse, ◌>>=◌, begins, take}
-use Rattle.syntax.specs.Grammar.{takes, name_at, IsMarked, bare, labelled, IsSimple, is_skip, is_return, is_goto, is_assert, is_assume}
-use Rattle.syntax.specs.Grammar.{is_assign, is_call, IsSome, Statements, nothing_more, statement, if_statement, while_statement}
+use Rattle.syntax.specs.Grammar.{takes, name_at, IsMarked, bare, labelled, IsSimple, is_skip, is_return, is_give, is_goto, is_assert}
+use Rattle.syntax.specs.Grammar.{is_assume, is_assign, is_call, is_call_for, IsSome, Statements, nothing_more, statement, if_statement}
+use Rattle.syntax.specs.Grammar.{while_statement}
 use Rattle.trees.specs.Trees.{Deed, simple, branch, repeat, Item, before, marked_before}
-use Rattle.syntax.specs.Exact.{name, names, rights, arguments, condition, marked, assignment, calling, named, branching, repeating, deed_by}
-use Rattle.syntax.specs.Exact.{deed_step, starts_here, item_step, rest_step, section_step, section}
+use Rattle.syntax.specs.Exact.{name, names, expression, rights, arguments, condition, marked, assignment, calling, asking, asks_behind}
+use Rattle.syntax.specs.Exact.{named}
+use Rattle.syntax.specs.Exact.{giving, returning, branching, repeating, deed_by, deed_step, starts_here, item_step, rest_step, section_step}
+use Rattle.syntax.specs.Exact.{section}
 use Rattle.syntax.proofs.KindTests.{same_kind-true}
 use Rattle.syntax.proofs.Fixes.{carried, between, Finds, fix_finds}
 use Rattle.syntax.proofs.Expressions.{take_finds}
 use Rattle.syntax.proofs.Exactly.{chosen}
-use Rattle.syntax.proofs.Parts.{exactly_name, exactly_names, exactly_rights, exactly_arguments, exactly_test}
+use Rattle.syntax.proofs.Parts.{exactly_name, exactly_names, exactly_expression, exactly_rights, exactly_arguments, exactly_test}
 
 -- marks
 marked_at : (t : Tok) (ts : List Tok) (b : Bool) → same_kind t.kind kind.Id && begins kind.Colon ts ≡ b → (m : Mark Name) (rest : List Tok)
@@ -75,17 +78,38 @@ calling_finds ts d rest e =
     (take_finds kind.Semicolon c.us f.x f.us f.first).0)
     d rest f.second
 
+asking_finds : (ts : List Tok) → FindsDeed asking ts
+unfolding asking
+asking_finds ts d rest e =
+    let b =
+    between name
+    (λ x. take kind.Assign >>= λ _. name >>= λ p. arguments >>= λ es. take kind.Semicolon >>= λ _. give (simple (call_for x p es)))
+    ts d rest e in
+    let c =
+    between (take kind.Assign)
+    (λ _. name >>= λ p. arguments >>= λ es. take kind.Semicolon >>= λ _. give (simple (call_for b.x p es))) b.us d rest b.second in
+    let f =
+    between name (λ p. arguments >>= λ es. take kind.Semicolon >>= λ _. give (simple (call_for b.x p es))) c.us d rest c.second in
+    let g = between arguments (λ es. take kind.Semicolon >>= λ _. give (simple (call_for b.x f.x es))) f.us d rest f.second in
+    let h = between (take kind.Semicolon) (λ _. give (simple (call_for b.x f.x g.x))) g.us d rest g.second in
+    plain_found ts (call_for b.x f.x g.x) h.us
+    (is_call_for (exactly_name.finds ts b.x b.us b.first) (take_finds kind.Assign b.us c.x c.us c.first).0
+    (exactly_name.finds c.us f.x f.us f.first) (exactly_arguments.finds f.us g.x g.us g.first)
+    (take_finds kind.Semicolon g.us h.x h.us h.first).0)
+    d rest h.second
+
 named_finds : (t : Tok) (ts : List Tok) → (d : Deed) (rest : List Tok) → named t ts ≡ Some (d, rest) → (us : List Tok) (m : Mark Name)
     → IsMarked us m (t ∷ ts) → (k : Block Name Name Name) (vs : List Tok) → Statements rest k vs → Statements us (marked_before m d k) vs
 unfolding named
-named_finds t ts d rest e = by_choice (chosen (begins kind.Open ts) (calling (t ∷ ts)) (assignment (t ∷ ts)) (Some (d, rest)) e)
+named_finds t ts d rest e = by_tests (begins kind.Open ts) (asks_behind ts) e
   where
-    by_choice : ((begins kind.Open ts ≡ true) × (calling (t ∷ ts) ≡ Some (d, rest)))
-        ⊎ ((begins kind.Open ts ≡ false) × (assignment (t ∷ ts) ≡ Some (d, rest))) → (us : List Tok) (m : Mark Name)
-        → IsMarked us m (t ∷ ts) → (k : Block Name Name Name) (vs : List Tok) → Statements rest k vs
+    by_tests : (b c : Bool)
+        → cond {A = Option (Deed × List Tok)} b (calling (t ∷ ts)) (cond c (asking (t ∷ ts)) (assignment (t ∷ ts))) ≡ Some (d, rest)
+        → (us : List Tok) (m : Mark Name) → IsMarked us m (t ∷ ts) → (k : Block Name Name Name) (vs : List Tok) → Statements rest k vs
         → Statements us (marked_before m d k) vs
-    by_choice (inl h) = calling_finds (t ∷ ts) d rest h.1
-    by_choice (inr h) = assignment_finds (t ∷ ts) d rest h.1
+    by_tests true c e = calling_finds (t ∷ ts) d rest e
+    by_tests false true e = asking_finds (t ∷ ts) d rest e
+    by_tests false false e = assignment_finds (t ∷ ts) d rest e
 
 -- what reading statements finds
 abbrev Found : Unit {0} → List Tok → Block Name Name Name → List Tok → Type 0
@@ -97,10 +121,26 @@ module _ (f : Unit {0} → Parser (Block Name Name Name)) (sound : Finds Found f
       let b = between (take kind.Semicolon) (λ _. give (simple skip)) ts d rest e in
       plain_found (t ∷ ts) skip b.us (is_skip (takes is) (take_finds kind.Semicolon ts b.x b.us b.first).0) d rest b.second
 
-  return_finds : t.kind ≡ kind.Return → FindsDeed (λ us. (take kind.Semicolon >>= λ _. give (simple leave)) ts) (t ∷ ts)
-  return_finds is d rest e =
+  leave_finds : t.kind ≡ kind.Return → FindsDeed (λ us. (take kind.Semicolon >>= λ _. give (simple leave)) ts) (t ∷ ts)
+  leave_finds is d rest e =
       let b = between (take kind.Semicolon) (λ _. give (simple leave)) ts d rest e in
       plain_found (t ∷ ts) leave b.us (is_return (takes is) (take_finds kind.Semicolon ts b.x b.us b.first).0) d rest b.second
+
+  give_finds : t.kind ≡ kind.Return → FindsDeed (λ us. giving ts) (t ∷ ts)
+  unfolding giving
+  give_finds is d rest e =
+      let b = between expression (λ e. take kind.Semicolon >>= λ _. give (simple (leave_with e))) ts d rest e in
+      let c = between (take kind.Semicolon) (λ _. give (simple (leave_with b.x))) b.us d rest b.second in
+      plain_found (t ∷ ts) (leave_with b.x) c.us
+      (is_give (takes is) (exactly_expression.finds ts b.x b.us b.first) (take_finds kind.Semicolon b.us c.x c.us c.first).0)
+      d rest c.second
+
+  return_finds : t.kind ≡ kind.Return → FindsDeed (λ us. returning ts) (t ∷ ts)
+  return_finds is = by_test (begins kind.Semicolon ts)
+    where
+      by_test : (b : Bool) → FindsDeed (λ us. cond b ((take kind.Semicolon >>= λ _. give (simple leave)) ts) (giving ts)) (t ∷ ts)
+      by_test true = leave_finds is
+      by_test false = give_finds is
 
   goto_finds : t.kind ≡ kind.Goto → FindsDeed (λ us. (name >>= λ l. take kind.Semicolon >>= λ _. give (simple (goto l))) ts) (t ∷ ts)
   goto_finds is d rest e =
@@ -171,7 +211,7 @@ module _ (f : Unit {0} → Parser (Block Name Name Name)) (sound : Finds Found f
       → (b6 : Bool) → same_kind t.kind kind.If ≡ b6 → (b7 : Bool) → same_kind t.kind kind.While ≡ b7 → (b8 : Bool)
       → same_kind t.kind kind.Id ≡ b8 →
       FindsDeed (λ us. cond b1 (take kind.Semicolon >>= λ _. give (simple skip))
-      (cond b2 (take kind.Semicolon >>= λ _. give (simple leave))
+      (cond b2 returning
       (cond b3 (name >>= λ l. take kind.Semicolon >>= λ _. give (simple (goto l)))
       (cond b4 (condition >>= λ r. take kind.Semicolon >>= λ _. give (simple (assert r)))
       (cond b5 (condition >>= λ r. take kind.Semicolon >>= λ _. give (simple (assume r)))

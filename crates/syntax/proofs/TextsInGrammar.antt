@@ -12,8 +12,10 @@ use Rattle.syntax.specs.Grammar as grammar
 use Rattle.syntax.specs.Grammar.{Takes, takes, Reads, reads_zero, reads_one, reads_name, reads_not, reads_paren, reads_two, IsName, is_name}
 use Rattle.syntax.specs.Grammar.{Behind, behind, InParens, in_parens, Many, no_more, one_more, Several, several, Listed, listed, Perhaps}
 use Rattle.syntax.specs.Grammar.{something, IsExpression, IsRight, is_any, is_value, IsMarked, bare, labelled, IsSimple, is_skip, is_return}
-use Rattle.syntax.specs.Grammar.{is_goto, is_assert, is_assume, is_assign, is_call, Statements, nothing_more, statement, if_statement}
-use Rattle.syntax.specs.Grammar.{while_statement, joined, IsDeclaration, is_declaration, Declarations, declarations, IsProcedure}
+use Rattle.syntax.specs.Grammar.{is_give, is_goto, is_assert, is_assume, is_assign, is_call, is_call_for, Statements, nothing_more}
+use Rattle.syntax.specs.Grammar.{statement}
+use Rattle.syntax.specs.Grammar.{if_statement, while_statement, joined, IsDeclaration, is_declaration, Declarations, declarations}
+use Rattle.syntax.specs.Grammar.{IsProcedure}
 use Rattle.syntax.specs.Grammar.{is_procedure, IsThread, is_thread, IsProgram, is_program}
 use Rattle.syntax.specs.InGrammar.{IsId, AreIds, ExpressionInGrammar, SideInGrammar, SimpleInGrammar, LabelInGrammar, BlockInGrammar}
 use Rattle.syntax.specs.InGrammar.{ProcedureInGrammar, ThreadInGrammar, InGrammar}
@@ -99,9 +101,15 @@ module _ {X : Type 0} (P : List Tok → X → List Tok → Type 0) (Ok : X → T
 test_keeps : Keeps (InParens IsRight) SideInGrammar
 test_keeps = parens_keep IsRight SideInGrammar side_keeps
 
+arguments_keep : Keeps (InParens (Perhaps IsExpression)) (AllByRecursion ExpressionInGrammar)
+arguments_keep =
+    parens_keep (Perhaps IsExpression) (AllByRecursion ExpressionInGrammar)
+    (perhaps_keeps IsExpression ExpressionInGrammar (reads_keep 0))
+
 simple_keeps : Keeps IsSimple SimpleInGrammar
 simple_keeps ts rest x (is_skip t end) all = (tt, taken _ rest end (taken ts _ t all))
 simple_keeps ts rest x (is_return t end) all = (tt, taken _ rest end (taken ts _ t all))
+simple_keeps ts rest x (is_give t e end) all = let h = reads_keep 0 _ _ _ e (taken ts _ t all) in (h.0, taken _ rest end h.1)
 simple_keeps ts rest x (is_goto t l end) all = let h = name_keeps _ _ _ l (taken ts _ t all) in (h.0, taken _ rest end h.1)
 simple_keeps ts rest x (is_assert t r end) all = let h = test_keeps _ _ _ r (taken ts _ t all) in (h.0, taken _ rest end h.1)
 simple_keeps ts rest x (is_assume t r end) all = let h = test_keeps _ _ _ r (taken ts _ t all) in (h.0, taken _ rest end h.1)
@@ -111,10 +119,13 @@ simple_keeps ts rest x (is_assign xs t rs end) all =
     ((h.0, h.1, g.0, g.1), taken _ rest end g.2)
 simple_keeps ts rest x (is_call p es end) all =
     let h = name_keeps ts _ _ p all in
-    let g =
-    parens_keep (Perhaps IsExpression) (AllByRecursion ExpressionInGrammar)
-    (perhaps_keeps IsExpression ExpressionInGrammar (reads_keep 0)) _ _ _ es h.1 in
+    let g = arguments_keep _ _ _ es h.1 in
     ((h.0, g.0), taken _ rest end g.1)
+simple_keeps ts rest x (is_call_for v t p es end) all =
+    let f = name_keeps ts _ _ v all in
+    let h = name_keeps _ _ _ p (taken _ _ t f.1) in
+    let g = arguments_keep _ _ _ es h.1 in
+    ((f.0, h.0, g.0), taken _ rest end g.1)
 
 mark_keeps : Keeps IsMarked (λ m. LabelInGrammar m.label)
 mark_keeps ts rest x bare all = (tt, all)

@@ -1,7 +1,7 @@
 -- The grammar once more, as functions.
 use Rattle.std.specs.Prelude.{ℕ, Bool, true, false, nat_le, ◌&&◌, ◌||◌, List, [], ◌∷◌, ◌++◌, cond, Option, Some, None, option_and_then}
 use Rattle.language.specs.Tree.{Name, Operator, Expression, const, var, negation, two, RightSide, any, value, skip, assign, assert, assume}
-use Rattle.language.specs.Tree.{goto, leave, call, Mark, Block, done, Procedure, ThreadLine, Tree}
+use Rattle.language.specs.Tree.{goto, leave, leave_with, call, call_for, Mark, Block, done, Procedure, ThreadLine, Tree}
 use Rattle.tokens.specs.declared.vocabulary.Kind.{Kind}
 use Rattle.tokens.specs.declared.vocabulary.Kind.TheVariants as kind
 use Rattle.tokens.specs.Token.{Tok, same_kind}
@@ -128,9 +128,28 @@ assignment = names >>= λ xs. take kind.Assign >>= λ _. rights >>= λ rs. ended
 unfoldable pub calling : Parser Deed
 calling = name >>= λ p. arguments >>= λ es. ended (simple (call p es))
 
--- an assignment or a call, by the token after the name
+-- a call for a value
+unfoldable pub asking : Parser Deed
+asking = name >>= λ x. take kind.Assign >>= λ _. name >>= λ p. arguments >>= λ es. ended (simple (call_for x p es))
+
+-- whether a token of this kind comes next, and behind it what the test says
+abbrev pub past : Kind → (List Tok → Bool) → List Tok → Bool
+past token_kind test [] = false
+past token_kind test (token ∷ tokens) = same_kind token.kind token_kind && test tokens
+
+-- whether a name and `(` come next
+unfoldable pub names_call : List Tok → Bool
+names_call = past kind.Id (begins kind.Open)
+
+-- whether `:=`, a name and `(` come next
+unfoldable pub asks_behind : List Tok → Bool
+asks_behind = past kind.Assign names_call
+
+-- a call, a call for a value or an assignment, by the tokens after the name
 unfoldable pub named : Tok → List Tok → Option (Deed × List Tok)
-named token tokens = cond (begins kind.Open tokens) (calling (token ∷ tokens)) (assignment (token ∷ tokens))
+named token tokens =
+    cond (begins kind.Open tokens) (calling (token ∷ tokens))
+    (cond (asks_behind tokens) (asking (token ∷ tokens)) (assignment (token ∷ tokens)))
 
 -- an `if`, behind that word
 abbrev pub branching : Parser (Block Name Name Name) → Parser Deed
@@ -154,11 +173,19 @@ asserting = condition >>= λ r. ended (simple (assert r))
 abbrev pub assuming : Parser Deed
 assuming = condition >>= λ r. ended (simple (assume r))
 
+-- a value, behind `return`
+unfoldable pub giving : Parser Deed
+giving = expression >>= λ e. ended (simple (leave_with e))
+
+-- nothing or a value, behind `return`
+abbrev pub returning : Parser Deed
+returning ts = cond (begins kind.Semicolon ts) (ended (simple leave) ts) (giving ts)
+
 -- what a statement does that begins with this token
 abbrev pub deed_by : Parser (Block Name Name Name) → Tok → Parser Deed
 deed_by block token =
     cond (same_kind token.kind kind.Skip) (ended (simple skip))
-    (cond (same_kind token.kind kind.Return) (ended (simple leave))
+    (cond (same_kind token.kind kind.Return) returning
     (cond (same_kind token.kind kind.Goto) jumping
     (cond (same_kind token.kind kind.Assert) asserting
     (cond (same_kind token.kind kind.Assume) assuming

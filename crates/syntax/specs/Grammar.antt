@@ -1,8 +1,8 @@
 -- The grammar, as relations between token lists, trees and the tokens after them.
 use Rattle.std.specs.Prelude.{◌≡◌, ℕ, suc, ◌≤◌, true, false, List, [], ◌∷◌, ◌++◌, Option, Some, None}
 use Rattle.language.specs.Tree.{Name, Procedure, ThreadLine, Tree, Operator, implies, or, xor, and, equal, differs, Expression, const, var}
-use Rattle.language.specs.Tree.{negation, two, RightSide, any, value, Simple, skip, assign, assert, assume, goto, leave, call, Mark, Block}
-use Rattle.language.specs.Tree.{done, one, choose, loop}
+use Rattle.language.specs.Tree.{negation, two, RightSide, any, value, Simple, skip, assign, assert, assume, goto, leave, leave_with, call}
+use Rattle.language.specs.Tree.{call_for, Mark, Block, done, one, choose, loop}
 use Rattle.tokens.specs.declared.vocabulary.Kind.{Kind}
 use Rattle.tokens.specs.declared.vocabulary.Kind.TheVariants as kind
 use Rattle.tokens.specs.Token.{Tok}
@@ -103,11 +103,14 @@ pub data IsMarked : List Tok → Mark Name → List Tok → Type 0 where
   labelled : {t : Tok} {ts rest : List Tok} → t.kind ≡ kind.Id → Takes kind.Colon ts rest
       → IsMarked (t ∷ ts) (record { label = Some (name_at t); at = t.at }) rest
 
--- The statements that hold no others: skip; return; goto and a label; assert and assume with a right side in
--- parentheses; an assignment of as many right sides as there are to as many targets as there are; a call.
+-- The statements that hold no others: skip; return, alone or with an expression; goto and a label; assert and assume
+-- with a right side in parentheses; an assignment of as many right sides as there are to as many targets as there are;
+-- a call, alone or behind one target.
 pub data IsSimple : List Tok → Simple Name Name Name → List Tok → Type 0 where
   is_skip : {ts us rest : List Tok} → Takes kind.Skip ts us → Takes kind.Semicolon us rest → IsSimple ts skip rest
   is_return : {ts us rest : List Tok} → Takes kind.Return ts us → Takes kind.Semicolon us rest → IsSimple ts leave rest
+  is_give : {ts us vs rest : List Tok} {e : Expression Name} → Takes kind.Return ts us → IsExpression us e vs → Takes kind.Semicolon vs rest
+      → IsSimple ts (leave_with e) rest
   is_goto : {ts us vs rest : List Tok} {l : Name} → Takes kind.Goto ts us → IsName us l vs → Takes kind.Semicolon vs rest
       → IsSimple ts (goto l) rest
   is_assert : {ts us vs rest : List Tok} {r : RightSide Name} → Takes kind.Assert ts us → InParens IsRight us r vs
@@ -118,6 +121,8 @@ pub data IsSimple : List Tok → Simple Name Name Name → List Tok → Type 0 w
       → Takes kind.Assign us vs → Listed IsRight vs rs ws → Takes kind.Semicolon ws rest → IsSimple ts (assign xs rs) rest
   is_call : {ts us vs rest : List Tok} {p : Name} {es : List (Expression Name)} → IsName ts p us → InParens (Perhaps IsExpression) us es vs
       → Takes kind.Semicolon vs rest → IsSimple ts (call p es) rest
+  is_call_for : {ts us vs ws xs rest : List Tok} {x p : Name} {es : List (Expression Name)} → IsName ts x us → Takes kind.Assign us vs
+      → IsName vs p ws → InParens (Perhaps IsExpression) ws es xs → Takes kind.Semicolon xs rest → IsSimple ts (call_for x p es) rest
 
 -- There is a statement.
 abbrev pub IsSome : Block Name Name Name → Type 0

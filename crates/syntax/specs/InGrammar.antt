@@ -2,7 +2,7 @@
 use Rattle.std.specs.Prelude.{ℕ, ◌<◌, ◌≤◌, List, length, Option, Some, None}
 use Rattle.std.specs.List.{AllByRecursion}
 use Rattle.language.specs.Tree.{Name, Expression, const, var, negation, two, RightSide, any, value, Simple, skip, assign, assert, assume}
-use Rattle.language.specs.Tree.{goto, leave, call, Block, done, one, choose, loop, Procedure, ThreadLine, Tree}
+use Rattle.language.specs.Tree.{goto, leave, leave_with, call, call_for, Block, done, one, choose, loop, Procedure, ThreadLine, Tree}
 use Rattle.tokens.specs.Limits.{most_bytes}
 use Rattle.tokens.specs.Spelling.{IsNameWord}
 use Rattle.syntax.specs.Grammar.{IsSome}
@@ -37,7 +37,9 @@ SimpleInGrammar (assert side) = SideInGrammar side
 SimpleInGrammar (assume side) = SideInGrammar side
 SimpleInGrammar (goto label) = IsId label
 SimpleInGrammar leave = Unit {0}
+SimpleInGrammar (leave_with expression) = ExpressionInGrammar expression
 SimpleInGrammar (call callee es) = IsId callee × AllByRecursion ExpressionInGrammar es
+SimpleInGrammar (call_for target callee es) = IsId target × IsId callee × AllByRecursion ExpressionInGrammar es
 
 -- A label is an id.
 abbrev pub LabelInGrammar : Option Name → Type 0

@@ -1,7 +1,7 @@
 -- Trees without their offsets.
 use Rattle.std.specs.Prelude.{◌≡◌, map, option_map}
 use Rattle.language.specs.Tree.{Name, Expression, const, var, negation, two, RightSide, any, value, Simple, skip, assign, assert, assume}
-use Rattle.language.specs.Tree.{goto, leave, call, Mark, Block, done, one, choose, loop, Procedure, ThreadLine, Tree}
+use Rattle.language.specs.Tree.{goto, leave, leave_with, call, call_for, Mark, Block, done, one, choose, loop, Procedure, ThreadLine, Tree}
 
 -- the name, at offset 0
 abbrev pub unplaced : Name → Name
@@ -27,7 +27,9 @@ unplaced_simple (assert side) = assert (unplaced_side side)
 unplaced_simple (assume side) = assume (unplaced_side side)
 unplaced_simple (goto label) = goto (unplaced label)
 unplaced_simple leave = leave
+unplaced_simple (leave_with expression) = leave_with (unplaced_expression expression)
 unplaced_simple (call callee es) = call (unplaced callee) (map unplaced_expression es)
+unplaced_simple (call_for target callee es) = call_for (unplaced target) (unplaced callee) (map unplaced_expression es)
 
 -- the mark of a statement
 abbrev pub unplaced_mark : Mark Name → Mark Name

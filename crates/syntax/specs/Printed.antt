@@ -3,8 +3,8 @@ use Rattle.std.specs.Prelude.{◌≡◌, ℕ, zero, suc, cond, List, [], ◌∷�
 use Rattle.std.specs.String.{string_bytes}
 use Rattle.std.specs.declared.string.String.{String}
 use Rattle.language.specs.Tree.{Name, Operator, implies, or, xor, and, equal, differs, Expression, const, var, negation, two, RightSide}
-use Rattle.language.specs.Tree.{any, value, Simple, skip, assign, assert, assume, goto, leave, call, Block, done, one, choose, loop}
-use Rattle.language.specs.Tree.{Procedure, ThreadLine, Tree}
+use Rattle.language.specs.Tree.{any, value, Simple, skip, assign, assert, assume, goto, leave, leave_with, call, call_for, Block, done}
+use Rattle.language.specs.Tree.{one, choose, loop, Procedure, ThreadLine, Tree}
 use Rattle.tokens.specs.declared.vocabulary.Kind.{Kind}
 use Rattle.tokens.specs.declared.vocabulary.Kind.TheVariants as kind
 use Rattle.tokens.specs.Parts.{Part, shown, space, line, fixed, text_of}
@@ -64,6 +64,10 @@ abbrev pub side_parts : RightSide Name → List Part
 side_parts any = fixed kind.Any ∷ []
 side_parts (value expression) = expression_parts expression
 
+-- A call is the name of a procedure, and the arguments in parentheses.
+abbrev pub call_parts : Name → List (Expression Name) → List Part
+call_parts callee es = name_parts callee ++ in_parens (separated expression_parts es)
+
 -- What a semicolon ends.
 abbrev pub ended : List Part → List Part
 ended parts = parts ++ (fixed kind.Semicolon ∷ [])
@@ -76,7 +80,9 @@ simple_parts (assert side) = ended (fixed kind.Assert ∷ in_parens (side_parts 
 simple_parts (assume side) = ended (fixed kind.Assume ∷ in_parens (side_parts side))
 simple_parts (goto label) = ended (fixed kind.Goto ∷ space ∷ name_parts label)
 simple_parts leave = ended (fixed kind.Return ∷ [])
-simple_parts (call callee es) = ended (name_parts callee ++ in_parens (separated expression_parts es))
+simple_parts (leave_with expression) = ended (fixed kind.Return ∷ space ∷ expression_parts expression)
+simple_parts (call callee es) = ended (call_parts callee es)
+simple_parts (call_for target callee es) = ended (name_parts target ++ (space ∷ fixed kind.Assign ∷ space ∷ call_parts callee es))
 
 -- The statement's first line begins with its label, a colon and a space, where it has a label.
 abbrev pub label_parts : Option Name → List Part

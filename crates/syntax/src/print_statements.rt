@@ -3,9 +3,9 @@
 ghost use Rattle.std.specs.Prelude.{◌≡◌, ◌+◌, ◌++◌, IfOk, option_map};
 ghost use Rattle.std.specs.String.{string_bytes};
 ghost use Rattle.tokens.specs.Parts.{text_of};
-ghost use Rattle.language.specs.Tree.{assign, goto, call};
-ghost use Rattle.trees.specs.Trees.{name_of, names_of, exprs_of, rhs_of, rhss_of, simple, branch};
-ghost use Rattle.trees.specs.Trees.{repeat, deed_of, block_of};
+ghost use Rattle.language.specs.Tree.{assign, goto, leave_with, call, call_for};
+ghost use Rattle.trees.specs.Trees.{name_of, names_of, expr_of, exprs_of, rhs_of, rhss_of, simple};
+ghost use Rattle.trees.specs.Trees.{branch, repeat, deed_of, block_of};
 ghost use Rattle.syntax.specs.Printed.{Prints, side_parts, label_parts, margin, block_parts};
 ghost use Rattle.syntax.specs.PrintedDeed.{deed_parts};
 
@@ -111,6 +111,34 @@ fn print_call<N: Allocator, A: Allocator>(
     out.push_str(");\n")
 }
 
+/// Prints a call for a value, behind its margin and its label.
+fn print_asking<N: Allocator, A: Allocator>(
+    out: &mut String<A>,
+    target: &Name<N>,
+    name: &Name<N>,
+    arguments: &[Expr<N>],
+) -> Result<(), AllocError>
+    ensures { Prints result out.old out.new (deed_parts 0
+        (simple (call_for (name_of target.now) (name_of name.now) (exprs_of arguments.now)))) }
+{
+    target.print(out)?;
+    out.push_str(" := ")?;
+    print_call(out, name, arguments)
+}
+
+/// Prints a `return` with its value, behind its margin and its label.
+fn print_giving<N: Allocator, A: Allocator>(
+    out: &mut String<A>,
+    value: &Expr<N>,
+) -> Result<(), AllocError>
+    ensures { Prints result out.old out.new
+        (deed_parts 0 (simple (leave_with (expr_of value.now)))) }
+{
+    out.push_str("return ")?;
+    value.print(out)?;
+    out.push_str(";\n")
+}
+
 /// Prints the statements of a block at this level.
 #[cycle(printing)]
 pub fn print_block<N: Allocator, A: Allocator>(
@@ -143,6 +171,8 @@ fn print_core<N: Allocator, A: Allocator>(
         Core::Goto(label) => print_jump(out, label),
         Core::Assign(targets, sides) => print_assignment(out, targets, sides),
         Core::Call(name, arguments) => print_call(out, name, arguments),
+        Core::Give(value) => print_giving(out, value),
+        Core::CallTo(target, name, arguments) => print_asking(out, target, name, arguments),
         Core::Assert(side) => print_test(out, "assert(", side, ");\n"),
         Core::Assume(side) => print_test(out, "assume(", side, ");\n"),
         Core::If(side, then, otherwise) => print_branch(out, level, side, then, otherwise),

@@ -6,6 +6,10 @@ ghost use Rattle.syntax.specs.Exact.{
   marked,
   assignment,
   calling,
+  asking,
+  names_call,
+  asks_behind,
+  giving,
   jumping,
   asserting,
   assuming,
@@ -47,6 +51,28 @@ fn begins_statement(tokens: &[Token<'_>]) -> bool
             | Kind::While
             | Kind::Id
     )
+}
+
+/// Whether a name and `(` come next.
+#[tactic(auto, unfolding(crate::specs::Exact::names_call))]
+fn names_call(tokens: &[Token<'_>]) -> bool
+    ensures { result ≡ names_call (toks_of tokens.now) }
+{
+    let Some((first, rest)) = tokens.split_first() else {
+        return false;
+    };
+    first.kind.is(Kind::Id) && begins(Kind::Open, rest)
+}
+
+/// Whether `:=`, a name and `(` come next, as behind the target of a call.
+#[tactic(auto, unfolding(crate::specs::Exact::asks_behind))]
+fn asks_behind(tokens: &[Token<'_>]) -> bool
+    ensures { result ≡ asks_behind (toks_of tokens.now) }
+{
+    let Some((first, rest)) = tokens.split_first() else {
+        return false;
+    };
+    first.kind.is(Kind::Assign) && names_call(rest)
 }
 
 impl<'a, A: Allocator + Clone> Reader<'a, A> {
@@ -96,6 +122,29 @@ impl<'a, A: Allocator + Clone> Reader<'a, A> {
         let (name, others) = Name::read(self, tokens)?;
         let (arguments, rest) = self.enclosed(others)?;
         self.ended(Core::Call(name, arguments), rest)
+    }
+
+    /// Reads a call for a value.
+    #[tactic(auto, unfolding(crate::specs::Exact::asking))]
+    fn asking<'t>(&self, tokens: &'t [Token<'t>]) -> Read<'t, Core<A>>
+        ensures gives { Parses deed_of result asking tokens.now }
+        ensures shorter { Shorter result tokens.now }
+    {
+        let (target, others) = Name::read(self, tokens)?;
+        let (_, behind) = self.take(Kind::Assign, others)?;
+        let (name, opened) = Name::read(self, behind)?;
+        let (arguments, rest) = self.enclosed(opened)?;
+        self.ended(Core::CallTo(target, name, arguments), rest)
+    }
+
+    /// Reads a value, behind `return`.
+    #[tactic(auto, unfolding(crate::specs::Exact::giving))]
+    fn giving<'t>(&self, tokens: &'t [Token<'t>]) -> Read<'t, Core<A>>
+        ensures gives { Parses deed_of result giving tokens.now }
+        ensures shorter { Shorter result tokens.now }
+    {
+        let (value, rest) = self.expression(0, tokens)?;
+        self.ended(Core::Give(value), rest)
     }
 
     /// Reads a `goto`, behind that word.
@@ -166,13 +215,15 @@ impl<'a, A: Allocator + Clone> Reader<'a, A> {
         };
         match first.kind {
             Kind::Skip => self.ended(Core::Skip, others),
-            Kind::Return => self.ended(Core::Return, others),
+            Kind::Return if begins(Kind::Semicolon, others) => self.ended(Core::Return, others),
+            Kind::Return => self.giving(others),
             Kind::Goto => self.jumping(others),
             Kind::Assert => self.asserting(others),
             Kind::Assume => self.assuming(others),
             Kind::If => self.branch(others),
             Kind::While => self.repeat(others),
             Kind::Id if begins(Kind::Open, others) => self.calling(tokens),
+            Kind::Id if asks_behind(others) => self.asking(tokens),
             Kind::Id => self.assignment(tokens),
             _ => Err(ReadFault::Syntax(first.at)),
         }

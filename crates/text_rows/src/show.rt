@@ -87,6 +87,22 @@ fn show_call<A: Allocator>(page: &mut Page<A>, name: &Name<A>, arguments: &[Expr
     }
 }
 
+fn show_call_for<A: Allocator>(
+    page: &mut Page<A>,
+    target: &Name<A>,
+    name: &Name<A>,
+    arguments: &[Expr<A>],
+) {
+    show_name(page, "set ", target);
+    page.put(" := ");
+    show_call(page, name, arguments);
+}
+
+fn show_give<A: Allocator>(page: &mut Page<A>, value: &Expr<A>) {
+    page.put("return ");
+    show_expr(page, value);
+}
+
 // A right side between two texts.
 fn show_test<A: Allocator>(page: &mut Page<A>, before: &str, side: &Rhs<A>, behind: &str) {
     page.put(before);
@@ -114,6 +130,8 @@ fn show_simple<A: Allocator>(page: &mut Page<A>, core: &Core<A>) {
         Core::Goto(label) => show_name(page, "goto ", label),
         Core::Call(name, arguments) => show_call(page, name, arguments),
         Core::Return => page.put("return"),
+        Core::Give(value) => show_give(page, value),
+        Core::CallTo(target, name, arguments) => show_call_for(page, target, name, arguments),
         _ => page.put("skip"),
     }
 }

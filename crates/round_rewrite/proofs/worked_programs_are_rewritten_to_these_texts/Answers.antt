@@ -27,3 +27,11 @@ returns-clause-constructs c = refl
 pub returns-clause-three_rounds : goal.returns-clause-three_rounds
 unfolding printed text digits
 returns-clause-three_rounds c = refl
+
+pub returns-clause-giving : goal.returns-clause-giving
+unfolding printed text
+returns-clause-giving c = refl
+
+pub returns-clause-giving_two : goal.returns-clause-giving_two
+unfolding printed text digits
+returns-clause-giving_two c = refl

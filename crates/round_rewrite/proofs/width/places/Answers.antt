@@ -1,6 +1,8 @@
 use Rattle.std.proofs.Common.{◌≡◌, ◌∙◌, ap, sym, arith, ◌++◌, length}
 use Rattle.std.proofs.lemmas.List.{length-map}
 use Rattle.trees.specs.Trees.{name_of, names_of, proc_of, block_of}
+use Rattle.language.specs.Resolve.{gives_value}
+use Rattle.resolved.proofs.Counted.{as_number}
 use Rattle.round_rewrite.specs.Writing.{procedure_needs}
 use Rattle.round_rewrite.specs.Table.{temporaries}
 use Rattle.round_rewrite.specs.Names.{names}
@@ -16,5 +18,8 @@ returns g c =
     let needs : c.needs-needs.result ≡ procedure_needs (proc_of p) =
     c.needs-needs.ensures ∙ (λ i. temporaries (names (names_of (c.as_slice-formals.ensures.value i) ++
     names_of (c.as_slice-locals.ensures.value i))).is_shared (block_of (c.deref.ensures.value i))) in
+    let given =
+    as_number c.give_value.result (gives_value (block_of p.body.items))
+    (c.give_value.ensures ∙ ap (λ l. gives_value (block_of l)) c.deref-2.ensures.value) in
     let count = c.global_count.ensures.count in
-    omega (arith, formals, locals, needs, count)
+    omega (arith, formals, locals, needs, given, count)

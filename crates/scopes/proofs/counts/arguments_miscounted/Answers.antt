@@ -3,10 +3,11 @@ use Rattle.std.proofs.lemmas.List.{length-map}
 use Rattle.language.specs.Tree.{Name, Procedure}
 use Rattle.language.specs.Parts.{arguments_of, callee_of}
 use Rattle.trees.specs.Trees.{name_of, expr_of, procs_of, proc_of}
+use Rattle.trees.specs.Parts.{passed_by}
 use Rattle.resolved.specs.There.{IsThere}
 use Rattle.resolved.specs.Statements.{statement_of}
 use Rattle.scopes.specs.Faults.{named}
-use Rattle.scopes.proofs.Heads.{head_is}
+use Rattle.scopes.proofs.Heads.{head_is, arguments_passed}
 use Rattle.scopes.proofs.Found.{moved, compared}
 use Rattle.scopes.proofs.counts.arguments_miscounted.Goals as goal
 
@@ -15,10 +16,11 @@ returns g c =
     let head = (statement_of c.args.stmt.now).head in
     let callee = c.in_ok-callee.callee.now in
     let formals = c.in_ok-proc.proc.now.formals.items in
-    let arguments = ap arguments_of (head_is c.args.stmt.now) ∙ sym c.arguments.ensures in
+    let callee_is = ap callee_of (head_is c.args.stmt.now) ∙ sym c.in_ok-callee.ensures in
+    let arguments = arguments_passed head (name_of callee) callee_is ∙ ap passed_by (head_is c.args.stmt.now) ∙ sym c.arguments.ensures in
     moved (λ (o : Option Name) n. IsThere o (λ q. (q.at ≡ n)
     × IsThere (named q.text (procs_of c.args.procs.now)) (λ (p : Procedure). length p.formals ≢ length (arguments_of head))))
-    (Some (name_of callee)) _ _ (ap callee_of (head_is c.args.stmt.now) ∙ sym c.in_ok-callee.ensures)
+    (Some (name_of callee)) _ _ callee_is
     (moved (λ (o : Option Procedure) n. (callee.at ≡ n) × IsThere o (λ p. length p.formals ≢ length (arguments_of head)))
     (Some (proc_of c.in_ok-proc.proc.now)) _ _ (sym c.in_ok-proc.ensures)
     (compared callee.at _ c.len.result _ (length c.arguments.result.now) _ c.unequal.result refl

@@ -1,19 +1,23 @@
 use Rattle.std.proofs.Common.{refl, ◌∙◌, ap, sym}
 use Rattle.language.specs.Parts.{targets_of}
 use Rattle.trees.specs.Trees.{names_of}
+use Rattle.trees.specs.Parts.{assigned_by}
 use Rattle.scopes.specs.Find.{Finds}
 use Rattle.resolved.specs.Statements.{lent, statement_of}
-use Rattle.scopes.proofs.Heads.{head_is}
-use Rattle.scopes.proofs.Found.{moved, on_ok}
+use Rattle.scopes.proofs.Heads.{head_is, still_repeated, receivers_once}
+use Rattle.scopes.proofs.Found.{same, moved, on_ok}
 use Rattle.scopes.proofs.Pushed.{behind_none}
 use Rattle.scopes.specs.Faults.{Repeated}
 use Rattle.scopes.proofs.twice.target_again.Goals as goal
 
 pub returns : goal.returns
 returns g c =
+    let head = (statement_of c.args.stmt.now).head in
     let targets = ap lent c.deref.ensures.value
     ∙ (behind_none _ names_of c.in_ok-list.ensures c.new.ensures.items refl
-    ∙ (c.targets.ensures ∙ sym (ap targets_of (head_is c.args.stmt.now)))) in
+    ∙ (c.targets.ensures ∙ sym (ap assigned_by (head_is c.args.stmt.now)))) in
     on_ok (λ o. Finds (Repeated (lent c.deref.result.now)) o)
     (λ o. Finds (λ n. Repeated (targets_of (statement_of c.args.stmt.now).head) n) o) c.repeated.result
-    (λ o h. moved (λ l n. Repeated l n) (lent c.deref.result.now) _ o (sym targets) h) c.repeated.ensures
+    (λ o h. same o (still_repeated head) (receivers_once head)
+    (moved (λ l n. Repeated l n) (lent c.deref.result.now) (assigned_by head) o (sym targets) h))
+    c.repeated.ensures

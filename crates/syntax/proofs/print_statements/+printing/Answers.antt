@@ -4,7 +4,7 @@ use Rattle.trees.specs.Trees.{deed_of, block_of}
 use Rattle.language.specs.Sequential.{statements}
 use Rattle.trees.proofs.Held.{held, smaller}
 use Rattle.syntax.proofs.PrintedBlocks.{one_printed, none_left}
-use Rattle.syntax.proofs.PrintedDeeds.{skipped, left, jumped, assigned, called, asserted, assumed, branched, repeated}
+use Rattle.syntax.proofs.PrintedDeeds.{skipped, left, given, jumped, assigned, called, asked, asserted, assumed, branched, repeated}
 use Rattle.syntax.proofs.PrintedDeeds.{branch_pushed, loop_pushed}
 use Rattle.syntax.proofs.print_statements.+printing.Goals as goal
 
@@ -38,6 +38,17 @@ print_core-returns-in-Call g t c =
     called c.args.level c.print_call.result c.args.core.now (string_bytes c.args.out.now)
     (string_bytes c.print_call.new.out) c.in-Call.name c.in-Call.arguments c.deref-in-Call.result.now
     c.in-Call.is c.deref-in-Call.ensures.value c.print_call.ensures
+
+pub print_core-returns-in-Give : goal.print_core-returns-in-Give
+print_core-returns-in-Give g t c =
+    given c.args.level c.print_giving.result c.args.core.now (string_bytes c.args.out.now)
+    (string_bytes c.print_giving.new.out) c.in-Give.value c.in-Give.is c.print_giving.ensures
+
+pub print_core-returns-in-CallTo : goal.print_core-returns-in-CallTo
+print_core-returns-in-CallTo g t c =
+    asked c.args.level c.print_asking.result c.args.core.now (string_bytes c.args.out.now)
+    (string_bytes c.print_asking.new.out) c.in-CallTo.target c.in-CallTo.name c.in-CallTo.arguments c.deref-in-CallTo.result.now
+    c.in-CallTo.is c.deref-in-CallTo.ensures.value c.print_asking.ensures
 
 pub print_core-returns-in-Assert : goal.print_core-returns-in-Assert
 print_core-returns-in-Assert g t c =

@@ -1,7 +1,7 @@
 use Rattle.std.proofs.Common.{◌+◌, ◌*◌, ◌<◌, max, ◌∙◌, ap, arith}
 use Rattle.language.specs.Sequential.{statements}
 use Rattle.trees.specs.Trees.{deed_of, block_of}
-use Rattle.round_rewrite.specs.Table.{draws, temporaries}
+use Rattle.round_rewrite.specs.Table.{temporaries}
 use Rattle.round_rewrite.specs.Writing.{naming_of}
 use Rattle.trees.proofs.Held.{held, smaller}
 use Rattle.round_rewrite.proofs.Needing.{one_more, no_more}
@@ -31,8 +31,7 @@ needs-returns g t c =
 pub needs_of-returns : goal.needs_of-returns
 needs_of-returns g t c =
     let shared = (naming_of c.args.self.now).is_shared in
-    let own = c.draws.ensures.count ∙ (λ i. draws shared (c.targets.ensures i) (c.sides.ensures i)) in
     let first = c.needs.ensures ∙ ap (temporaries shared) c.inside.ensures.first in
     let second = c.needs-2.ensures ∙ ap (temporaries shared) c.inside.ensures.second in
     let held = c.larger-held.ensures ∙ (λ i. max (first i) (second i)) in
-    c.larger.ensures ∙ (λ i. max (own i) (held i))
+    c.larger.ensures ∙ (λ i. max (c.own_needs.ensures i) (held i))

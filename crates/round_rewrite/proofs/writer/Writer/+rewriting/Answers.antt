@@ -1,6 +1,6 @@
 use Rattle.std.proofs.Common.{[], sym, ◌+◌, ◌*◌, ◌<◌, refl, ◌∙◌, ap, arith}
 use Rattle.std.proofs.lemmas.Result.{IfOk-weaker}
-use Rattle.language.specs.Tree.{skip, leave, assign, call, done}
+use Rattle.language.specs.Tree.{skip, leave, assign, call, call_for, done}
 use Rattle.language.specs.Sequential.{statements}
 use Rattle.trees.specs.Trees.{simple, branch, repeat, name_of, names_of, rhs_of, rhss_of, exprs_of, deed_of, block_of, items_of, all_before}
 use Rattle.round_rewrite.specs.Table.{plain, prologue}
@@ -9,6 +9,7 @@ use Rattle.trees.proofs.Held.{held, smaller}
 use Rattle.round_rewrite.proofs.Laying.{laid}
 use Rattle.round_rewrite.proofs.Forms.{by_core, core_is, one_more, no_more, block_whole, block_done}
 use Rattle.trees.proofs.Folds.{deed_of-Skip, deed_of-Return, deed_of-Goto, deed_of-Assert, deed_of-Assume, deed_of-Assign, deed_of-Call}
+use Rattle.trees.proofs.Folds.{deed_of-CallTo, deed_of-Give}
 use Rattle.trees.proofs.Folds.{deed_of-If, deed_of-While}
 use Rattle.round_rewrite.proofs.writer.Writer.+rewriting.Goals as goal
 
@@ -145,6 +146,17 @@ core-returns-in-Call g t c =
     core_is (naming_of c.args.self.now) c.args.self.now.rounds.last c.call.result (λ _. c.call.new.into.items) _ _ _
     ((λ i. simple (call (name_of c.in-Call.p) (exprs_of (c.deref-in-Call.ensures.value i))))
     ∙ sym (ap deed_of c.in-Call.is ∙ deed_of-Call _ _)) c.call.ensures
+
+pub core-returns-in-CallTo : goal.core-returns-in-CallTo
+core-returns-in-CallTo g t c =
+    core_is (naming_of c.args.self.now) c.args.self.now.rounds.last c.call_for.result (λ _. c.call_for.new.into.items) _ _ _
+    ((λ i. simple (call_for (name_of c.in-CallTo.x) (name_of c.in-CallTo.p) (exprs_of (c.deref-in-CallTo.ensures.value i))))
+    ∙ sym (ap deed_of c.in-CallTo.is ∙ deed_of-CallTo _ _ _)) c.call_for.ensures
+
+pub core-returns-in-Give : goal.core-returns-in-Give
+core-returns-in-Give g t c =
+    core_is (naming_of c.args.self.now) c.args.self.now.rounds.last c.given.result (λ _. c.given.new.into.items) _ _ _
+    (sym (ap deed_of c.in-Give.is ∙ deed_of-Give _)) c.given.ensures
 
 pub core-returns-in-If : goal.core-returns-in-If
 core-returns-in-If g t c =

@@ -8,8 +8,8 @@ use Rattle.syntax.proofs.Exits.{refused}
 use Rattle.syntax.proofs.Closings.{closed_seen}
 use Rattle.trees.proofs.Folds.{item_is, deed_of-Skip, deed_of-Return, deed_of-If, deed_of-While}
 use Rattle.syntax.proofs.Goings.{sections_start, sections_no_start, sections_go_on, sections_refused, item_no_mark, item_no_deed}
-use Rattle.syntax.proofs.Goings.{item_whole, deed_calls, deed_assigns, if_no_yes, if_no_no, if_no, while_no_body, while_body}
-use Rattle.syntax.proofs.Goings.{deed_begins}
+use Rattle.syntax.proofs.Goings.{item_whole, deed_leaves, deed_gives, deed_calls, deed_asks, deed_assigns, if_no_yes, if_no_no, if_no}
+use Rattle.syntax.proofs.Goings.{while_no_body, while_body, deed_begins}
 use Rattle.syntax.proofs.Loops.{pushed}
 use Rattle.syntax.proofs.reader.Reader.+statements.Goals as goal
 
@@ -41,10 +41,14 @@ core-returns-in-Skip-clause-gives g t c =
     c.in-Skip.is) (rw (deed_of-Skip g.row.A.Denot) at c.ended.ensures.gives)
 
 pub core-returns-in-Return-clause-gives : goal.core-returns-in-Return-clause-gives
-unfolding same_kind if_deed while_deed
 core-returns-in-Return-clause-gives g t c =
-    rw (deed_begins kind.Return c.args.tokens.now c.in-Some.others.now c.in-Some.first.now c.in-Some.ensures.cases.0
-    c.in-Return.is) (rw (deed_of-Return g.row.A.Denot) at c.ended-in-Return.ensures.gives)
+    rw (deed_leaves c.args.tokens.now c.in-Some.others.now c.in-Some.first.now c.in-Some.ensures.cases.0
+    c.in-Return.is (sym c.begins.ensures ∙ c.if-begins.true)) (rw (deed_of-Return g.row.A.Denot) at c.ended-in-Return.ensures.gives)
+
+pub core-returns-in-Return-2-clause-gives : goal.core-returns-in-Return-2-clause-gives
+core-returns-in-Return-2-clause-gives g t c =
+    rw (deed_gives c.args.tokens.now c.in-Some.others.now c.in-Some.first.now c.in-Some.ensures.cases.0
+    c.in-Return.is (sym c.begins.ensures ∙ c.if-begins.false)) c.giving.ensures.gives
 
 pub core-returns-in-Goto-clause-gives : goal.core-returns-in-Goto-clause-gives
 unfolding same_kind if_deed while_deed
@@ -124,12 +128,19 @@ statements-returns-in_err-next-clause-gives g t c =
 pub core-returns-in-Id-clause-gives : goal.core-returns-in-Id-clause-gives
 core-returns-in-Id-clause-gives g t c =
     rw (deed_calls c.args.tokens.now c.in-Some.others.now c.in-Some.first.now c.in-Some.ensures.cases.0
-    c.in-Id.is (sym c.begins.ensures ∙ c.if-begins.true)) c.calling.ensures.gives
+    c.in-Id.is (sym c.begins-in-Id-1.ensures ∙ c.if-begins-2.true)) c.calling.ensures.gives
 
 pub core-returns-in-Id-2-clause-gives : goal.core-returns-in-Id-2-clause-gives
 core-returns-in-Id-2-clause-gives g t c =
+    rw (deed_asks c.args.tokens.now c.in-Some.others.now c.in-Some.first.now c.in-Some.ensures.cases.0
+    c.in-Id.is (sym c.begins-in-Id-1.ensures ∙ c.if-begins-2.false) (sym c.asks_behind.ensures ∙ c.if-asks_behind.true))
+    c.asking.ensures.gives
+
+pub core-returns-in-Id-3-clause-gives : goal.core-returns-in-Id-3-clause-gives
+core-returns-in-Id-3-clause-gives g t c =
     rw (deed_assigns c.args.tokens.now c.in-Some.others.now c.in-Some.first.now c.in-Some.ensures.cases.0
-    c.in-Id.is (sym c.begins.ensures ∙ c.if-begins.false)) c.assignment.ensures.gives
+    c.in-Id.is (sym c.begins-in-Id-1.ensures ∙ c.if-begins-2.false) (sym c.asks_behind.ensures ∙ c.if-asks_behind.false))
+    c.assignment.ensures.gives
 
 pub statement-returns-in_err-label-clause-gives : goal.statement-returns-in_err-label-clause-gives
 statement-returns-in_err-label-clause-gives g t c =
