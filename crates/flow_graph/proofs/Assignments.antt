@@ -201,7 +201,7 @@ module _ (s : Scope) (gs ls : List Bool) where
   run [] i m = m
   run (k ∷ ks) i m = run ks (left_of k.1 i) (masked m (2 ^ k.0) (value_at k.1 i))
 
-  got_same : {A : Type 0} (sd : Side A) (r : RightSide Name) (i : ℕ) → length gs ≡ length s.globals → SaysSide sd s r
+  pub got_same : {A : Type 0} (sd : Side A) (r : RightSide Name) (i : ℕ) → length gs ≡ length s.globals → SaysSide sd s r
       → side_value sd (coded (gs ++ ls)) i ≡ value_at r i
   got_same side.Any any i e h = refl
   got_same side.Any (value x) i e h = absurd h
@@ -464,10 +464,11 @@ below_one : (n : ℕ) (o : Option ℕ) (ts : List (Option ℕ)) → ((b : ℕ) �
 below_one n None ts h k = k
 below_one n (Some b) ts h k = (h b refl, k)
 
-pub names_below : (s : Scope) (xs : List Name) → Below (length s.globals + length s.locals) (map (bit_of_name s) xs)
-names_below s [] = tt
-names_below s (x ∷ xs) =
-    below_one (length s.globals + length s.locals) (bit_of_name s x) (map (bit_of_name s) xs) (bit_within s x) (names_below s xs)
+pub names_below : (s : Scope) (xs : List Name) (n : ℕ) → length s.globals + length s.locals ≤ n → Below n (map (bit_of_name s) xs)
+names_below s [] n few = tt
+names_below s (x ∷ xs) n few =
+    below_one n (bit_of_name s x) (map (bit_of_name s) xs)
+    (λ b e. let inside = bit_within s x b e in omega (arith, inside, few)) (names_below s xs n few)
 
 bits_same : (s : Scope) (xs : List Name) → map (bit_of_place (length s.globals)) (map (place_of s) xs) ≡ map (bit_of_name s) xs
 bits_same s [] = refl
@@ -505,14 +506,14 @@ module _ {A : Type 0} (a : Assignment A) (s : Scope) (xs : List Name) (rs : List
   targets = map (bit_of_name s) xs
 
   ended : (gs ls vs : List Bool) (i : ℕ) → Compiled s a.writes.items (kept targets rs) → length gs ≡ length s.globals
-      → length ls ≡ length s.locals → Fits s gs ls targets rs vs i
+      → length s.locals ≤ length ls → Fits s gs ls targets rs vs i
       → written a.writes.items (coded (gs ++ ls)) i (coded (gs ++ ls))
       ≡ coded (written_globals (map (place_of s) xs) vs gs ++ written_locals (map (place_of s) xs) vs ls)
   ended gs ls vs i compiled g l fits =
       run_same s gs ls a.writes.items (kept targets rs) i (coded (gs ++ ls)) g compiled
       ∙ same_bits (run s gs ls (kept targets rs) i (coded (gs ++ ls))) (coded (put targets vs (gs ++ ls)))
-      (λ k. ends s gs ls (length s.globals + length s.locals) targets rs vs (names_below s xs) i (coded (gs ++ ls)) (gs ++ ls) fits
-      (length-append gs ls ∙ (let z : length gs + length ls ≡ length s.globals + length s.locals = omega (arith, g, l) in z))
+      (λ k. ends s gs ls (length (gs ++ ls)) targets rs vs
+      (names_below s xs (length (gs ++ ls)) (omega (arith, g, l, length-append gs ls))) i (coded (gs ++ ls)) (gs ++ ls) fits refl
       (λ j _. coded_bit (gs ++ ls) j) k
       ∙ sym (coded_bit (put targets vs (gs ++ ls)) k))
       ∙ ap coded (sym (written_bits (length s.globals) (map (place_of s) xs) vs gs ls g ∙ ap (λ ts. put ts vs (gs ++ ls)) (bits_same s xs)))

@@ -1,22 +1,25 @@
 -- Flows that do what happens at nodes.
 use Rattle.std.proofs.Common.{◌≡◌, ◌≤◌, ◌<◌, ℕ, zero, suc, ◌+◌, Bool, true, false, cond, Option}
-use Rattle.std.proofs.Common.{Some, List, [], ◌∷◌}
+use Rattle.std.proofs.Common.{Some, None, List, [], ◌∷◌}
 use Rattle.std.proofs.Common.{◌++◌, length, map, refl, sym, ◌∙◌, ap, subst, arith, ◌*◌, ◌^◌, ◌⊎◌, inl, inr}
 use Rattle.std.proofs.lemmas.List.{length-map}
 use Rattle.std.proofs.Math.Nat.{mul_comm}
 use Rattle.std.proofs.lemmas.Option.{none-some, same_Some}
 use Rattle.std.proofs.lemmas.Bool.{true≢false}
 use Rattle.language.specs.Tree.{Name, Expression, RightSide, any, value}
-use Rattle.language.specs.Value.{Place, value_of, values_of, IsValue}
-use Rattle.language.specs.Resolve.{Scope, place_of, resolve_side}
+use Rattle.language.specs.Value.{Place, global, local, value_of, values_of, IsValue, written_globals, written_locals}
+use Rattle.language.specs.Step.{Routine}
+use Rattle.language.specs.Resolve.{Scope, place_of, resolve_expression, resolve_side}
 use Rattle.language.specs.Sequential.{Valuation}
 use Rattle.language.proofs.Lengths.{length_values}
 use Rattle.flow_graph.specs.Bits.{bit_of, worth_of, coded}
 use Rattle.flow_graph.specs.Formulas.{says, SaysSide}
-use Rattle.flow_graph.specs.Assignments.{assigned, written}
-use Rattle.flow_graph.specs.Assigning.{Assigns, after_values}
+use Rattle.flow_graph.specs.Assignments.{masked, assigned, written}
+use Rattle.flow_graph.specs.Assigning.{HasPlaces, Assigns, WritesOne, after_values}
 use Rattle.flow_graph.specs.Nodes.{goes, stops, tests, assigns, calls, returns}
 use Rattle.flow_graph.specs.Flows.{code, exit_code, Widths, widths_of, HasWidths, Does}
+use Rattle.flow_graph.proofs.Assignments.{got_same}
+use Rattle.flow_graph.proofs.Nodes.{only_value}
 use Rattle.flow_graph.proofs.Rows.{first_bit}
 use Rattle.flow_graph.specs.declared.side.Side.{Side}
 use Rattle.flow_graph.specs.declared.side.Side.TheVariants as side
@@ -27,10 +30,10 @@ use Rattle.flow_graph.specs.declared.flow.Flow.TheVariants as flow
 use Rattle.flow_graph.specs.declared.call.Call.{Call}
 use Rattle.flow_graph.specs.declared.formula.Formula.{Formula}
 use Rattle.flow_graph.specs.Calls.{entry_of, resumed}
-use Rattle.flow_graph.specs.Located.{target_mask}
+use Rattle.flow_graph.specs.Located.{target_mask, given_mask}
 use Rattle.flow_graph.specs.Returns.{HasTarget}
 use Rattle.flow_graph.proofs.Coding.{coded_append, left_coded}
-use Rattle.flow_graph.proofs.Returns.{resumed_code}
+use Rattle.flow_graph.proofs.Returns.{resumed_code, given_code}
 use Rattle.resolved.specs.Limits.{most_places}
 
 -- the two parts of a pair that is there
@@ -85,27 +88,73 @@ does_goes {A} a to w none last = record {
     stays : (values i : ℕ) → assigned a values i ≡ values
     stays values i = ap (λ ws. written ws values i values) none
 
-pub does_assigns : {A : Type 0} (a : Assignment A) (s : Scope) (xs : List Name) (rs : List (RightSide Name)) (to : ℕ) →
+-- a procedure's valuations have a place for each formal and local
+wide_enough : (s : Scope) (gives : Bool) (v : Valuation) → HasWidths (widths_of s gives) v → HasPlaces s v
+wide_enough s gives v wide = (wide.0, omega (arith, wide.1))
+
+pub does_assigns : {A : Type 0} (a : Assignment A) (s : Scope) (gives : Bool) (xs : List Name) (rs : List (RightSide Name)) (to : ℕ) →
     Assigns a s xs rs →
-    Does (Assign a to) (assigns (map (place_of s) xs) (map (resolve_side s) rs) to) (widths_of s)
-does_assigns {A} a s xs rs to d = record {
+    Does (Assign a to) (assigns (map (place_of s) xs) (map (resolve_side s) rs) to) (widths_of s gives)
+does_assigns {A} a s gives xs rs to d = record {
   leads = λ v n w wide. (
     λ h.
         let (i, (le, is)) = h in
         let next = assigned a (code v) i in
-        let (vs, are, at) = (d.leads v w wide).0 (i, (le, same_second to next n w is)) in
+        let (vs, are, at) = (d.leads v w (enough v wide)).0 (i, (le, same_second to next n w is)) in
         (after_values s xs vs v, (vs, are, sym (same_first to next n w is), refl), at),
     λ h.
         let (v', (vs, are, is, same), at) = h in
-        let (i, (le, next)) = (d.leads v w wide).1 (vs, are, at ∙ ap code same) in
+        let (i, (le, next)) = (d.leads v w (enough v wide)).1 (vs, are, at ∙ ap code same) in
         (i, (le, λ t. Some (sym is t, next t))),
   );
   once = λ v i j n w wide one other.
-      d.once v i j w wide (one.0, same_second to (assigned a (code v) i) n w one.1)
+      d.once v i j w (enough v wide) (one.0, same_second to (assigned a (code v) i) n w one.1)
       (other.0, same_second to (assigned a (code v) j) n w other.1);
   enters = λ v s e n wide. (λ h. absurd (none-some _ h), λ h. absurd h.1);
   resumes = λ v x s e n wide count h. absurd (none-some _ h);
 }
+  where
+    enough : (v : Valuation) → HasWidths (widths_of s gives) v → HasPlaces s v
+    enough = wide_enough s gives
+
+-- a value written to the bit of the result is returned
+pub does_returned : {A : Type 0} (a : Assignment A) (s : Scope) (r : Routine) (e : Expression Name) → r.places ≡ length s.locals →
+    WritesOne a (given_mask (length s.globals) r) s e →
+    Does (Assign a 0) (assigns (local r.places ∷ []) (value (resolve_expression s e) ∷ []) 0) (widths_of s r.gives)
+does_returned {A} a s r e count (w, items, last, masks, says_so) = record {
+  leads = λ v n m wide. (
+    λ h.
+        let (i, (le, is)) = h in
+        let next = assigned a (code v) i in (
+          returned v (got v),
+          (got v, (refl, tt), sym (same_first 0 next n m is), refl),
+          sym (same_second 0 next n m is) ∙ leads_to v i wide,
+        ),
+    λ h.
+        let (v', (vs, are, is, same), at) = h in
+        let after = same ∙ ap (returned v) (only_value v.globals v.places (resolve_expression s e) vs are) in
+        (0, (omega arith, λ t. Some (sym is t, (leads_to v 0 wide ∙ ap code (sym after) ∙ sym at) t))),
+  );
+  once = λ v i j n m wide one other. omega (arith, one.0, other.0, last);
+  enters = λ v q x n wide. (λ h. absurd (none-some _ h), λ h. absurd h.1);
+  resumes = λ v y q x n wide few h. absurd (none-some _ h);
+}
+  where
+    got : Valuation → List Bool
+    got v = value_of v.globals v.places (resolve_expression s e) ∷ []
+
+    returned : Valuation → List Bool → Valuation
+    returned v bs = record {
+      globals = written_globals (local r.places ∷ []) bs v.globals;
+      places = written_locals (local r.places ∷ []) bs v.places;
+    }
+
+    leads_to : (v : Valuation) (i : ℕ) → HasWidths (widths_of s r.gives) v → assigned a (code v) i ≡ code (returned v (got v))
+    leads_to v i wide =
+        ap (λ ws. written ws (code v) i (code v)) items
+        ∙ (λ t. masked (code v) (masks t) (got_same s v.globals v.places w.side (value e) i wide.0 says_so t))
+        ∙ given_code r (length s.globals) v (value_of v.globals v.places (resolve_expression s e)) wide.0
+        (wide.1 ∙ ap (λ n. n + cond r.gives 1 0) (sym count))
 
 -- the choice of a value
 abbrev chosen : Bool → ℕ
@@ -126,9 +175,9 @@ one_choice (suc zero) (suc zero) a b ne le lj e = refl
 one_choice (suc (suc i)) j a b ne le lj e = absurd (omega (arith, le))
 one_choice i (suc (suc j)) a b ne le lj e = absurd (omega (arith, lj))
 
-pub does_tests : {A : Type 0} (sd : Side A) (r : RightSide Name) (s : Scope) (j k : ℕ) → (j ≡ k → ⊥) → SaysSide sd s r →
-    Does (Test sd j k) (tests (resolve_side s r) j k) (widths_of s)
-does_tests side.Any any s j k ne d = record {
+pub does_tests : {A : Type 0} (sd : Side A) (r : RightSide Name) (s : Scope) (gives : Bool) (j k : ℕ) → (j ≡ k → ⊥) → SaysSide sd s r →
+    Does (Test sd j k) (tests (resolve_side s r) j k) (widths_of s gives)
+does_tests side.Any any s gives j k ne d = record {
   leads = λ v n w wide. (
     λ h.
         let (i, (le, is)) = h in
@@ -145,9 +194,9 @@ does_tests side.Any any s j k ne d = record {
   enters = λ v s e n wide. (λ h. absurd (none-some _ h), λ h. absurd h.1);
   resumes = λ v x s e n wide count h. absurd (none-some _ h);
 }
-does_tests side.Any (value e) s j k ne d = absurd d
-does_tests (side.Value f) any s j k ne d = absurd d
-does_tests (side.Value f) (value e) s j k ne d = record {
+does_tests side.Any (value e) s gives j k ne d = absurd d
+does_tests (side.Value f) any s gives j k ne d = absurd d
+does_tests (side.Value f) (value e) s gives j k ne d = record {
   leads = λ v n w wide. (
     λ h.
         let (i, (le, is)) = h in
@@ -205,11 +254,17 @@ entry_code fs s es v all e =
     mul_comm (2 ^ length s.globals) (coded (map (λ f. says f (code v)) fs)) ∙ λ t. said t * 2 ^ sym e t in
     omega (arith, low, whole, above)
 
-pub does_calls : {A : Type 0} (c : Call A) (x : Option Place) (p : ℕ) (es : List (Expression Place)) (s : Scope) → c.callee ≡ p →
-    c.globals ≡ length s.globals → p < length s.procedures → AllSay c.arguments.items s es →
+-- a target has a place where there are more
+target_within : (n k : ℕ) (x : Option Place) → n ≤ k → HasTarget n x → HasTarget k x
+target_within n k None le has = tt
+target_within n k (Some (global i)) le has = tt
+target_within n k (Some (local i)) le has = omega (arith, le, has)
+
+pub does_calls : {A : Type 0} (c : Call A) (x : Option Place) (p : ℕ) (es : List (Expression Place)) (s : Scope)
+    (gives : Bool) → c.callee ≡ p → c.globals ≡ length s.globals → p < length s.procedures → AllSay c.arguments.items s es →
     c.target ≡ target_mask (length s.globals) x → HasTarget (length s.locals) x →
-    Does (flow.Call c) (calls x p es c.back) (widths_of s)
-does_calls {A} c x p es s to_p globals there all masks has = record {
+    Does (flow.Call c) (calls x p es c.back) (widths_of s gives)
+does_calls {A} c x p es s gives to_p globals there all masks has = record {
   leads = λ v n w wide. (λ h. absurd (none-some _ h.1.1), λ h. absurd h.1);
   once = λ v i j n w wide one other. absurd (none-some _ one.1);
   enters = λ v q e n wide. (
@@ -230,15 +285,19 @@ does_calls {A} c x p es s to_p globals there all masks has = record {
   );
   resumes = λ v y q e n wide count h.
       (λ t. resumed (globals t) (masks t) (code v) (exit_code y))
-      ∙ resumed_code (length s.globals) x v y wide.0 (count ∙ wide.0) (subst (λ k. HasTarget k x) (sym wide.1) has);
+      ∙ resumed_code (length s.globals) x v y wide.0 (count ∙ wide.0)
+      (target_within (length s.locals) (length v.places) x (enough v wide) has);
 }
   where
-    entry : (v : Valuation) → HasWidths (widths_of s) v →
+    enough : (v : Valuation) → HasWidths (widths_of s gives) v → length s.locals ≤ length v.places
+    enough v wide = (wide_enough s gives v wide).1
+
+    entry : (v : Valuation) → HasWidths (widths_of s gives) v →
         entry_of c.globals c.arguments.items (code v) ≡ coded (v.globals ++ values_of v.globals v.places es)
     entry v wide =
         ap (λ n. entry_of n c.arguments.items (code v)) globals ∙ entry_code c.arguments.items s es v all wide.0
 
-    room : (v : Valuation) → HasWidths (widths_of s) v →
+    room : (v : Valuation) → HasWidths (widths_of s gives) v →
         length v.globals + length (values_of v.globals v.places es) ≤ most_places
     room v wide =
         let said = ap length (all v.globals v.places wide.0) in

@@ -1,7 +1,7 @@
 -- What is reached and sent by numbers: the least that holds, more by more messages, and within the widths.
 use Rattle.std.proofs.Common.{◌≡◌, ◌↔◌, ◌≤◌, ◌<◌, ◌+◌, ◌^◌, ℕ, List, length, Some, slice_get, sym, subst}
 use Rattle.std.proofs.lemmas.Option.{slice_get_within}
-use Rattle.language.specs.Step.{Routine, Program, AtRoutine}
+use Rattle.language.specs.Step.{Routine, Program, frame_size, AtRoutine}
 use Rattle.language.specs.Sequential.{Caller, caller, Message, entry}
 use Rattle.language.specs.Lists.{Member}
 use Rattle.language.specs.Messages as by_messages
@@ -25,8 +25,8 @@ module _ {A : Type 0} (graph : Graph A) (M : NumberedMessage → Type 0) where
   pub reaches_least : (T : ℕ → ℕ → ℕ → Type 0) → ((from : Caller) (a : ℕ) → M (numbered_entry from a) → T a graph.start a)
       → ((a n v n' v' i : ℕ) (flow : Flow A) → T a n v → slice_get graph.flows.items n ≡ Some flow → i ≤ last_of flow
       → next_of flow v i ≡ Some (n', v') → T a n' v')
-      → ((a n v s e n' : ℕ) (b : Left) (flow : Flow A) → T a n v → slice_get graph.flows.items n ≡ Some flow → entered_by flow v ≡ Some (s, e, n')
-      → M (numbered_summary s e b) → T a n' (resumed_at graph n v b))
+      → ((a n v s e n' : ℕ) (b : Left) (flow : Flow A) → T a n v → slice_get graph.flows.items n ≡ Some flow
+      → entered_by flow v ≡ Some (s, e, n') → M (numbered_summary s e b) → T a n' (resumed_at graph n v b))
       → (a n v : ℕ) → GraphReaches graph M a n v → T a n v
   reaches_least T begins goes comes _ _ _ (starts from a k) = begins from a k
   reaches_least T begins goes comes _ _ _ (flows a n v n' v' i flow reached here most next) =
@@ -130,7 +130,7 @@ module _ {A : Type 0} (p : Program) (fit : ArgumentsFit p) (q : ℕ) (graph : Gr
 
 -- the number of a valuation has as many bits as the procedure has globals and places
 pub valuation_small : (p : Program) (q : ℕ) (routine : Routine) (n : ℕ) → slice_get p.routines q ≡ Some routine → IsNumberOfValuation p q n
-    → n < 2 ^ (p.globals + routine.places)
+    → n < 2 ^ (p.globals + frame_size routine)
 valuation_small p q routine n is (x, wide, e) =
-    let places : length x.places ≡ routine.places = subst (λ o. AtRoutine o (λ r. length x.places ≡ r.places)) is wide.1 in
-    subst (λ i. i < 2 ^ (p.globals + routine.places)) (sym e) (subst (λ w. code x < 2 ^ w) (λ i. wide.0 i + places i) (code_small x))
+    let places : length x.places ≡ frame_size routine = subst (λ o. AtRoutine o (λ r. length x.places ≡ frame_size r)) is wide.1 in
+    subst (λ i. i < 2 ^ (p.globals + frame_size routine)) (sym e) (subst (λ w. code x < 2 ^ w) (λ i. wide.0 i + places i) (code_small x))

@@ -7,6 +7,7 @@ use Rattle.language.specs.Tree as tree
 use Rattle.language.specs.Tree.{Mark, done, one, choose, loop}
 use Rattle.language.specs.Resolve.{Scope, resolve_mark, resolve_simple, resolve_side, resolve_block}
 use Rattle.language.specs.Rest.{Code, join}
+use Rattle.language.specs.Step.{Routine}
 use Rattle.language.specs.Sequential.{statements, numbered, marked}
 use Rattle.language.specs.Flow.{rests}
 use Rattle.trees.specs.declared.tree.Stmt.{Stmt}
@@ -58,21 +59,21 @@ rests_led n s m (repeat r a) t k =
     ap (λ l. again (join T' k) ∷ (l ++ rests T' k)) (sym (append-nil (rests A (again (join T' k)))))
     ∙ ap (λ T. rests (again done) (join T k) ++ rests T k) (behind_repeat n s m t r a)
 
-pub nodes_split : {A : Type 0} (body : Code) (n j : ℕ) (s : Scope) (x : Stmt A) (l : List (Stmt A)) (k : Code)
+pub nodes_split : {A : Type 0} (routine : Routine) (n j : ℕ) (s : Scope) (x : Stmt A) (l : List (Stmt A)) (k : Code)
     → j ≡ n + statements (block_of (x ∷ [])) →
-    map (node_of body) (rests (numbered n (resolve_block s (block_of (x ∷ l)))) k)
-    ≡ map (node_of body) (rests (numbered n (resolve_block s (block_of (x ∷ [])))) (join (numbered j (resolve_block s (block_of l))) k))
-    ++ map (node_of body) (rests (numbered j (resolve_block s (block_of l))) k)
-nodes_split body n j s x l k e =
-    ap (map (node_of body)) (rests_led n s (item_of x).mark (item_of x).deed (block_of l) k)
-    ∙ map-append (node_of body)
+    map (node_of routine) (rests (numbered n (resolve_block s (block_of (x ∷ l)))) k)
+    ≡ map (node_of routine) (rests (numbered n (resolve_block s (block_of (x ∷ [])))) (join (numbered j (resolve_block s (block_of l))) k))
+    ++ map (node_of routine) (rests (numbered j (resolve_block s (block_of l))) k)
+nodes_split routine n j s x l k e =
+    ap (map (node_of routine)) (rests_led n s (item_of x).mark (item_of x).deed (block_of l) k)
+    ∙ map-append (node_of routine)
     (rests (numbered n (resolve_block s (block_of (x ∷ []))))
     (join (numbered (n + statements (block_of (x ∷ []))) (resolve_block s (block_of l))) k))
     (rests (numbered (n + statements (block_of (x ∷ []))) (resolve_block s (block_of l))) k)
     ∙ ap
     (λ i.
-    map (node_of body) (rests (numbered n (resolve_block s (block_of (x ∷ [])))) (join (numbered i (resolve_block s (block_of l))) k))
-    ++ map (node_of body) (rests (numbered i (resolve_block s (block_of l))) k)) (sym e)
+    map (node_of routine) (rests (numbered n (resolve_block s (block_of (x ∷ [])))) (join (numbered i (resolve_block s (block_of l))) k))
+    ++ map (node_of routine) (rests (numbered i (resolve_block s (block_of l))) k)) (sym e)
 
 -- flows behind flows
 all_do : {A : Type 0} (fs gs : List (Flow A)) (ns ms : List Node) (w : Widths) → AllDo fs ns w → AllDo gs ms w →
@@ -95,48 +96,48 @@ pub lowered_one : {A : Type 0} (old new : List (Flow A)) (f : Flow A) (n : Node)
 lowered_one old new f n w e d = (f ∷ [], e, (d, tt))
 
 -- what happens at a statement, by what it does
-pub node_simple : (body : Code) (n : ℕ) (s : Scope) (m : Mark tree.Name) (d : Deed) (c : tree.Simple tree.Name tree.Name tree.Name)
+pub node_simple : (routine : Routine) (n : ℕ) (s : Scope) (m : Mark tree.Name) (d : Deed) (c : tree.Simple tree.Name tree.Name tree.Name)
     (k : Code) → d ≡ simple c →
-    node_of body (join (led n s m d done) k) ≡ node_of body (one (marked n (resolve_mark m)) (resolve_simple s c) k)
-node_simple body n s m d c k is = ap (λ z. node_of body (join (led n s m z done) k)) is
+    node_of routine (join (led n s m d done) k) ≡ node_of routine (one (marked n (resolve_mark m)) (resolve_simple s c) k)
+node_simple routine n s m d c k is = ap (λ z. node_of routine (join (led n s m z done) k)) is
 
-pub node_branch : (body : Code) (n : ℕ) (s : Scope) (m : Mark tree.Name) (d : Deed) (r : tree.RightSide tree.Name) (a b : Names) (k : Code)
-    → d ≡ branch r a b →
-    node_of body (join (led n s m d done) k)
+pub node_branch : (routine : Routine) (n : ℕ) (s : Scope) (m : Mark tree.Name) (d : Deed) (r : tree.RightSide tree.Name)
+    (a b : Names) (k : Code) → d ≡ branch r a b →
+    node_of routine (join (led n s m d done) k)
     ≡ tests (resolve_side s r) (point_at (join (numbered (suc n) (resolve_block s a)) k))
     (point_at (join (numbered (suc n + statements a) (resolve_block s b)) k))
-node_branch body n s m d r a b k is =
-    ap (λ z. node_of body (join (led n s m z done) k)) is
+node_branch routine n s m d r a b k is =
+    ap (λ z. node_of routine (join (led n s m z done) k)) is
     ∙ ap (λ j. tests (resolve_side s r) (point_at (join (numbered (suc n) (resolve_block s a)) k))
     (point_at (join (numbered (suc n + j) (resolve_block s b)) k))) (resolved_statements s a)
 
-pub node_repeat : (body : Code) (n : ℕ) (s : Scope) (m : Mark tree.Name) (d : Deed) (r : tree.RightSide tree.Name) (a : Names) (k : Code)
-    → d ≡ repeat r a →
-    node_of body (join (led n s m d done) k)
+pub node_repeat : (routine : Routine) (n : ℕ) (s : Scope) (m : Mark tree.Name) (d : Deed) (r : tree.RightSide tree.Name)
+    (a : Names) (k : Code) → d ≡ repeat r a →
+    node_of routine (join (led n s m d done) k)
     ≡ tests (resolve_side s r) (point_at
     (join (numbered (suc n) (resolve_block s a))
     (loop (marked n (resolve_mark m)) (resolve_side s r) (numbered (suc n) (resolve_block s a)) k))) (point_at k)
-node_repeat body n s m d r a k is = ap (λ z. node_of body (join (led n s m z done) k)) is
+node_repeat routine n s m d r a k is = ap (λ z. node_of routine (join (led n s m z done) k)) is
 
 -- what happens at a statement and at those inside of it, which have these numbers
-pub nodes_simple : (body : Code) (n : ℕ) (s : Scope) (m : Mark tree.Name) (d : Deed) (c : tree.Simple tree.Name tree.Name tree.Name)
+pub nodes_simple : (routine : Routine) (n : ℕ) (s : Scope) (m : Mark tree.Name) (d : Deed) (c : tree.Simple tree.Name tree.Name tree.Name)
     (k : Code) → d ≡ simple c →
-    map (node_of body) (rests (led n s m d done) k) ≡ node_of body (join (led n s m d done) k) ∷ []
-nodes_simple body n s m d c k is =
-    ap (λ z. map (node_of body) (rests (led n s m z done) k)) is ∙ ap (λ z. node_of body (join (led n s m z done) k) ∷ []) (sym is)
+    map (node_of routine) (rests (led n s m d done) k) ≡ node_of routine (join (led n s m d done) k) ∷ []
+nodes_simple routine n s m d c k is =
+    ap (λ z. map (node_of routine) (rests (led n s m z done) k)) is ∙ ap (λ z. node_of routine (join (led n s m z done) k) ∷ []) (sym is)
 
-pub nodes_branch : (body : Code) (n i j : ℕ) (s : Scope) (m : Mark tree.Name) (d : Deed) (r : tree.RightSide tree.Name) (a b : Names)
+pub nodes_branch : (routine : Routine) (n i j : ℕ) (s : Scope) (m : Mark tree.Name) (d : Deed) (r : tree.RightSide tree.Name) (a b : Names)
     (k : Code) → d ≡ branch r a b → i ≡ suc n → j ≡ suc n + statements a →
-    map (node_of body) (rests (led n s m d done) k)
-    ≡ node_of body (join (led n s m d done) k)
-    ∷ (map (node_of body) (rests (numbered i (resolve_block s a)) k) ++ map (node_of body) (rests (numbered j (resolve_block s b)) k))
-nodes_branch body n i j s m d r a b k is at_i at_j =
-    ap (λ z. map (node_of body) (rests (led n s m z done) k)) is
+    map (node_of routine) (rests (led n s m d done) k)
+    ≡ node_of routine (join (led n s m d done) k)
+    ∷ (map (node_of routine) (rests (numbered i (resolve_block s a)) k) ++ map (node_of routine) (rests (numbered j (resolve_block s b)) k))
+nodes_branch routine n i j s m d r a b k is at_i at_j =
+    ap (λ z. map (node_of routine) (rests (led n s m z done) k)) is
     ∙ ap (λ l. head ∷ l)
-    (ap (λ l. map (node_of body) (rests A k ++ l)) (append-nil (rests B k)) ∙ map-append (node_of body) (rests A k) (rests B k))
+    (ap (λ l. map (node_of routine) (rests A k ++ l)) (append-nil (rests B k)) ∙ map-append (node_of routine) (rests A k) (rests B k))
     ∙ (λ t.
-    node_of body (join (led n s m (sym is t) done) k)
-    ∷ (map (node_of body) (rests (numbered (sym at_i t) (resolve_block s a)) k) ++ map (node_of body)
+    node_of routine (join (led n s m (sym is t) done) k)
+    ∷ (map (node_of routine) (rests (numbered (sym at_i t) (resolve_block s a)) k) ++ map (node_of routine)
     (rests (numbered ((ap (λ z. suc n + z) (resolved_statements s a) ∙ sym at_j) t) (resolve_block s b)) k)))
   where
     A : Code
@@ -146,20 +147,20 @@ nodes_branch body n i j s m d r a b k is at_i at_j =
     B = numbered (suc n + statements (resolve_block s a)) (resolve_block s b)
 
     head : Node
-    head = node_of body (join (led n s m (branch r a b) done) k)
+    head = node_of routine (join (led n s m (branch r a b) done) k)
 
-pub nodes_repeat : (body : Code) (n i : ℕ) (s : Scope) (m : Mark tree.Name) (d : Deed) (r : tree.RightSide tree.Name) (a : Names)
+pub nodes_repeat : (routine : Routine) (n i : ℕ) (s : Scope) (m : Mark tree.Name) (d : Deed) (r : tree.RightSide tree.Name) (a : Names)
     (k : Code) → d ≡ repeat r a → i ≡ suc n →
-    map (node_of body) (rests (led n s m d done) k)
-    ≡ node_of body (join (led n s m d done) k) ∷ map (node_of body)
+    map (node_of routine) (rests (led n s m d done) k)
+    ≡ node_of routine (join (led n s m d done) k) ∷ map (node_of routine)
     (rests (numbered i (resolve_block s a))
     (loop (marked n (resolve_mark m)) (resolve_side s r) (numbered (suc n) (resolve_block s a)) k))
-nodes_repeat body n i s m d r a k is at_i =
-    ap (λ z. map (node_of body) (rests (led n s m z done) k)) is
-    ∙ ap (λ l. node_of body (join (led n s m (repeat r a) done) k) ∷ map (node_of body) l)
+nodes_repeat routine n i s m d r a k is at_i =
+    ap (λ z. map (node_of routine) (rests (led n s m z done) k)) is
+    ∙ ap (λ l. node_of routine (join (led n s m (repeat r a) done) k) ∷ map (node_of routine) l)
     (append-nil (rests (numbered (suc n) (resolve_block s a)) again))
     ∙ (λ t.
-    node_of body (join (led n s m (sym is t) done) k) ∷ map (node_of body) (rests (numbered (sym at_i t) (resolve_block s a)) again))
+    node_of routine (join (led n s m (sym is t) done) k) ∷ map (node_of routine) (rests (numbered (sym at_i t) (resolve_block s a)) again))
   where
     again : Code
     again = loop (marked n (resolve_mark m)) (resolve_side s r) (numbered (suc n) (resolve_block s a)) k

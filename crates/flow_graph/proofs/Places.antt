@@ -1,19 +1,32 @@
 -- The bit of a variable, by the list of names that declares it.
 use Rattle.std.proofs.Common.{◌≡◌, ℕ, ◌+◌, ◌<◌, ◌≤◌, List, ◌++◌, Bool, true, false, cond}
 use Rattle.std.proofs.Common.{nat_lt, Option, Some, None}
-use Rattle.std.proofs.Common.{length, refl, sym, ◌∙◌, ap, arith}
+use Rattle.std.proofs.Common.{length, refl, sym, ◌∙◌, ap, subst, arith}
 use Rattle.std.proofs.lemmas.Bool.{lt-ltb, ltb-true}
 use Rattle.std.proofs.lemmas.List.{length-map}
 use Rattle.language.specs.Tree.{Name}
+use Rattle.language.specs.Value.{Place}
 use Rattle.language.specs.Resolve as resolve
 use Rattle.language.specs.Resolve.{number_of, is_declared, place_of}
 use Rattle.language.proofs.Names.{declared_first, declared_second, number_first, number_second, number_less, place_declared, place_other}
 use Rattle.trees.specs.Trees.{name_of, names_of}
 use Rattle.trees.specs.declared.tree.Name as declared
 use Rattle.flow_graph.specs.Located.{bit_of_place, bit_of_name}
+use Rattle.flow_graph.specs.Returns.{HasTarget}
 use Rattle.flow_graph.specs.Views.{scope_seen, IsSmall}
 use Rattle.flow_graph.specs.declared.scope.Scope.{Scope}
 use Rattle.resolved.specs.Limits.{most_places}
+
+-- a variable of a scope that is called for has a place
+pub named_target : (s : resolve.Scope) (x : Name) → HasTarget (length s.locals) (Some (place_of s x))
+named_target s x = go (is_declared x.text s.locals) refl
+  where
+    Has : Place → Type 0
+    Has place = HasTarget (length s.locals) (Some place)
+
+    go : (b : Bool) → is_declared x.text s.locals ≡ b → Has (place_of s x)
+    go true is = subst Has (sym (place_declared s x is)) (number_less x.text s.locals is)
+    go false is = subst Has (sym (place_other s x is)) tt
 
 module _ (gs fs ls ps : List Name) (x : Name) where
   abbrev scope : resolve.Scope

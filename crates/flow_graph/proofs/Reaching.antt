@@ -5,7 +5,7 @@ use Rattle.std.proofs.lemmas.Option.{same_Some}
 use Rattle.language.specs.Tree.{done, one, choose, loop}
 use Rattle.language.specs.Value.{values_of}
 use Rattle.language.specs.Rest.{Code, join, target_of}
-use Rattle.language.specs.Step.{Program, fresh, AtRoutine, body_of}
+use Rattle.language.specs.Step.{Program, fresh, frame_size, AtRoutine, body_of}
 use Rattle.language.specs.Sequential.{statements, marked, numbered, point_of, Valuation, Calls}
 use Rattle.language.specs.Sequential.{Caller, caller, Message, entry, summary, Exit, exit_of, resumed_with}
 use Rattle.language.specs.Flow.{rests, IsRestOf, after_first}
@@ -14,7 +14,7 @@ use Rattle.language.specs.Messages as by_messages
 use Rattle.language.specs.Messages.{Reached, Owes, IsValuationOf, IsMessageTo, ArgumentsFit}
 use Rattle.language.proofs.ByMessages.{reached_entry, reached_stands}
 use Rattle.language.proofs.Entering.{call_shape}
-use Rattle.language.proofs.Lengths.{length_fresh, length_values}
+use Rattle.language.proofs.Lengths.{length_fresh, length_values, places_within}
 use Rattle.language.proofs.Members.{member_append}
 use Rattle.language.proofs.RestPoints.{point_tells_rest}
 use Rattle.language.proofs.StepKinds.{routine_found}
@@ -61,8 +61,8 @@ entry_is from a s x b e = let z : 0 ≡ 1 = ap kind_of e in omega (arith, z)
 same_widths : (p : Program) (q : ℕ) (v w : Valuation) → IsValuationOf p q v → IsValuationOf p q w
     → (length v.globals ≡ length w.globals) × (length v.places ≡ length w.places)
 same_widths p q v w (g, l) (g', l') =
-    let (routine, is, few) = routine_found (slice_get p.routines q) (λ r. length v.places ≡ r.places) l in
-    let few' : length w.places ≡ routine.places = subst (λ o. AtRoutine o (λ r. length w.places ≡ r.places)) is l' in
+    let (routine, is, few) = routine_found (slice_get p.routines q) (λ r. length v.places ≡ frame_size r) l in
+    let few' : length w.places ≡ frame_size routine = subst (λ o. AtRoutine o (λ r. length w.places ≡ frame_size r)) is l' in
     (g ∙ sym g', few ∙ sym few')
 
 -- a number tells the valuation of a procedure
@@ -87,18 +87,16 @@ pub called_valuation : (p : Program) → ArgumentsFit p → (q : ℕ) (v : Valua
     → length v.globals ≡ p.globals
     → IsRestOf (body_of (slice_get p.routines q)) r → Calls p v.globals v.places r s e → IsValuationOf p s e
 called_valuation p fit q v r s e wide rest calls =
-    let (m, es, t, same, h) = call_shape p v.globals v.places r s e calls in
+    let (es, at, h) = call_shape p v.globals v.places r s e calls in
     let (routine, is, made) =
     routine_found (slice_get p.routines s) (λ z. e
-    ≡ record { globals = v.globals; places = fresh z.places (values_of v.globals v.places es) }) h in
-    let few : length es ≤ routine.places =
-    subst (λ o. AtRoutine o (λ z. length es ≤ z.places)) is
-    (fit q s m es t (subst (IsRestOf (body_of (slice_get p.routines q))) same rest)) in
+    ≡ record { globals = v.globals; places = fresh (frame_size z) (values_of v.globals v.places es) }) h in
+    let few : length es ≤ routine.places = subst (λ o. AtRoutine o (λ z. length es ≤ z.places)) is (fit q s r es rest at) in
     let count : length (values_of v.globals v.places es) ≡ length es = length_values v.globals v.places es in
-    let places : length e.places ≡ routine.places = ap (λ (z : Valuation). length z.places) made
-    ∙ length_fresh routine.places (values_of v.globals v.places es) (omega (arith, few, count)) in (
+    let places : length e.places ≡ frame_size routine = ap (λ (z : Valuation). length z.places) made
+    ∙ length_fresh (frame_size routine) (values_of v.globals v.places es) (omega (arith, few, count, places_within routine)) in (
       ap (λ (z : Valuation). length z.globals) made ∙ wide,
-      subst (λ o. AtRoutine o (λ z. length e.places ≡ z.places)) (sym is) places,
+      subst (λ o. AtRoutine o (λ z. length e.places ≡ frame_size z)) (sym is) places,
     )
 
 -- ---- points

@@ -14,8 +14,8 @@ use Rattle.trees.proofs.Held.{held}
 use Rattle.trees.proofs.Folds.{item_deed}
 use Rattle.flow_graph.specs.Nodes.{Node, point_at, node_of, tests}
 use Rattle.flow_graph.specs.Points.{BeginAt}
-use Rattle.flow_graph.specs.Flows.{widths_of, Lowered}
-use Rattle.flow_graph.specs.Lowering.{lowering_scope, lowered_body, side_in, IsCounted}
+use Rattle.flow_graph.specs.Flows.{Lowered}
+use Rattle.flow_graph.specs.Lowering.{lowering_scope, lowered_routine, lowered_widths, side_in, IsCounted}
 use Rattle.flow_graph.specs.Lowering.{DoesIn, DoesFirst, LoweredFirst, LoweredIn}
 use Rattle.flow_graph.specs.declared.flow.Flow.{Flow}
 use Rattle.flow_graph.specs.declared.lowering.Lowering.{Lowering}
@@ -41,12 +41,12 @@ module _ {N A : Type 0} (l : Lowering N A) (stmt : Stmt N) (after : ℕ) where
   -- a statement with none inside of it, whose node depends on the point behind it
   pub does_simple : (n : ℕ) (c : tree.Simple tree.Name tree.Name tree.Name) (node : ℕ → Node) →
       deed_of stmt.core ≡ simple c →
-      ((k : Code) → node_of (lowered_body l)
+      ((k : Code) → node_of (lowered_routine l)
       (one (marked n (resolve_mark (item_of stmt).mark)) (resolve_simple (lowering_scope l) c) k) ≡ node (point_at k)) →
       (f : Flow A) → DoesIn l f (node after) → DoesFirst l f stmt n after
   does_simple n c node is same f does k at_k few =
       let i = item_of stmt in
-      let here = node_simple (lowered_body l) n (lowering_scope l) i.mark i.deed c k (item_deed stmt ∙ is) in
+      let here = node_simple (lowered_routine l) n (lowering_scope l) i.mark i.deed c k (item_deed stmt ∙ is) in
       subst (DoesIn l f) (sym (here ∙ same k ∙ ap node at_k)) does
 
   -- a statement with two blocks, where the flow tests between the points at which they begin
@@ -59,7 +59,7 @@ module _ {N A : Type 0} (l : Lowering N A) (stmt : Stmt N) (after : ℕ) where
       let i = item_of stmt in
       let s = lowering_scope l in
       let (at_to, at_other) = begin few in
-      let node = node_branch (lowered_body l) n s i.mark i.deed (rhs_of r) (block_of a) (block_of b) k in
+      let node = node_branch (lowered_routine l) n s i.mark i.deed (rhs_of r) (block_of a) (block_of b) k in
       subst (DoesIn l f)
       (sym (node (item_deed stmt ∙ is) ∙ λ t. tests (side_in l r) (sym (at_to s k at_k) t) (sym (at_other s k at_k) t)))
       does
@@ -73,7 +73,7 @@ module _ {N A : Type 0} (l : Lowering N A) (stmt : Stmt N) (after : ℕ) where
       let s = lowering_scope l in
       let body = numbered (suc n) (resolve_block s (block_of a)) in
       let again = loop (marked n (resolve_mark i.mark)) (side_in l r) body k in
-      let here = node_repeat (lowered_body l) n s i.mark i.deed (rhs_of r) (block_of a) k (item_deed stmt ∙ is) in
+      let here = node_repeat (lowered_routine l) n s i.mark i.deed (rhs_of r) (block_of a) k (item_deed stmt ∙ is) in
       subst (DoesIn l f) (sym (here ∙ λ t. tests (side_in l r) (sym (begin few s again refl) t) (at_k t))) does
 
   pub lowered_simple : (c : tree.Simple tree.Name tree.Name tree.Name) (old new : List (Flow A)) →
@@ -84,8 +84,8 @@ module _ {N A : Type 0} (l : Lowering N A) (stmt : Stmt N) (after : ℕ) where
       let parts = ap held is in (
         omega (arith, ap length pushed, length-append old (f ∷ []), parts, alone_counts stmt),
         λ k at_k few.
-            subst (λ ns. Lowered old new ns (widths_of s))
-            (sym (nodes_simple (lowered_body l) (length old) s i.mark i.deed c k (item_deed stmt ∙ is)))
+            subst (λ ns. Lowered old new ns (lowered_widths l))
+            (sym (nodes_simple (lowered_routine l) (length old) s i.mark i.deed c k (item_deed stmt ∙ is)))
             (lowered_one old new f _ _ pushed (does k at_k few)),
       )
 
@@ -103,8 +103,8 @@ module _ {N A : Type 0} (l : Lowering N A) (stmt : Stmt N) (after : ℕ) where
         λ k at_k few.
             let here = left.1 k at_k (few.0, omega (arith, few.1, next, whole, parts)) in
             let there = right.1 k at_k (few.0, omega (arith, few.1, left.0, next, whole, parts)) in
-            subst (λ ns. Lowered old new ns (widths_of s))
-            (sym (nodes_branch (lowered_body l) (length old) (length first) (length mid) s i.mark i.deed r
+            subst (λ ns. Lowered old new ns (lowered_widths l))
+            (sym (nodes_branch (lowered_routine l) (length old) (length first) (length mid) s i.mark i.deed r
             (block_of a) (block_of b) k (item_deed stmt ∙ is) next (omega (arith, left.0, next))))
             (lowered_then old first new _ _ _ (lowered_one old first f _ _ pushed (does k at_k few))
             (lowered_then first mid new _ _ _ here there)),
@@ -124,8 +124,8 @@ module _ {N A : Type 0} (l : Lowering N A) (stmt : Stmt N) (after : ℕ) where
             let body = numbered (suc (length old)) (resolve_block s (block_of a)) in
             let again = loop (marked (length old) (resolve_mark i.mark)) (resolve_side s r) body k in
             let here = inside.1 again refl (few.0, omega (arith, few.1, next, whole, parts)) in
-            subst (λ ns. Lowered old new ns (widths_of s))
-            (sym (nodes_repeat (lowered_body l) (length old) (length first) s i.mark i.deed r (block_of a) k
+            subst (λ ns. Lowered old new ns (lowered_widths l))
+            (sym (nodes_repeat (lowered_routine l) (length old) (length first) s i.mark i.deed r (block_of a) k
             (item_deed stmt ∙ is) next))
             (lowered_then old first new _ _ _ (lowered_one old first f _ _ pushed (does k at_k few)) here),
       )

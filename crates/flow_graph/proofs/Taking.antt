@@ -2,7 +2,7 @@
 use Rattle.std.proofs.Common.{◌≡◌, ◌↔◌, ℕ, zero, suc, List, [], ◌∷◌, length, Some, slice_get, refl, sym, ◌∙◌, ap, subst, arith}
 use Rattle.std.proofs.lemmas.Option.{none-some}
 use Rattle.language.specs.Rest.{Code}
-use Rattle.language.specs.Step.{Program, zeros}
+use Rattle.language.specs.Step.{Program, zeros, frame_size}
 use Rattle.language.specs.Sequential.{Valuation, starter, caller, Message, entry, IsZero, IsDue, in_text_order}
 use Rattle.language.specs.Messages as by_messages
 use Rattle.language.specs.Messages.{Reached, Owes, IsMessageTo, ArgumentsFit, HasOpening, HasOwed, EdgeTo}
@@ -63,8 +63,8 @@ owes_entry p q M _ _ (by_messages.tells a v s is reached) = (entry (caller s) a,
 code_zero : (p : Program) (a : Valuation) → IsZero p a → code a ≡ 0
 code_zero p a begins =
     let (routine, is, e) =
-    routine_found (slice_get p.routines 0) (λ r. a ≡ record { globals = zeros p.globals; places = zeros r.places }) begins in
-    ap code e ∙ coded_zeros p.globals routine.places
+    routine_found (slice_get p.routines 0) (λ r. a ≡ record { globals = zeros p.globals; places = zeros (frame_size r) }) begins in
+    ap code e ∙ coded_zeros p.globals (frame_size routine)
 
 -- T says which messages each procedure took
 module _ {A : Type 0} (p : Program) (graphs : List (Graph A)) (T : ℕ → NumberedMessage → Type 0) (fit : ArgumentsFit p)

@@ -1,12 +1,14 @@
 -- What a simultaneous assignment means to its compiled form.
-use Rattle.std.specs.Prelude.{◌≡◌, ◌↔◌, ◌≤◌, ℕ, Bool, List, map}
-use Rattle.language.specs.Tree.{Name, RightSide}
+use Rattle.std.specs.Prelude.{◌≡◌, ◌↔◌, ◌≤◌, ℕ, Bool, List, [], ◌∷◌, length, map}
+use Rattle.language.specs.Tree.{Name, Expression, RightSide, value}
 use Rattle.language.specs.Value.{AreValues, written_globals, written_locals}
 use Rattle.language.specs.Resolve.{Scope, place_of, resolve_side}
 use Rattle.language.specs.Sequential.{Valuation}
 use Rattle.flow_graph.specs.Assignments.{assigned}
-use Rattle.flow_graph.specs.Flows.{code, widths_of, HasWidths}
+use Rattle.flow_graph.specs.Flows.{code}
+use Rattle.flow_graph.specs.Formulas.{SaysSide}
 use Rattle.flow_graph.specs.declared.assignment.Assignment.{Assignment}
+use Rattle.flow_graph.specs.declared.assignment.Write.{Write}
 
 -- the valuation after these values are written to the targets, one after the other
 abbrev pub after_values : Scope → List Name → List Bool → Valuation → Valuation
@@ -21,6 +23,10 @@ AssignedTo scope xs rs valuation number =
     (vs : List Bool) × AreValues valuation.globals valuation.places (map (resolve_side scope) rs) vs
     × (number ≡ code (after_values scope xs vs valuation))
 
+-- a value for each global of the scope, and for each formal and local, perhaps for a result behind them
+abbrev pub HasPlaces : Scope → Valuation → Type 0
+HasPlaces scope valuation = (length valuation.globals ≡ length scope.globals) × (length scope.locals ≤ length valuation.places)
+
 -- the next valuation of number i, after this one, has this number
 abbrev pub NextBy : {A : Type 0} → Assignment A → ℕ → Valuation → ℕ → Type 0
 NextBy assignment i valuation number = (i ≤ assignment.last) × (assigned assignment (code valuation) i ≡ number)
@@ -28,5 +34,11 @@ NextBy assignment i valuation number = (i ≤ assignment.last) × (assigned assi
 -- The numbers up to the last give each next valuation of the simultaneous assignment, no other, and each once.
 pub record Assigns {A : Type 0} (assignment : Assignment A) (scope : Scope) (xs : List Name) (rs : List (RightSide Name)) :
     Type 0 where
-  pub leads : (v : Valuation) (w : ℕ) → HasWidths (widths_of scope) v → ((i : ℕ) × NextBy assignment i v w) ↔ AssignedTo scope xs rs v w
-  pub once : (v : Valuation) (i j w : ℕ) → HasWidths (widths_of scope) v → NextBy assignment i v w → NextBy assignment j v w → i ≡ j
+  pub leads : (v : Valuation) (w : ℕ) → HasPlaces scope v → ((i : ℕ) × NextBy assignment i v w) ↔ AssignedTo scope xs rs v w
+  pub once : (v : Valuation) (i j w : ℕ) → HasPlaces scope v → NextBy assignment i v w → NextBy assignment j v w → i ≡ j
+
+-- the assignment makes one write, of the expression to the bits of the mask
+abbrev pub WritesOne : {A : Type 0} → Assignment A → ℕ → Scope → Expression Name → Type 0
+WritesOne {A} assignment mask scope expression =
+    (write : Write A) × (assignment.writes.items ≡ write ∷ []) × (assignment.last ≡ 0) × (write.mask ≡ mask)
+    × SaysSide write.side scope (value expression)

@@ -1,35 +1,37 @@
 -- The graph that is drawn of a procedure.
-use Rattle.std.specs.Prelude.{◌≡◌, ◌≤◌, ◌+◌, length}
-use Rattle.language.specs.Rest.{Code}
-use Rattle.language.specs.Sequential.{numbered}
-use Rattle.language.specs.Resolve.{Scope, scope_of, resolve_block}
+use Rattle.std.specs.Prelude.{◌≡◌, ◌≤◌, length}
+use Rattle.language.specs.Step.{Routine}
+use Rattle.language.specs.Sequential.{numbered_routine}
+use Rattle.language.specs.Resolve.{Scope, scope_of, routine_of}
 use Rattle.trees.specs.Trees.{tree_of, proc_of}
 use Rattle.trees.specs.declared.tree.Program.{Program}
 use Rattle.trees.specs.declared.tree.Proc.{Proc}
 use Rattle.flow_graph.specs.Nodes.{point_at, nodes_of}
 use Rattle.flow_graph.specs.Flows.{widths_of, AllDo}
+use Rattle.flow_graph.specs.Located.{given_mask}
 use Rattle.flow_graph.specs.declared.graph.Graph.{Graph}
 use Rattle.resolved.specs.Limits.{most_places}
+use Rattle.resolved.specs.Narrow.{width}
 use Rattle.flow_graph.specs.Drawn.{flows_of, start_of, globals_of, result_mask}
 
--- no more variables than places are in the procedure's scope, and at most 32 procedures
+-- the procedure's valuations have at most 64 values, and there are at most 32 procedures
 abbrev pub ScopeHasRoom : {N : Type 0} → Program N → Proc N → Type 0
 ScopeHasRoom program procedure =
-    (length program.globals.items + (length procedure.formals.items + length procedure.locals.items) ≤ most_places)
-    × (length program.procs.items ≤ 32)
+    (width (tree_of program) (proc_of procedure) ≤ most_places) × (length program.procs.items ≤ 32)
 
 -- the names in the procedure's scope
 abbrev pub names_in : {N : Type 0} → Program N → Proc N → Scope
 names_in program procedure = scope_of (tree_of program) (proc_of procedure)
 
--- the procedure's body as code
-abbrev pub drawn_body : {N : Type 0} → Program N → Proc N → Code
-drawn_body program procedure = numbered 1 (resolve_block (names_in program procedure) (proc_of procedure).body)
+-- the procedure by places, its statements marked with their numbers in text order, from 1
+abbrev pub drawn_routine : {N : Type 0} → Program N → Proc N → Routine
+drawn_routine program procedure = numbered_routine (routine_of (tree_of program) (proc_of procedure))
 
 -- The graph of the procedure: it begins where the body does, its flows do what happens at the points of the body, the
--- exit first, and no bit is that of a result.
+-- exit first, and its mask is that of the result.
 abbrev pub Draws : {N A : Type 0} → Program N → Proc N → Graph A → Type 0
 Draws program procedure graph =
-    (globals_of graph ≡ length (names_in program procedure).globals) × (start_of graph ≡ point_at (drawn_body program procedure))
-    × AllDo (flows_of graph) (nodes_of (drawn_body program procedure)) (widths_of (names_in program procedure))
-    × (result_mask graph ≡ 0)
+    let routine = drawn_routine program procedure in
+    (globals_of graph ≡ length (names_in program procedure).globals) × (start_of graph ≡ point_at routine.body)
+    × AllDo (flows_of graph) (nodes_of routine) (widths_of (names_in program procedure) routine.gives)
+    × (result_mask graph ≡ given_mask (length (names_in program procedure).globals) routine)

@@ -65,17 +65,21 @@ pub record Behaves {A : Type 0} (flow : Flow A) (W : Valuation → Type 0) (L : 
   pub resumes : (v : Valuation) (x : Exit) (s e n : ℕ) → W v → length x.globals ≡ length v.globals →
       entered_by flow (code v) ≡ Some (s, e, n) → resumed_by flow (code v) (exit_code x) ≡ code (resumed_with target v x)
 
--- How many globals and places the valuations of a procedure have, and how many procedures there are.
+-- How many globals and how many values of a frame a procedure's valuations have, and how many procedures there are.
 pub record Widths : Type 0 where
   pub globals : ℕ
   pub places : ℕ
   pub procedures : ℕ
 
--- those of a scope
-abbrev pub widths_of : Scope → Widths
-widths_of scope = record { globals = length scope.globals; places = length scope.locals; procedures = length scope.procedures }
+-- those of a procedure that has this scope, and gives a value or none
+abbrev pub widths_of : Scope → Bool → Widths
+widths_of scope gives = record {
+  globals = length scope.globals;
+  places = length scope.locals + cond gives 1 0;
+  procedures = length scope.procedures;
+}
 
--- so many globals and so many places
+-- so many globals and so many values of a frame
 abbrev pub HasWidths : Widths → Valuation → Type 0
 HasWidths widths valuation = (length valuation.globals ≡ widths.globals) × (length valuation.places ≡ widths.places)
 

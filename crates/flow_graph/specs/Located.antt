@@ -1,7 +1,9 @@
--- Expressions whose variables are bits of a valuation's number: the globals from bit 0, then the formals and locals.
+-- Expressions whose variables are bits of a valuation's number: the globals from bit 0, then the formals and locals,
+-- behind which comes the result.
 use Rattle.std.specs.Prelude.{ℕ, ◌+◌, ◌^◌, Bool, false, not, cond, nat_lt, Option, Some, None, length}
 use Rattle.language.specs.Tree.{Name, Expression, const, var, negation, two}
 use Rattle.language.specs.Value.{Place, global, local, operate}
+use Rattle.language.specs.Step.{Routine}
 use Rattle.language.specs.Resolve.{Scope, place_of}
 
 -- the bit of a place, where there are so many globals: none for a global that is not declared
@@ -22,6 +24,10 @@ mask_of (Some bit) = 2 ^ bit
 abbrev pub target_mask : ℕ → Option Place → ℕ
 target_mask globals None = 0
 target_mask globals (Some place) = mask_of (bit_of_place globals place)
+
+-- the bit alone of the result of a procedure, where there are so many globals; 0 where it gives none
+abbrev pub given_mask : ℕ → Routine → ℕ
+given_mask globals routine = cond routine.gives (2 ^ (globals + routine.places)) 0
 
 -- a read of a bit; what is declared nowhere reads as 0
 abbrev pub read_of : Option ℕ → Expression ℕ

@@ -1,18 +1,21 @@
 -- What the statements of a procedure are lowered to.
-use Rattle.std.specs.Prelude.{◌≡◌, ◌≤◌, ◌<◌, ◌+◌, ℕ, None, List, [], ◌∷◌, ◌++◌, map, length}
-use Rattle.language.specs.Tree.{RightSide, done}
-use Rattle.language.specs.Value.{Place}
-use Rattle.language.specs.Resolve.{Scope, number_of, place_of, resolve_expression, resolve_side, resolve_block}
+use Rattle.std.specs.Prelude.{◌≡◌, ◌≤◌, ◌<◌, ◌+◌, ℕ, Option, List, [], ◌∷◌, ◌++◌, map, length}
+use Rattle.language.specs.Tree.{RightSide, value, done}
+use Rattle.language.specs.Value.{Place, local}
+use Rattle.language.specs.Resolve.{Scope, number_of, place_of, resolve_expression, resolve_side, resolve_block, gives_value}
 use Rattle.language.specs.Rest.{Code, join, rest_from}
+use Rattle.language.specs.Step.{Routine}
 use Rattle.language.specs.Sequential.{statements, numbered}
 use Rattle.language.specs.Flow.{rests}
-use Rattle.trees.specs.Trees.{name_of, names_of, rhs_of, rhss_of, exprs_of, block_of}
+use Rattle.trees.specs.Trees.{name_of, names_of, rhs_of, rhss_of, expr_of, exprs_of, block_of}
 use Rattle.trees.specs.declared.tree.Name.{Name}
 use Rattle.trees.specs.declared.tree.Expr.{Expr}
 use Rattle.trees.specs.declared.tree.Rhs.{Rhs}
 use Rattle.trees.specs.declared.tree.Stmt.{Stmt}
 use Rattle.flow_graph.specs.Nodes.{Node, assigns, calls, point_at, node_of, goes_to}
-use Rattle.flow_graph.specs.Flows.{widths_of, Does, Lowered}
+use Rattle.flow_graph.specs.Flows.{Widths, widths_of, Does, Lowered}
+use Rattle.flow_graph.specs.Located.{target_mask, given_mask}
+use Rattle.flow_graph.specs.Returns.{HasTarget}
 use Rattle.flow_graph.specs.Views.{scope_seen, IsSmall}
 use Rattle.flow_graph.specs.declared.flow.Flow.{Flow}
 use Rattle.flow_graph.specs.declared.lowering.Lowering.{Lowering}
@@ -21,13 +24,22 @@ use Rattle.flow_graph.specs.declared.lowering.Lowering.{Lowering}
 abbrev pub lowering_scope : {N A : Type 0} → Lowering N A → Scope
 lowering_scope lowering = scope_seen lowering.scope
 
--- the procedure's body, its statements marked with their numbers in text order, from 1
-abbrev pub lowered_body : {N A : Type 0} → Lowering N A → Code
-lowered_body lowering = numbered 1 (resolve_block (lowering_scope lowering) (block_of lowering.body.now))
+-- the procedure, its statements marked with their numbers in text order, from 1
+abbrev pub lowered_routine : {N A : Type 0} → Lowering N A → Routine
+lowered_routine lowering = record {
+  places = length (lowering_scope lowering).locals;
+  gives = gives_value (block_of lowering.body.now);
+  body = numbered 1 (resolve_block (lowering_scope lowering) (block_of lowering.body.now));
+}
 
--- at most 64 variables, and at most 32 procedures
+-- the widths of the procedure's valuations
+abbrev pub lowered_widths : {N A : Type 0} → Lowering N A → Widths
+lowered_widths lowering = widths_of (lowering_scope lowering) (gives_value (block_of lowering.body.now))
+
+-- at most 64 variables, at most 32 procedures, and the mask is that of the result
 abbrev pub IsLowerable : {N A : Type 0} → Lowering N A → Type 0
 IsLowerable lowering = IsSmall lowering.scope × (length lowering.scope.procedures.now ≤ 32)
+    × (lowering.result ≡ given_mask (length (lowering_scope lowering).globals) (lowered_routine lowering))
 
 -- a right side by places
 abbrev pub side_in : {N A : Type 0} → Lowering N A → Rhs N → RightSide Place
@@ -39,21 +51,34 @@ assignment_in lowering xs rs to =
     let s = lowering_scope lowering in
     assigns (map (place_of s) (names_of xs)) (map (resolve_side s) (rhss_of rs)) to
 
--- the node of a call for no value: the procedure with the name is called with the arguments, and the run goes on at the
--- point
-abbrev pub call_in : {N A : Type 0} → Lowering N A → Name N → List (Expr N) → ℕ → Node
-call_in lowering callee es back =
+-- the node of a return of a value: the value is written to the place of the result, and the run goes on at the exit
+abbrev pub return_in : {N A : Type 0} → Lowering N A → Expr N → Node
+return_in lowering e =
     let s = lowering_scope lowering in
-    calls None (number_of (name_of callee).text s.procedures) (map (resolve_expression s) (exprs_of es)) back
+    assigns (local (length s.locals) ∷ []) (value (resolve_expression s (expr_of e)) ∷ []) 0
+
+-- the node of a call for the target, if any: the procedure with the name is called with the arguments, and the run goes
+-- on at the point
+abbrev pub call_in : {N A : Type 0} → Lowering N A → Option Place → Name N → List (Expr N) → ℕ → Node
+call_in lowering target callee es back =
+    let s = lowering_scope lowering in
+    calls target (number_of (name_of callee).text s.procedures) (map (resolve_expression s) (exprs_of es)) back
 
 -- the flow does what happens at the node, for the procedure's valuations
 abbrev pub DoesIn : {N A : Type 0} → Lowering N A → Flow A → Node → Type 0
-DoesIn lowering flow node = Does flow node (widths_of (lowering_scope lowering))
+DoesIn lowering flow node = Does flow node (lowered_widths lowering)
+
+-- the flow calls for each target whose mask this is
+abbrev pub DoesCall : {N A : Type 0} → Lowering N A → Flow A → ℕ → Name N → List (Expr N) → ℕ → Type 0
+DoesCall lowering flow mask callee es back =
+    let s = lowering_scope lowering in
+    (target : Option Place) → mask ≡ target_mask (length s.globals) target → HasTarget (length s.locals) target →
+    DoesIn lowering flow (call_in lowering target callee es back)
 
 -- where all points of the procedure are numbers of 64 bits, the flow goes on at the statement with the label
 abbrev pub DoesJump : {N A : Type 0} → Lowering N A → Flow A → Name N → Type 0
 DoesJump lowering flow label = statements (block_of lowering.body.now) < 18446744073709551615 →
-    DoesIn lowering flow (goes_to (rest_from (name_of label).text (lowered_body lowering) done))
+    DoesIn lowering flow (goes_to (rest_from (name_of label).text (lowered_routine lowering).body done))
 
 -- statements as code, the first of them marked with the number
 abbrev pub code_from : {N A : Type 0} → Lowering N A → ℕ → List (Stmt N) → Code
@@ -68,7 +93,7 @@ IsCounted lowering number stmts =
 -- where a run goes on at the point behind the statement, the flow does what happens at it
 abbrev pub DoesFirst : {N A : Type 0} → Lowering N A → Flow A → Stmt N → ℕ → ℕ → Type 0
 DoesFirst lowering flow stmt number after = (k : Code) → point_at k ≡ after → IsCounted lowering number (stmt ∷ []) →
-    DoesIn lowering flow (node_of (lowered_body lowering) (join (code_from lowering number (stmt ∷ [])) k))
+    DoesIn lowering flow (node_of (lowered_routine lowering) (join (code_from lowering number (stmt ∷ [])) k))
 
 -- a flow has been put behind others that does what happens at the statement
 abbrev pub LoweredFirst : {N A : Type 0} → Lowering N A → List (Flow A) → List (Flow A) → Stmt N → ℕ → Type 0
@@ -81,5 +106,5 @@ abbrev pub LoweredIn : {N A : Type 0} → Lowering N A → List (Flow A) → Lis
 LoweredIn lowering old new stmts after =
     (length new ≡ length old + statements (block_of stmts))
     × ((k : Code) → point_at k ≡ after → IsCounted lowering (length old) stmts
-    → Lowered old new (map (node_of (lowered_body lowering)) (rests (code_from lowering (length old) stmts) k))
-    (widths_of (lowering_scope lowering)))
+    → Lowered old new (map (node_of (lowered_routine lowering)) (rests (code_from lowering (length old) stmts) k))
+    (lowered_widths lowering))

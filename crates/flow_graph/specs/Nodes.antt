@@ -1,9 +1,10 @@
 -- What happens at the points of a procedure.
 use Rattle.std.specs.Prelude.{◌≡◌, ℕ, Bool, true, false, cond, Option, Some, None, List, [], ◌∷◌, map}
 use Rattle.language.specs.Tree.{Expression, const, RightSide, value}
-use Rattle.language.specs.Tree.{skip, assign, assert, assume, goto, leave, call, done, one, choose, loop}
-use Rattle.language.specs.Value.{Place, values_of, IsValue, AreValues, written_globals, written_locals}
+use Rattle.language.specs.Tree.{skip, assign, assert, assume, goto, leave, call, leave_with, call_for, done, one, choose, loop}
+use Rattle.language.specs.Value.{Place, local, values_of, IsValue, AreValues, written_globals, written_locals}
 use Rattle.language.specs.Rest.{Code, join, rest_from}
+use Rattle.language.specs.Step.{Routine}
 use Rattle.language.specs.Sequential.{Valuation, point_of}
 use Rattle.language.specs.Flow.{rests}
 
@@ -38,22 +39,25 @@ abbrev pub goes_to : Option Code → Node
 goes_to None = stops
 goes_to (Some rest) = goes (point_at rest)
 
--- what happens at the first point of a rest of this body
-abbrev pub node_of : Code → Code → Node
-node_of body done = returns
-node_of body (one mark skip rest) = goes (point_at rest)
-node_of body (one mark (assign xs rs) rest) = assigns xs rs (point_at rest)
-node_of body (one mark (assert side) rest) = assumes side (point_at rest)
-node_of body (one mark (assume side) rest) = assumes side (point_at rest)
-node_of body (one mark (goto label) rest) = goes_to (rest_from label body done)
-node_of body (one mark leave rest) = goes 0
-node_of body (one mark (call callee es) rest) = calls None callee es (point_at rest)
-node_of body (choose mark side if_true if_false rest) = tests side (point_at (join if_true rest)) (point_at (join if_false rest))
-node_of body (loop mark side inside rest) = tests side (point_at (join inside (loop mark side inside rest))) (point_at rest)
+-- what happens at the first point of a rest of the procedure's body: a value that is returned is written to the place
+-- of the result
+abbrev pub node_of : Routine → Code → Node
+node_of routine done = returns
+node_of routine (one mark skip rest) = goes (point_at rest)
+node_of routine (one mark (assign xs rs) rest) = assigns xs rs (point_at rest)
+node_of routine (one mark (assert side) rest) = assumes side (point_at rest)
+node_of routine (one mark (assume side) rest) = assumes side (point_at rest)
+node_of routine (one mark (goto label) rest) = goes_to (rest_from label routine.body done)
+node_of routine (one mark leave rest) = goes 0
+node_of routine (one mark (call callee es) rest) = calls None callee es (point_at rest)
+node_of routine (one mark (leave_with expression) rest) = assigns (local routine.places ∷ []) (value expression ∷ []) 0
+node_of routine (one mark (call_for x callee es) rest) = calls (Some x) callee es (point_at rest)
+node_of routine (choose mark side if_true if_false rest) = tests side (point_at (join if_true rest)) (point_at (join if_false rest))
+node_of routine (loop mark side inside rest) = tests side (point_at (join inside (loop mark side inside rest))) (point_at rest)
 
--- what happens at the points of a body, the exit first
-abbrev pub nodes_of : Code → List Node
-nodes_of body = map (node_of body) (done ∷ rests body done)
+-- what happens at the points of a procedure, the exit first
+abbrev pub nodes_of : Routine → List Node
+nodes_of routine = map (node_of routine) (done ∷ rests routine.body done)
 
 -- the node leads from a valuation to a point with a valuation, inside the call
 abbrev pub Leads : Node → Valuation → ℕ → Valuation → Type 0

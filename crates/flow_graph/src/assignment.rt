@@ -1,9 +1,10 @@
 //! Simultaneous assignments, compiled once, to be made often.
 
 ghost use Rattle.std.specs.Prelude.{◌≡◌, ◌+◌, ◌≤◌, ◌<◌, ◌^◌, [], IfOk, IfSome};
-ghost use Rattle.trees.specs.Trees.{name_of, names_of, rhs_of, rhss_of};
+ghost use Rattle.language.specs.Tree.{value};
+ghost use Rattle.trees.specs.Trees.{name_of, names_of, expr_of, rhs_of, rhss_of};
 ghost use Rattle.flow_graph.specs.Assignments.{masked, choice_left, anys, assigned, lasting_bit};
-ghost use Rattle.flow_graph.specs.Assigning.{Assigns};
+ghost use Rattle.flow_graph.specs.Assigning.{Assigns, WritesOne};
 ghost use Rattle.flow_graph.specs.Formulas.{SaysSide};
 ghost use Rattle.flow_graph.specs.Views.{scope_seen, IsSmall};
 ghost use Rattle.resolved.specs.Limits.{most_places};
@@ -13,7 +14,7 @@ use crate::scope::Scope;
 use crate::side::Side;
 use language::Word;
 use std::alloc::{AllocError, Allocator};
-use trees::{Name, Rhs};
+use trees::{Expr, Name, Rhs};
 
 /// A bit that an assignment writes, and what it gets.
 #[derive(Debug, Drop)]
@@ -130,6 +131,36 @@ impl<'a, N: Allocator> Scope<'a, N> {
         let side = self.side(alloc, side)?;
         let mask = 1 << bit;
         Ok(Write { mask, side })
+    }
+
+    /// Compiles the write of an expression to the bits of a mask.
+    fn write_value<A: Allocator + Clone>(
+        &self,
+        alloc: &A,
+        mask: Word,
+        e: &Expr<N>,
+    ) -> Result<Write<A>, AllocError>
+        requires { IsSmall self.now }
+        ensures { IfOk result
+            (λ w. (w.mask ≡ mask) × SaysSide w.side (scope_seen self.now) (value (expr_of e.now))) }
+    {
+        let side = Side::Value(self.formula(alloc, e)?);
+        Ok(Write { mask, side })
+    }
+
+    /// Compiles the assignment of an expression to the bits of a mask.
+    pub(crate) fn assignment_of_value<A: Allocator + Clone>(
+        &self,
+        alloc: &A,
+        mask: Word,
+        e: &Expr<N>,
+    ) -> Result<Assignment<A>, AllocError>
+        requires { IsSmall self.now }
+        ensures { IfOk result (λ a. WritesOne a mask (scope_seen self.now) (expr_of e.now)) }
+    {
+        let mut writes = Vec::new(alloc.clone()?);
+        put(self.write_value(alloc, mask, e), &mut writes)?;
+        Ok(Assignment { writes, last: 0 })
     }
 
     /// Compiles a simultaneous assignment. A target that is declared nowhere is not written, nor is one without a right

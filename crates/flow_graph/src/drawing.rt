@@ -1,22 +1,37 @@
 //! The flow graphs of a sequential program.
 
-ghost use Rattle.std.specs.Prelude.{◌≡◌, ◌≤◌, ◌+◌, length, IfOk, codes};
+ghost use Rattle.std.specs.Prelude.{◌≡◌, length, IfOk, codes};
 ghost use Rattle.language.specs.Resolve.{number_of};
 ghost use Rattle.language.specs.Sequential.{sequential_of};
 ghost use Rattle.resolved.specs.Programs.{sequential_tree};
-ghost use Rattle.flow_graph.specs.Drawing.{Draws, ScopeHasRoom};
+ghost use Rattle.flow_graph.specs.Drawing.{names_in, drawn_routine, Draws, ScopeHasRoom};
 ghost use Rattle.flow_graph.specs.Drawn.{bad_of, graphs_of};
 ghost use Rattle.flow_graph.specs.Graphs.{AreDrawnFrom};
+ghost use Rattle.flow_graph.specs.Located.{given_mask};
 
 use crate::flow::Flow;
 use crate::graph::{Graph, Graphs};
 use crate::lowering::{Lowering, begin};
 use crate::put::{push, put};
 use crate::scope::Scope;
-use language::EXIT;
+use language::{EXIT, Word};
 use resolved::Sequential;
 use std::alloc::{AllocError, Allocator};
-use trees::{Proc, Program, number_of_name};
+use trees::{Proc, Program, give_value, number_of_name};
+
+/// The bit of a procedure's result, alone; 0 where it gives none.
+fn mask_of_result<N: Allocator>(program: &Program<N>, proc: &Proc<N>) -> Word
+    requires { ScopeHasRoom program.now proc.now }
+    ensures { result ≡ given_mask (length (names_in program.now proc.now).globals)
+        (drawn_routine program.now proc.now) }
+{
+    if give_value(&proc.body) {
+        let places = proc.formals.len() + proc.locals.len();
+        1 << (program.globals.len() + places)
+    } else {
+        0
+    }
+}
 
 /// The flow graph of one procedure of a program.
 fn graph<N: Allocator, A: Allocator + Clone>(
@@ -28,6 +43,7 @@ fn graph<N: Allocator, A: Allocator + Clone>(
     ensures { IfOk result (λ g. Draws program.now proc.now g) }
 {
     let body = proc.body.as_slice();
+    let result = mask_of_result(program, proc);
     let lowering = Lowering {
         alloc,
         scope: Scope {
@@ -37,6 +53,7 @@ fn graph<N: Allocator, A: Allocator + Clone>(
             procedures: program.procs.as_slice(),
         },
         body,
+        result,
     };
     let mut flows = Vec::new(alloc.clone()?);
     push(Flow::Return, &mut flows)?;
@@ -45,7 +62,7 @@ fn graph<N: Allocator, A: Allocator + Clone>(
         flows,
         start: begin(body, 1, EXIT),
         globals: program.globals.len() as u8,
-        result: 0,
+        result,
     })
 }
 

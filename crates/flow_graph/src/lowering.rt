@@ -4,8 +4,8 @@ ghost use Rattle.std.specs.Prelude.{◌∷◌, [], IfOk};
 ghost use Rattle.flow_graph.specs.Nodes.{goes, stops, tests, assumes};
 ghost use Rattle.flow_graph.specs.Points.{BeginAt};
 ghost use Rattle.flow_graph.specs.Flows.{Widths, Does};
-ghost use Rattle.flow_graph.specs.Lowering.{IsLowerable, side_in, assignment_in, call_in};
-ghost use Rattle.flow_graph.specs.Lowering.{DoesIn, DoesJump, DoesFirst, LoweredIn};
+ghost use Rattle.flow_graph.specs.Lowering.{IsLowerable, side_in, assignment_in, return_in};
+ghost use Rattle.flow_graph.specs.Lowering.{DoesIn, DoesJump, DoesCall, DoesFirst, LoweredIn};
 
 use crate::assignment::Assignment;
 use crate::call::Call;
@@ -19,7 +19,7 @@ use crate::side::Side;
 use crate::sizes::{size, size_of};
 use crate::table::Table;
 use arrayvec::ArrayVec;
-use language::{EXIT, Point};
+use language::{EXIT, Point, Word};
 use resolved::MOST_PLACES;
 use std::alloc::{AllocError, Allocator};
 use trees::{Core, Expr, Name, Rhs, Stmt, number_of_procedure};
@@ -43,13 +43,14 @@ fn nowhere<A: Allocator>() -> Flow<A>
     Flow::Assume(Side::Value(Formula::Table(always_0)), EXIT)
 }
 
-/// What the statements of one procedure are lowered with: where it allocates, the names in scope, and the procedure's
-/// body.
+/// What the statements of one procedure are lowered with: where it allocates, the names in scope, the procedure's body,
+/// and the bit of its result, alone, which is 0 where it gives none.
 #[derive(Drop)]
 pub(crate) struct Lowering<'a, N: Allocator, A: Allocator + Clone> {
     pub(crate) alloc: &'a A,
     pub(crate) scope: Scope<'a, N>,
     pub(crate) body: &'a [Stmt<N>],
+    pub(crate) result: Word,
 }
 
 impl<'a, N: Allocator, A: Allocator + Clone> Lowering<'a, N, A> {
@@ -99,10 +100,28 @@ impl<'a, N: Allocator, A: Allocator + Clone> Lowering<'a, N, A> {
         Ok(Flow::Assign(self.scope.assignment(self.alloc, xs, rs)?, to))
     }
 
-    /// A call. No run goes on where there is no such procedure, or where its valuation would have more than 64 places.
-    fn call(&self, p: &Name<N>, es: &[Expr<N>], back: Point) -> Result<Flow<A>, AllocError>
+    /// A return of a value, which is written to the bit of the result.
+    fn returned(&self, e: &Expr<N>) -> Result<Flow<A>, AllocError>
         requires { IsLowerable self.now }
-        ensures { IfOk result (λ f. DoesIn self.now f (call_in self.now p.now es.now back)) }
+        ensures { IfOk result (λ f. DoesIn self.now f (return_in self.now e.now)) }
+    {
+        Ok(Flow::Assign(
+            self.scope.assignment_of_value(self.alloc, self.result, e)?,
+            EXIT,
+        ))
+    }
+
+    /// A call for the variable with the bit of a mask, or for none. No run goes on where there is no such procedure, or
+    /// where its valuation would have more than 64 places.
+    fn call(
+        &self,
+        target: Word,
+        p: &Name<N>,
+        es: &[Expr<N>],
+        back: Point,
+    ) -> Result<Flow<A>, AllocError>
+        requires { IsLowerable self.now }
+        ensures { IfOk result (λ f. DoesCall self.now f target p.now es.now back) }
     {
         let callee = number_of_procedure(self.scope.procedures, p.text.as_str());
         if callee >= self.scope.procedures.len() {
@@ -119,7 +138,7 @@ impl<'a, N: Allocator, A: Allocator + Clone> Lowering<'a, N, A> {
             callee: callee as u8,
             globals: self.scope.globals.len() as u8,
             arguments,
-            target: 0,
+            target,
             back,
         }))
     }
@@ -143,7 +162,9 @@ impl<'a, N: Allocator, A: Allocator + Clone> Lowering<'a, N, A> {
             Core::Assume(r) => self.assumption(r, after),
             Core::Goto(label) => self.jump(label),
             Core::Return => self.going(EXIT),
-            Core::Call(p, es) => self.call(p, es, after),
+            Core::Call(p, es) => self.call(0, p, es, after),
+            Core::CallTo(x, p, es) => self.call(self.scope.mask(x), p, es, after),
+            Core::Give(e) => self.returned(e),
         }
     }
 

@@ -2,7 +2,7 @@
 
 ghost use Rattle.std.specs.Prelude.{◌≡◌, ◌↔◌, ◌<◌, ℕ, ◌+◌, ◌^◌, List, Some, length, map, slice_get};
 ghost use Rattle.language.specs.Rest.{Code};
-ghost use Rattle.language.specs.Step.{Routine, Program, body_of};
+ghost use Rattle.language.specs.Step.{Routine, Program, frame_size, body_of};
 ghost use Rattle.language.specs.Sequential.{in_text_order, Valuation, Caller, Message, IsDue};
 ghost use Rattle.language.specs.Flow.{IsRestOf};
 ghost use Rattle.language.specs.Lists.{Member};
@@ -158,11 +158,11 @@ pub fn marked_programs_are_in_text_order()
     ensures { (p : Program) → IsInTextOrder (in_text_order p) }
 {}
 
-/// The number of a procedure's valuation has as many bits as there are globals and places.
+/// The number of a procedure's valuation has as many bits as there are globals and values of a frame.
 pub fn the_number_of_a_valuation_has_its_width()
     ensures { (p : Program) (q : ℕ) (routine : Routine) (n : ℕ)
         → slice_get p.routines q ≡ Some routine
-        → IsNumberOfValuation p q n → n < 2 ^ (p.globals + routine.places) }
+        → IsNumberOfValuation p q n → n < 2 ^ (p.globals + frame_size routine) }
 {}
 
 /// The numbers of a path edge are those of its valuations and its point.

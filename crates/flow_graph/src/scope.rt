@@ -2,10 +2,11 @@
 
 ghost use Rattle.std.specs.Prelude.{◌≡◌, ◌<◌, IfSome};
 ghost use Rattle.trees.specs.Trees.{name_of};
-ghost use Rattle.flow_graph.specs.Located.{bit_of_name};
+ghost use Rattle.flow_graph.specs.Located.{bit_of_name, mask_of};
 ghost use Rattle.flow_graph.specs.Views.{scope_seen, IsSmall};
 ghost use Rattle.resolved.specs.Limits.{most_places};
 
+use language::Word;
 use std::alloc::Allocator;
 use trees::{Name, Proc, declares, number_of_name};
 
@@ -36,6 +37,17 @@ impl<'a, N: Allocator> Scope<'a, N> {
         } else {
             let at = number_of_name(self.globals, text);
             if at < globals { Some(at as u8) } else { None }
+        }
+    }
+
+    /// The bit of a variable, alone: 0 where it is declared nowhere.
+    pub(crate) fn mask(&self, x: &Name<N>) -> Word
+        requires { IsSmall self.now }
+        ensures { result ≡ mask_of (bit_of_name (scope_seen self.now) (name_of x.now)) }
+    {
+        match self.bit(x) {
+            Some(bit) => 1 << bit,
+            None => 0,
         }
     }
 }

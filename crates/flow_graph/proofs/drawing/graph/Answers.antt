@@ -5,24 +5,27 @@ use Rattle.language.specs.Tree.{done}
 use Rattle.language.specs.Resolve.{resolve_block}
 use Rattle.language.specs.Sequential.{numbered}
 use Rattle.language.proofs.Rests.{join_done}
-use Rattle.trees.specs.Trees.{name_of, block_of}
+use Rattle.trees.specs.Trees.{name_of, names_of, block_of}
+use Rattle.resolved.proofs.Counted.{width_counted}
 use Rattle.flow_graph.specs.Nodes.{point_at}
 use Rattle.flow_graph.specs.Drawing.{names_in}
+use Rattle.flow_graph.specs.Located.{given_mask}
 use Rattle.flow_graph.specs.declared.flow.Flow.TheVariants as flow
-use Rattle.flow_graph.proofs.Graphing.{drawn_flows}
+use Rattle.flow_graph.proofs.Graphing.{routine_in, drawn_flows}
 use Rattle.flow_graph.proofs.drawing.graph.Goals as goal
 
 pub block-requires : goal.block-requires
-block-requires g c = (
-  omega (
-    arith,
-    c.requires.0,
-    ap length c.as_slice.ensures.value,
-    ap length c.as_slice-2.ensures.value,
-    ap length c.as_slice-3.ensures.value,
-  ),
-  omega (arith, c.requires.1, ap length c.as_slice-4.ensures.value),
-)
+block-requires g c =
+    let gs = c.as_slice.ensures.value in
+    let fs = c.as_slice-2.ensures.value in
+    let ls = c.as_slice-3.ensures.value in
+    let ps = c.as_slice-4.ensures.value in
+    let body = c.as_slice-body.ensures.value in (
+      omega (arith, c.requires.0, width_counted c.args.program.now c.args.proc.now, ap length gs, ap length fs, ap length ls),
+      omega (arith, c.requires.1, ap length ps),
+      c.mask_of_result-result.ensures
+          ∙ λ t. given_mask (length (names_of (sym gs t))) (routine_in (sym gs t) (sym fs t) (sym ls t) (sym ps t) (sym body t)),
+    )
 
 pub returns : goal.returns
 returns g c =
@@ -42,8 +45,9 @@ returns g c =
       drawn_flows _ _ _ _ _ _ _ _ _ _ old c.block.new.flows.items c.as_slice.ensures.value c.as_slice-2.ensures.value
           c.as_slice-3.ensures.value c.as_slice-4.ensures.value body start
           (lowered.1 done refl (omega (arith, lowered.0, small, one), omega (arith, lowered.0, small, one))),
-      refl,
+      c.mask_of_result-result.ensures,
     )
 
 pub overflow_cast-result : goal.overflow_cast-result
-overflow_cast-result g c = omega (arith, c.requires.0, c.len.ensures, c.args.program.now.globals.ok.0)
+overflow_cast-result g c =
+    omega (arith, c.requires.0, width_counted c.args.program.now c.args.proc.now, c.len.ensures, c.args.program.now.globals.ok.0)

@@ -1,5 +1,5 @@
 -- The places of a valuation leave room for its globals.
-use Rattle.std.proofs.Common.{◌≤◌, ◌+◌, ◌-◌, ◌^◌, ◌%◌, sym, ◌∙◌, arith}
+use Rattle.std.proofs.Common.{◌≤◌, ◌+◌, ◌-◌, ◌∙◌, arith}
 use Rattle.resolved.specs.Limits.{most_places}
 use Rattle.flow_graph.specs.Assignments.{masked}
 use Rattle.flow_graph.specs.Calls.{resumed}

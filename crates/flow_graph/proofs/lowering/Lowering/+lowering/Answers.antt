@@ -11,8 +11,8 @@ use Rattle.trees.proofs.Held.{held, first_counts}
 use Rattle.trees.proofs.Folds.{deed_of-If, deed_of-While}
 use Rattle.trees.proofs.Plain.{is_simple}
 use Rattle.flow_graph.specs.Nodes.{point_at, node_of}
-use Rattle.flow_graph.specs.Flows.{widths_of, Lowered}
-use Rattle.flow_graph.specs.Lowering.{lowering_scope, lowered_body, code_from, LoweredIn}
+use Rattle.flow_graph.specs.Flows.{Lowered}
+use Rattle.flow_graph.specs.Lowering.{lowering_scope, lowered_routine, lowered_widths, code_from, LoweredIn}
 use Rattle.flow_graph.proofs.Counted.{split_counts}
 use Rattle.flow_graph.proofs.Lowered.{nodes_split, lowered_then, lowered_none}
 use Rattle.flow_graph.proofs.Statements.{put_first, lowered_simple, lowered_branch, lowered_repeat}
@@ -56,9 +56,9 @@ block-loop-stmt-preserved g t c =
           let next = c.begin.ensures s k at_k ∙ ap (λ j. point_at (join (numbered j (resolve_block s (block_of more))) k)) behind in
           let first = lowered.1 (join (code_from me (length mid) more) k) (sym next) (few.0, omega (arith, lowered.0, small)) in
           c.loop-stmt.invariant.2 k new at_k few
-          (subst (λ ns. Lowered old new ns (widths_of s))
-          (sym (ap (λ x. map (node_of (lowered_body me)) (rests (code_from me (length old) x) k)) e ∙
-          nodes_split (lowered_body me) (length old) (length mid) s stmt more k lowered.0))
+          (subst (λ ns. Lowered old new ns (lowered_widths me))
+          (sym (ap (λ x. map (node_of (lowered_routine me)) (rests (code_from me (length old) x) k)) e ∙
+          nodes_split (lowered_routine me) (length old) (length mid) s stmt more k lowered.0))
           (lowered_then old mid new _ _ _ first h)),
     )
 
@@ -71,8 +71,8 @@ block-returns g t c =
       omega (arith, c.loop-stmt.invariant.1, ap (λ l. statements (block_of l)) none),
       λ k at_k few.
           c.loop-stmt.invariant.2 k old at_k few
-          (subst (λ x. Lowered old old (map (node_of (lowered_body me)) (rests (code_from me (length old) x) k))
-          (widths_of s)) (sym none) (lowered_none old (widths_of s))),
+          (subst (λ x. Lowered old old (map (node_of (lowered_routine me)) (rests (code_from me (length old) x) k))
+          (lowered_widths me)) (sym none) (lowered_none old (lowered_widths me))),
     )
 
 pub statement-returns-in_ok-block-in-If : goal.statement-returns-in_ok-block-in-If

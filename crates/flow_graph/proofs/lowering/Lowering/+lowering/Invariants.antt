@@ -8,8 +8,8 @@ use Rattle.trees.specs.Trees.{deed_of, block_of}
 use Rattle.trees.proofs.Held.{held}
 use Rattle.flow_graph.specs.declared.flow.Flow.{Flow}
 use Rattle.flow_graph.specs.Nodes.{point_at, node_of}
-use Rattle.flow_graph.specs.Flows.{widths_of, Lowered}
-use Rattle.flow_graph.specs.Lowering.{lowering_scope, lowered_body, code_from, IsCounted}
+use Rattle.flow_graph.specs.Flows.{Lowered}
+use Rattle.flow_graph.specs.Lowering.{lowered_routine, lowered_widths, code_from, IsCounted}
 use Rattle.flow_graph.proofs.lowering.Lowering.+lowering.Given as goal
 
 abbrev pub invariant-block-loop-stmt : goal.invariant-block-loop-stmt
@@ -18,11 +18,11 @@ invariant-block-loop-stmt g l =
     × (length l.flows.items + statements (block_of l.rest) ≡ length l.initial.flows.items + statements (block_of l.stmts))
     × ((k : Code) (new : List (Flow g.row.A.Denot)) → point_at k ≡ l.after →
     IsCounted l.self (length l.initial.flows.items) l.stmts →
-    Lowered l.flows.items new (map (node_of (lowered_body l.self))
-    (rests (code_from l.self (length l.flows.items) l.rest) k)) (widths_of (lowering_scope l.self)) →
+    Lowered l.flows.items new (map (node_of (lowered_routine l.self))
+    (rests (code_from l.self (length l.flows.items) l.rest) k)) (lowered_widths l.self) →
     Lowered l.initial.flows.items new
-    (map (node_of (lowered_body l.self)) (rests (code_from l.self (length l.initial.flows.items) l.stmts) k))
-    (widths_of (lowering_scope l.self)))
+    (map (node_of (lowered_routine l.self)) (rests (code_from l.self (length l.initial.flows.items) l.stmts) k))
+    (lowered_widths l.self))
 
 abbrev pub decreases-block-loop-stmt : goal.decreases-block-loop-stmt
 decreases-block-loop-stmt g l = length l.rest

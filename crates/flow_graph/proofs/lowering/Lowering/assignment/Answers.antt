@@ -7,4 +7,4 @@ pub returns : goal.returns
 returns g c =
     let s = lowering_scope c.args.self.now in
     let assigns = c.in_ok-assignment in
-    does_assigns assigns.field-0 s (names_of c.args.xs.now) (rhss_of c.args.rs.now) c.args.to assigns.ensures
+    does_assigns assigns.field-0 s _ (names_of c.args.xs.now) (rhss_of c.args.rs.now) c.args.to assigns.ensures

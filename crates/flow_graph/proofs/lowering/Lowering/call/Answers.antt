@@ -1,5 +1,5 @@
 -- Each argument is compiled; a call that no run makes is none.
-use Rattle.std.proofs.Common.{◌≡◌, ◌+◌, ◌++◌, ◌∷◌, [], None, drop, length, map, inl, inr, refl, sym, ◌∙◌, ap, subst, arith, length-append}
+use Rattle.std.proofs.Common.{◌≡◌, ◌+◌, ◌++◌, ◌∷◌, [], drop, length, map, inl, inr, sym, ◌∙◌, ap, subst, arith, length-append}
 use Rattle.std.specs.Prelude.{IfOk}
 use Rattle.std.proofs.lemmas.List.{drop_more, drop_all, length-map, append-nil}
 use Rattle.language.specs.Value.{value_of, values_of}
@@ -13,23 +13,23 @@ use Rattle.flow_graph.proofs.Doing.{does_no_call, does_calls, more_said}
 use Rattle.flow_graph.proofs.lowering.Lowering.call.Goals as goal
 
 pub returns-then-callee-self : goal.returns-then-callee-self
-returns-then-callee-self g c =
+returns-then-callee-self g c target mask has =
     let s = lowering_scope c.args.self.now in
     let procs = c.args.self.now.scope.procedures.now in
     let e = ap (λ t. number_of t s.procedures) c.as_str.ensures.value in
     let count : length s.procedures ≡ length procs = length-map (procs_of procs) _ ∙ length-map procs proc_of in
     let callee = c.number_of_procedure-callee.ensures in
-    does_no_call c.nowhere.result None _ _ c.args.back _
+    does_no_call c.nowhere.result target _ _ c.args.back _
     (inl (λ less. omega (arith, less, e, count, callee, c.if-callee-self.true))) (c.nowhere.ensures _)
 
 pub returns-then-es-self : goal.returns-then-es-self
-returns-then-es-self g c =
+returns-then-es-self g c target mask has =
     let s = lowering_scope c.args.self.now in
     let es = c.args.es.now in
     let count : length (map (resolve_expression s) (exprs_of es)) ≡ length es = length-map (exprs_of es) (resolve_expression s)
     ∙ length-map es expr_of in
     let globals : length s.globals ≡ length c.args.self.now.scope.globals.now = length-map c.args.self.now.scope.globals.now name_of in
-    does_no_call c.nowhere-then-es-self.result None _ _ c.args.back _
+    does_no_call c.nowhere-then-es-self.result target _ _ c.args.back _
     (inr (λ few. omega (arith, few, count, globals, c.if-es-self.true))) (c.nowhere-then-es-self.ensures _)
 
 pub loop-e-preserved : goal.loop-e-preserved
@@ -54,7 +54,7 @@ loop-e-preserved g c =
     )
 
 pub returns : goal.returns
-returns g c =
+returns g c target mask has =
     let s = lowering_scope c.args.self.now in
     let procs = c.args.self.now.scope.procedures.now in
     let es = c.args.es.now in
@@ -62,11 +62,11 @@ returns g c =
     let count : length s.procedures ≡ length procs = length-map (procs_of procs) _ ∙ length-map procs proc_of in
     let globals : length s.globals ≡ length c.args.self.now.scope.globals.now = length-map c.args.self.now.scope.globals.now name_of in
     let callee = c.number_of_procedure-callee.ensures ∙ e in
-    does_calls _ None _ (map (resolve_expression s) (exprs_of es)) s callee (sym globals)
+    does_calls _ target _ (map (resolve_expression s) (exprs_of es)) s _ callee (sym globals)
     (omega (arith, callee, count, c.if-callee-self.false))
     (λ gs ls wide.
     sym (append-nil (map (λ f. says f (coded (gs ++ ls))) c.loop-e.arguments.items))
     ∙ ap (λ l. map (λ f. says f (coded (gs ++ ls))) c.loop-e.arguments.items ++ values_of gs ls (map (resolve_expression s) (exprs_of l)))
     (sym (drop_all c.loop-e.e-index es c.loop-e-test.false))
     ∙ c.loop-e.invariant.1 gs ls wide)
-    refl tt
+    mask has

@@ -1,15 +1,18 @@
 -- Each statement leads where its node does.
-use Rattle.std.proofs.Common.{◌≡◌, ◌+◌, suc, refl, sym, ◌∙◌, ap, arith}
+use Rattle.std.proofs.Common.{◌≡◌, ◌+◌, suc, None, Some, refl, sym, ◌∙◌, ap, arith}
 use Rattle.std.proofs.lemmas.Result.{IfOk-weaker}
-use Rattle.language.specs.Tree.{assign, assert, assume, goto, call, done}
+use Rattle.language.specs.Tree.{assign, assert, assume, goto, call, leave_with, call_for, done}
+use Rattle.language.specs.Resolve.{place_of}
 use Rattle.language.specs.Rest.{rest_from}
 use Rattle.language.specs.Sequential.{statements}
-use Rattle.trees.specs.Trees.{deed_of, block_of, name_of, names_of, rhs_of, rhss_of, exprs_of}
+use Rattle.trees.specs.Trees.{deed_of, block_of, name_of, names_of, rhs_of, rhss_of, expr_of, exprs_of}
 use Rattle.trees.proofs.Held.{held}
-use Rattle.trees.proofs.Folds.{deed_of-Assign, deed_of-Assert, deed_of-Assume, deed_of-Goto, deed_of-Call, deed_of-If, deed_of-While}
+use Rattle.trees.proofs.Folds.{deed_of-Assign, deed_of-Assert, deed_of-Assume, deed_of-Goto, deed_of-Call, deed_of-CallTo, deed_of-Give}
+use Rattle.trees.proofs.Folds.{deed_of-If, deed_of-While}
 use Rattle.flow_graph.specs.Nodes.{point_at, assumes, goes_to}
-use Rattle.flow_graph.specs.Lowering.{lowered_body, side_in, assignment_in, call_in}
+use Rattle.flow_graph.specs.Lowering.{lowering_scope, lowered_routine, side_in, assignment_in, return_in, call_in}
 use Rattle.flow_graph.proofs.Counted.{alone_counts}
+use Rattle.flow_graph.proofs.Places.{named_target}
 use Rattle.flow_graph.proofs.Statements.{moved, does_simple, does_branch, does_repeat}
 use Rattle.flow_graph.proofs.lowering.Lowering.flow.Goals as goal
 
@@ -81,7 +84,7 @@ returns-in-Goto g c =
     IfOk-weaker c.jump.result _ _
     (λ f d k at_k few.
     does_simple l c.args.stmt.now c.args.after c.args.number (goto label)
-    (λ to. goes_to (rest_from label.text (lowered_body l) done)) (ap deed_of c.in-Goto.is ∙ deed_of-Goto _) (λ z. refl)
+    (λ to. goes_to (rest_from label.text (lowered_routine l).body done)) (ap deed_of c.in-Goto.is ∙ deed_of-Goto _) (λ z. refl)
     f (d few.0) k at_k few)
     c.jump.ensures
 
@@ -90,7 +93,31 @@ returns-in-Call g c =
     let l = c.args.self.now in
     let p = c.in-Call.p in
     IfOk-weaker c.call.result _ _
-    (does_simple l c.args.stmt.now c.args.after c.args.number (call (name_of p) (exprs_of c.in-Call.es.items))
-    (call_in l p c.deref-in-Call.result.now) (ap deed_of c.in-Call.is ∙ deed_of-Call _ _)
-    (λ k t. call_in l p (sym c.deref-in-Call.ensures.value t) (point_at k)))
+    (λ f d.
+    does_simple l c.args.stmt.now c.args.after c.args.number (call (name_of p) (exprs_of c.in-Call.es.items))
+    (call_in l None p c.deref-in-Call.result.now) (ap deed_of c.in-Call.is ∙ deed_of-Call _ _)
+    (λ k t. call_in l None p (sym c.deref-in-Call.ensures.value t) (point_at k)) f (d None refl tt))
     c.call.ensures
+
+pub returns-in-CallTo : goal.returns-in-CallTo
+returns-in-CallTo g c =
+    let l = c.args.self.now in
+    let s = lowering_scope l in
+    let x = name_of c.in-CallTo.x in
+    let p = c.in-CallTo.p in
+    IfOk-weaker c.call-in-CallTo.result _ _
+    (λ f d.
+    does_simple l c.args.stmt.now c.args.after c.args.number (call_for x (name_of p) (exprs_of c.in-CallTo.es.items))
+    (call_in l (Some (place_of s x)) p c.deref-in-CallTo.result.now) (ap deed_of c.in-CallTo.is ∙ deed_of-CallTo _ _ _)
+    (λ k t. call_in l (Some (place_of s x)) p (sym c.deref-in-CallTo.ensures.value t) (point_at k)) f
+    (d (Some (place_of s x)) c.mask.ensures (named_target s x)))
+    c.call-in-CallTo.ensures
+
+pub returns-in-Give : goal.returns-in-Give
+returns-in-Give g c =
+    let l = c.args.self.now in
+    let e = c.in-Give.e in
+    IfOk-weaker c.returned.result _ _
+    (does_simple l c.args.stmt.now c.args.after c.args.number (leave_with (expr_of e)) (λ to. return_in l e)
+    (ap deed_of c.in-Give.is ∙ deed_of-Give _) (λ k. refl))
+    c.returned.ensures

@@ -5,7 +5,7 @@ use Rattle.std.proofs.lemmas.Result.{IfOk-weaker}
 use Rattle.language.specs.Tree.{done}
 use Rattle.language.specs.Rest.{rest_from}
 use Rattle.flow_graph.specs.Nodes.{point_at, goes}
-use Rattle.flow_graph.specs.Lowering.{lowered_body, lowering_scope, DoesIn}
+use Rattle.flow_graph.specs.Lowering.{lowered_routine, lowering_scope, DoesIn}
 use Rattle.flow_graph.proofs.Lowered.{goes_found, goes_lost}
 use Rattle.flow_graph.proofs.lowering.Lowering.jump.Goals as goal
 
@@ -15,8 +15,8 @@ returns-in-Some g c =
     (λ f d few.
     let found = c.find.ensures (lowering_scope c.args.self.now) done (omega (arith, few)) in
     subst (DoesIn c.args.self.now f)
-    (sym (goes_found (rest_from (string_bytes c.args.label.now.text) (lowered_body c.args.self.now) done) c.in-Some.to
-    (ap (λ x. option_map point_at (rest_from x (lowered_body c.args.self.now) done)) (sym c.as_str.ensures.value) ∙
+    (sym (goes_found (rest_from (string_bytes c.args.label.now.text) (lowered_routine c.args.self.now).body done) c.in-Some.to
+    (ap (λ x. option_map point_at (rest_from x (lowered_routine c.args.self.now).body done)) (sym c.as_str.ensures.value) ∙
     sym found ∙ c.in-Some.is)))
     d)
     c.going.ensures
@@ -25,7 +25,7 @@ pub returns-in-None : goal.returns-in-None
 returns-in-None g c few =
     let found = c.find.ensures (lowering_scope c.args.self.now) done (omega (arith, few)) in
     subst (DoesIn c.args.self.now c.nowhere.result)
-    (sym (goes_lost (rest_from (string_bytes c.args.label.now.text) (lowered_body c.args.self.now) done)
-    (ap (λ x. option_map point_at (rest_from x (lowered_body c.args.self.now) done)) (sym c.as_str.ensures.value) ∙
+    (sym (goes_lost (rest_from (string_bytes c.args.label.now.text) (lowered_routine c.args.self.now).body done)
+    (ap (λ x. option_map point_at (rest_from x (lowered_routine c.args.self.now).body done)) (sym c.as_str.ensures.value) ∙
     sym found ∙ c.in-None.is)))
     (c.nowhere.ensures _)

@@ -44,7 +44,8 @@ last_choice-last-requires g c =
     let ws = c.loop-at.writes.items in
     let all = all_written s xs ys c.loop-at.at ws (omega (arith, c.min-count.ensures)) c.loop-at.invariant in
     let few =
-    anys_few (length s.globals + length s.locals) (map (bit_of_name s) (names_of xs)) (rhss_of ys) (names_below s (names_of xs)) in
+    anys_few (length s.globals + length s.locals) (map (bit_of_name s) (names_of xs)) (rhss_of ys)
+    (names_below s (names_of xs) (length s.globals + length s.locals) (omega arith)) in
     let same = anys_same s ws (kept_from s xs ys 0) all in
     let view = ap anys c.as_slice.ensures.value in
     let room = few_variables c.args.self.now.globals.now c.args.self.now.formals.now c.args.self.now.locals.now c.requires in

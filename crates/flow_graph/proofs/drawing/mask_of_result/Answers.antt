@@ -1,0 +1,45 @@
+-- The bit of the result is behind the globals, formals and locals.
+use Rattle.std.proofs.Common.{◌≡◌, ℕ, ◌+◌, ◌^◌, ◌++◌, cond, length, sym, ◌∙◌, ap, arith}
+use Rattle.language.specs.Resolve.{gives_value}
+use Rattle.trees.specs.Trees.{names_of, block_of}
+use Rattle.resolved.proofs.Counted.{places_counted, width_counted}
+use Rattle.flow_graph.proofs.Assignments.{one_bit}
+use Rattle.flow_graph.proofs.drawing.mask_of_result.Goals as goal
+
+pub overflow_shl-result : goal.overflow_shl-result
+overflow_shl-result g c =
+    let t = c.args.program.now in
+    let p = c.args.proc.now in
+    let gives = sym (ap (λ l. gives_value (block_of l)) c.deref.ensures.value) ∙ sym c.give_value.ensures ∙ c.if-give_value.true in
+    let one = ap {B = ℕ} (λ b. cond b 1 0) gives in
+    omega (
+      arith,
+      c.requires.0,
+      width_counted t p,
+      one,
+      c.len.ensures,
+      c.len-then-give_value.ensures,
+      c.len-then-give_value-2.ensures,
+      t.globals.ok.0,
+      p.formals.ok.0,
+      p.locals.ok.0,
+    )
+
+pub returns-then-give_value : goal.returns-then-give_value
+returns-then-give_value g c =
+    let t = c.args.program.now in
+    let p = c.args.proc.now in
+    let gives = sym (ap (λ l. gives_value (block_of l)) c.deref.ensures.value) ∙ sym c.give_value.ensures ∙ c.if-give_value.true in
+    let bit = length (names_of t.globals.items) + length (names_of p.formals.items ++ names_of p.locals.items) in
+    let same : c.len-then-give_value-2.result + (c.len.result + c.len-then-give_value.result) ≡ bit =
+    omega (
+      arith,
+      places_counted t.globals.items p.formals.items p.locals.items,
+      c.len.ensures,
+      c.len-then-give_value.ensures,
+      c.len-then-give_value-2.ensures,
+      t.globals.ok.0,
+      p.formals.ok.0,
+      p.locals.ok.0,
+    ) in
+    one_bit _ (omega (arith, overflow_shl-result g c)) ∙ ap {B = ℕ} (λ n. 2 ^ n) same ∙ ap {B = ℕ} (λ b. cond b (2 ^ bit) 0) (sym gives)
