@@ -6,7 +6,7 @@ use Rattle.std.proofs.lemmas.Option.{same_Some}
 use Rattle.language.specs.Lists.{Member}
 use Rattle.path_sets.specs.Triples.{Triple, triple}
 use Rattle.flow_graph.specs.Flows.{entered_by}
-use Rattle.flow_graph.specs.Returns.{resumed}
+use Rattle.flow_graph.specs.Returns.{resumed_at}
 use Rattle.flow_graph.specs.Numbers.{NumberedMessage, GraphReaches, returns}
 use Rattle.flow_graph.specs.declared.flow.Flow.{Flow}
 use Rattle.flow_graph.specs.declared.graph.Graph.{Graph}
@@ -62,7 +62,7 @@ module _ {A G : Type 0} (graph : Graph G) (q : ℕ) (f : Found A) (given : Given
         same_Some (s', x', n') (s, x, back)
         (sym en ∙ ap (λ w. entered_by w e.values) (same_Some fl flow (sym at ∙ here)) ∙ enters) in
         subst (λ u. GraphReaches graph (TookMessage asked_to) u.entry u.point u.values)
-        (sym (is ∙ ap (λ (c : ℕ × ℕ × ℕ). triple e.entry c.2 (resumed graph.globals e.values b)) call))
+        (sym (is ∙ ap (λ (c : ℕ × ℕ × ℕ). triple e.entry c.2 (resumed_at graph e.point e.values b)) call))
         (returns e.entry e.point e.values s x back b flow reached here enters m)
 
     -- so, where nothing but that is added, all edges are
@@ -131,10 +131,10 @@ module _ {A G : Type 0} (graph : Graph G) (q : ℕ) (f : Found A) (given : Given
         begun = λ from a h. inl h;
         ended = λ s' x' b a n v n' at enters' taken. elim (site_or (call s' x') (site a n v) at) [
           | inl was ↦ inl (was, taken)
-          | inr is ↦ inr (grown.all (triple a n' (resumed graph.globals v b)) (
+          | inr is ↦ inr (grown.all (triple a n' (resumed_at graph n v b)) (
             b,
             subst (λ k. Member b (under call_eq f.summaries.by_key k)) (sym is.0) taken,
-            subst (λ (y : Site). IsBehind graph y b (triple a n' (resumed graph.globals v b))) (sym is.1) (s', x', n', enters', refl),
+            subst (λ (y : Site). IsBehind graph y b (triple a n' (resumed_at graph n v b))) (sym is.1) (s', x', n', enters', refl),
           ))
         ];
         asks = λ s' x' a n v m. elim (site_or (call s' x') (site a n v) m) [

@@ -3,13 +3,15 @@ use Rattle.std.proofs.Common.{◌≡◌, ℕ, refl, sym, ap, ◌∙◌, subst}
 use Rattle.language.specs.Sequential as sequential
 use Rattle.language.specs.Sequential.{starter, caller}
 use Rattle.flow_graph.specs.Numbers.{NumberedMessage, numbered_entry, numbered_summary}
+use Rattle.flow_graph.specs.declared.left.Left.{Left}
 use Rattle.summaries.specs.declared.due.Caller.{Caller}
 use Rattle.summaries.specs.declared.due.Caller.TheVariants.{Starter, Proc}
 use Rattle.summaries.specs.declared.due.Due.{Due}
 use Rattle.summaries.specs.declared.due.Due.TheVariants.{Entry, Summary}
 use Rattle.summaries.specs.declared.edge.Call.{Call}
+use Rattle.summaries.specs.Mails.{summary_due}
 use Rattle.summaries.specs.Dues.{caller_of, due_of}
-use Rattle.summaries.specs.Found.{call}
+use Rattle.summaries.specs.Found.{call, left}
 
 -- the caller by number
 abbrev pub who : Caller → sequential.Caller
@@ -27,7 +29,7 @@ is_who (caller q) = refl
 -- the message by numbers
 abbrev pub message_of : Due → NumberedMessage
 message_of (Entry from a) = numbered_entry (who from) a
-message_of (Summary s a b) = numbered_summary s a b
+message_of (Summary s r a b) = numbered_summary s a (left b r)
 
 is_message : (k : NumberedMessage) → k ≡ message_of (due_of k)
 is_message (numbered_entry from a) = ap (λ c. numbered_entry c a) (is_who from)
@@ -35,7 +37,7 @@ is_message (numbered_summary s a b) = refl
 
 pub message_is : (d : Due) → due_of (message_of d) ≡ d
 message_is (Entry from a) = ap (λ c. Entry c a) (who_is from)
-message_is (Summary s a b) = refl
+message_is (Summary s r a b) = refl
 
 -- what a table calls a message tells it
 pub due_told : (k : NumberedMessage) (d : Due) → due_of k ≡ d → k ≡ message_of d
@@ -44,37 +46,37 @@ due_told k d e = is_message k ∙ ap message_of e
 -- who enters a procedure, or the one given
 caller_in : Caller → Due → Caller
 caller_in c (Entry from a) = from
-caller_in c (Summary s a b) = c
+caller_in c (Summary s r a b) = c
 
 -- the valuation on entry
 entry_in : Due → ℕ
 entry_in (Entry from a) = a
-entry_in (Summary s a b) = a
+entry_in (Summary s r a b) = a
 
 -- what was called, or the one given
 call_in : Call → Due → Call
 call_in k (Entry from a) = k
-call_in k (Summary s a b) = call s a
+call_in k (Summary s r a b) = call s a
 
--- what it left, or the number given
-left_in : ℕ → Due → ℕ
-left_in n (Entry from a) = n
-left_in n (Summary s a b) = b
+-- what it left, or what is given
+left_in : Left → Due → Left
+left_in e (Entry from a) = e
+left_in e (Summary s r a b) = left b r
 
 IsSummary : Due → Type 0
 IsSummary (Entry from a) = ⊥
-IsSummary (Summary s a b) = Unit {0}
+IsSummary (Summary s r a b) = Unit {0}
 
 -- the parts of messages that are the same are
 pub same_entry : (from to : Caller) (a b : ℕ) → Entry from a ≡ Entry to b → (to ≡ from) × (b ≡ a)
 unfolding caller_in entry_in
 same_entry from to a b e = (sym (ap (caller_in from) e), sym (ap entry_in e))
 
-pub same_summary : (s p a x b y : ℕ) → Summary s a b ≡ Summary p x y → (call p x ≡ call s a) × (y ≡ b)
+pub same_summary : (s p a x : ℕ) (b y : Left) → summary_due s a b ≡ summary_due p x y → (call p x ≡ call s a) × (y ≡ b)
 unfolding call_in left_in
 same_summary s p a x b y e = (sym (ap (call_in (call s a)) e), sym (ap (left_in b) e))
 
 -- an entry is no summary
-pub apart : (from : Caller) (s a x b : ℕ) → Entry from a ≡ Summary s x b → ⊥
+pub apart : (from : Caller) (s a x : ℕ) (b : Left) → Entry from a ≡ summary_due s x b → ⊥
 unfolding IsSummary
 apart from s a x b e = subst IsSummary (sym e) tt

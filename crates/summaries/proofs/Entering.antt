@@ -6,16 +6,17 @@ use Rattle.language.specs.Lists.{Member}
 use Rattle.path_sets.specs.Triples.{Triple, triple}
 use Rattle.flow_graph.specs.Numbers.{NumberedMessage, numbered_entry, numbered_summary, GraphReaches, starts}
 use Rattle.flow_graph.specs.declared.graph.Graph.{Graph}
+use Rattle.flow_graph.specs.declared.left.Left.{Left}
 use Rattle.summaries.specs.declared.due.Caller as rust
 use Rattle.summaries.specs.declared.due.Caller.TheVariants.{Proc}
-use Rattle.summaries.specs.declared.due.Due.TheVariants.{Entry, Summary}
+use Rattle.summaries.specs.declared.due.Due.TheVariants.{Entry}
 use Rattle.summaries.specs.declared.edge.Edge.{Edge}
 use Rattle.summaries.specs.declared.found.Found.{Found}
 use Rattle.summaries.specs.declared.given.Given.{Given}
 use Rattle.summaries.specs.declared.given.Mail.{Mail}
 use Rattle.summaries.specs.declared.groups.Groups.{Groups}
 use Rattle.summaries.specs.Under.{under}
-use Rattle.summaries.specs.Mails.{mail}
+use Rattle.summaries.specs.Mails.{mail, summary_due}
 use Rattle.summaries.specs.Dues.{caller_of, due_of}
 use Rattle.summaries.specs.Found.{TookMessage, IsOwed, IsGrounded}
 use Rattle.summaries.specs.Grows.{Grows, AddsMails, OfSome, IsSummaryTold}
@@ -83,7 +84,7 @@ module _ {A G : Type 0} (graph : Graph G) (q : ℕ) (f : Found A) (entries : Gro
         IsOwed entered_to q s k
     told s k (b, m, (c, is, same)) =
         subst (λ to. IsOwed entered_to q to k) (sym (ap (λ x. x.to) same))
-        (subst (IsOwed entered_to q c) (sym (due_told k (Summary q a b) (ap (λ x. x.due) same))) (
+        (subst (IsOwed entered_to q c) (sym (due_told k (summary_due q a b) (ap (λ x. x.due) same))) (
           refl,
           m,
           subst (λ d. Member d (under nat_eq entries.by_key a)) is
@@ -107,10 +108,10 @@ module _ {A G : Type 0} (graph : Graph G) (q : ℕ) (f : Found A) (entries : Gro
         (λ s x y c n v back at enters h. inl h)
         (λ x y c m h. elim (entry_or x (Proc c) h) [
           | inl was ↦ inl was
-          | inr is ↦ inr (gave.all (mail c (Summary q x y)) (
+          | inr is ↦ inr (gave.all (mail c (summary_due q x y)) (
             y,
             subst (λ z. Member y (under nat_eq f.exits.by_key z)) (sym is.0) m,
-            (c, is.1, ap (λ z. mail c (Summary q z y)) (sym is.0)),
+            (c, is.1, ap (λ z. mail c (summary_due q z y)) (sym is.0)),
           ))
         ])
         (added_once nat_eq exact_unsigned_eq (under nat_eq f.entries.by_key) (under nat_eq entries.by_key) a from
@@ -118,7 +119,7 @@ module _ {A G : Type 0} (graph : Graph G) (q : ℕ) (f : Found A) (entries : Gro
 
 -- a caller that is new is told nothing yet
 pub none_told : {A G : Type 0} (graph : Graph G) (q : ℕ) (f : Found A) (es : List Triple) → IsGrounded graph q f es →
-    (a : ℕ) (from : rust.Caller) (exits : List ℕ) → (Member from (under nat_eq f.entries.by_key a) → ⊥) →
+    (a : ℕ) (from : rust.Caller) (exits : List Left) → (Member from (under nat_eq f.entries.by_key a) → ⊥) →
     (x : Mail) → OfSome (λ b. IsSummaryTold q a b from) exits x → Member x f.given.mails.items → ⊥
 none_told graph q f es sound a from exits new x (b, m, (c, is, same)) given =
     let (own, left, taken) =

@@ -2,10 +2,11 @@
 use Rattle.std.proofs.Common.{◌≡◌, ℕ, List, [], inl, inr, subst, sym, refl}
 use Rattle.language.specs.Lists.{Member}
 use Rattle.path_sets.specs.Triples.{Triple, triple}
-use Rattle.flow_graph.specs.Returns.{left}
+use Rattle.flow_graph.specs.Returns.{left_by}
 use Rattle.flow_graph.specs.Numbers.{NumberedMessage, numbered_entry, numbered_summary, GraphReaches}
 use Rattle.flow_graph.specs.Numbers.{starts, flows, returns, Sends, asks, tells, Leaves}
 use Rattle.flow_graph.specs.declared.graph.Graph.{Graph}
+use Rattle.flow_graph.specs.declared.left.Left.{Left}
 use Rattle.summaries.specs.declared.found.Found.{Found}
 use Rattle.summaries.specs.Found.{edge, TookMessage, HasExit, HasGiven, IsOwed}
 use Rattle.summaries.specs.Found.{IsGrounded, IsWorked, IsSaturated, IsExact}
@@ -49,10 +50,10 @@ module _ {A G : Type 0} (graph : Graph G) (q : ℕ) (f : Found A) (edges : List 
   is_given _ _ (asks a n v s e n' flow r here calls) =
       complete.asks s e a n v ((is_worked a n v (is_edge a n v r)).calls flow s e n' here calls)
   is_given _ _ (tells a v c taken r) =
-      complete.tells a (left graph.globals v) c ((is_worked a 0 v (is_edge a 0 v r)).leaves refl) taken
+      complete.tells a (left_by graph v) c ((is_worked a 0 v (is_edge a 0 v r)).leaves refl) taken
 
   -- what is left is an exit
-  pub is_left : (a b : ℕ) → Leaves graph (TookMessage f) a b → HasExit f a b
+  pub is_left : (a : ℕ) (b : Left) → Leaves graph (TookMessage f) a b → HasExit f a b
   unfolding is_worked
   is_left a b (v, reached, is) = subst (HasExit f a) (sym is) ((is_worked a 0 v (is_edge a 0 v reached)).leaves refl)
 

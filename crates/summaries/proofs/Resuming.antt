@@ -5,16 +5,17 @@ use Rattle.std.proofs.lemmas.Option.{same_Some}
 use Rattle.language.specs.Lists.{Member}
 use Rattle.path_sets.specs.Triples.{Triple, triple}
 use Rattle.flow_graph.specs.Flows.{entered_by}
-use Rattle.flow_graph.specs.Returns.{resumed}
+use Rattle.flow_graph.specs.Returns.{resumed_at}
 use Rattle.flow_graph.specs.Numbers.{NumberedMessage, numbered_entry, numbered_summary, GraphReaches, returns}
 use Rattle.flow_graph.specs.declared.graph.Graph.{Graph}
+use Rattle.flow_graph.specs.declared.left.Left.{Left}
 use Rattle.flow_graph.proofs.Holding.{reaches_more}
-use Rattle.summaries.specs.declared.due.Due.TheVariants.{Summary}
 use Rattle.summaries.specs.declared.edge.Call.{Call}
 use Rattle.summaries.specs.declared.edge.Edge.{Edge}
 use Rattle.summaries.specs.declared.found.Found.{Found}
 use Rattle.summaries.specs.declared.groups.Groups.{Groups}
 use Rattle.summaries.specs.Under.{under}
+use Rattle.summaries.specs.Mails.{summary_due}
 use Rattle.summaries.specs.Dues.{caller_of}
 use Rattle.summaries.specs.Found.{call, call_eq, site, TookMessage, IsGrounded}
 use Rattle.summaries.specs.Grows.{Grows, OfSome, IsBehind}
@@ -23,7 +24,8 @@ use Rattle.summaries.proofs.Adding.{same_call, added_or, added_keeps, added_is}
 use Rattle.summaries.proofs.Dues.{same_summary, apart}
 use Rattle.summaries.proofs.Stepping.{Step, grown_to, grown_reached, grown_step}
 
-module _ {A G : Type 0} (graph : Graph G) (q : ℕ) (f : Found A) (summaries : Groups Call ℕ A) (pending : Vec Edge A) (k : Call) (b : ℕ)
+module _ {A G : Type 0} (graph : Graph G) (q : ℕ) (f : Found A) (summaries : Groups Call Left A) (pending : Vec Edge A) (k : Call)
+    (b : Left)
     (added : under call_eq summaries.by_key k ≡ under call_eq f.summaries.by_key k ++ b ∷ [])
     (others : (j : Call) → call_eq k j ≡ false → under call_eq summaries.by_key j ≡ under call_eq f.summaries.by_key j) where
   -- what is found, with other summaries and edges pending
@@ -33,7 +35,7 @@ module _ {A G : Type 0} (graph : Graph G) (q : ℕ) (f : Found A) (summaries : G
   abbrev M : NumberedMessage → Type 0
   M = TookMessage resumed_to
 
-  summary_or : (j : Call) (y : ℕ) → Member y (under call_eq summaries.by_key j)
+  summary_or : (j : Call) (y : Left) → Member y (under call_eq summaries.by_key j)
       → Member y (under call_eq f.summaries.by_key j) ⊎ ((k ≡ j) × (b ≡ y))
   summary_or = added_or call_eq same_call (under call_eq f.summaries.by_key) (under call_eq summaries.by_key) k b added others
 
@@ -48,14 +50,14 @@ module _ {A G : Type 0} (graph : Graph G) (q : ℕ) (f : Found A) (summaries : G
   left_so = added_is call_eq same_call (under call_eq f.summaries.by_key) (under call_eq summaries.by_key) k b added others
 
   -- and no other
-  pub resumed_also : TookAlso (Summary k.callee k.entered b) f resumed_to
+  pub resumed_also : TookAlso (summary_due k.callee k.entered b) f resumed_to
   resumed_also (numbered_entry c x) =
       (λ h. inr h, λ w. elim w [ inl is ↦ absurd (apart (caller_of c) k.callee x k.entered b is) | inr was ↦ was ])
   resumed_also (numbered_summary s x y) = (
     λ h.
         elim (summary_or (call s x) y h) [
           | inl was ↦ inr was
-          | inr is ↦ inl (λ i. Summary (sym is.0 i).callee (sym is.0 i).entered (sym is.1 i))
+          | inr is ↦ inl (λ i. summary_due (sym is.0 i).callee (sym is.0 i).entered (sym is.1 i))
         ],
     λ w. elim w [
       | inl is ↦
@@ -76,7 +78,7 @@ module _ {A G : Type 0} (graph : Graph G) (q : ℕ) (f : Found A) (summaries : G
         same_Some (s, x, n) (k.callee, k.entered, back)
         (sym en ∙ ap (λ w. entered_by w y.values) (same_Some fl flow (sym at ∙ here)) ∙ enters) in
         subst (λ u. GraphReaches graph M u.entry u.point u.values)
-        (sym (is ∙ ap (λ (c : ℕ × ℕ × ℕ). triple y.asked c.2 (resumed graph.globals y.values b)) call))
+        (sym (is ∙ ap (λ (c : ℕ × ℕ × ℕ). triple y.asked c.2 (resumed_at graph y.point y.values b)) call))
         (returns y.asked y.point y.values k.callee k.entered back b flow
         (reaches_more graph (TookMessage f) M taken_resumed y.asked y.point y.values reached) here enters left_so)
 
@@ -96,10 +98,10 @@ module _ {A G : Type 0} (graph : Graph G) (q : ℕ) (f : Found A) (summaries : G
         (λ s m h. h) (λ s m h. inl h) (λ c x h. inl h)
         (λ s x y c n v back at enters taken. elim (summary_or (call s x) y taken) [
           | inl was ↦ inl was
-          | inr is ↦ inr (grown.all (triple c back (resumed graph.globals v y)) (
+          | inr is ↦ inr (grown.all (triple c back (resumed_at graph n v y)) (
             site c n v,
             subst (λ j. Member (site c n v) (under call_eq f.sites.by_key j)) (sym is.0) at,
-            (s, x, back, enters, ap (λ z. triple c back (resumed graph.globals v z)) (sym is.1)),
+            (s, x, back, enters, ap (λ z. triple c back (resumed_at graph n v z)) (sym is.1)),
           ))
         ])
         (λ x y c m h. inl h) (λ old. old)

@@ -7,9 +7,10 @@ use Rattle.language.specs.Sequential.{Caller, caller}
 use Rattle.language.specs.Lists.{Member, NoneTwice}
 use Rattle.language.proofs.Members.{member_left, member_right, member_append}
 use Rattle.path_sets.specs.Triples.{Triple, triple}
-use Rattle.flow_graph.specs.Returns.{left, resumed}
+use Rattle.flow_graph.specs.Returns.{left_by, resumed_at}
 use Rattle.flow_graph.specs.Numbers.{NumberedMessage, numbered_entry, numbered_summary, GraphReaches, Leaves}
 use Rattle.flow_graph.specs.declared.graph.Graph.{Graph}
+use Rattle.flow_graph.specs.declared.left.Left.{Left}
 use Rattle.flow_graph.proofs.Holding.{reaches_more}
 use Rattle.summaries.specs.declared.edge.Call.{Call}
 use Rattle.summaries.specs.declared.edge.Edge.{Edge}
@@ -38,19 +39,20 @@ pub record Step {A G : Type 0} (graph : Graph G) (q : ℕ) (f g : Found A) (es d
   pub sites : (s e a n v : ℕ) → HasSite f s e (site a n v) → HasSite g s e (site a n v)
   pub called : (s e a n v : ℕ) → HasSite g s e (site a n v) →
       HasSite f s e (site a n v) ⊎ (GraphReaches graph (TookMessage g) a n v × ((back : ℕ) × EntersAt graph n v s e back))
-  pub exits : (a b : ℕ) → HasExit f a b → HasExit g a b
-  pub exit : (a b : ℕ) → HasExit g a b → HasExit f a b ⊎ Leaves graph (TookMessage g) a b
+  pub exits : (a : ℕ) (b : Left) → HasExit f a b → HasExit g a b
+  pub exit : (a : ℕ) (b : Left) → HasExit g a b → HasExit f a b ⊎ Leaves graph (TookMessage g) a b
   pub gives : (s : ℕ) (k : NumberedMessage) → HasGiven f s k → HasGiven g s k
   pub given : (s : ℕ) (k : NumberedMessage) → HasGiven g s k → HasGiven f s k ⊎ IsOwed g q s k
   pub begun : (from : Caller) (a : ℕ) → TookMessage g (numbered_entry from a) →
       TookMessage f (numbered_entry from a) ⊎ Member (triple a graph.start a) ds
-  pub ended : (s e b a n v back : ℕ) → HasSite g s e (site a n v) → EntersAt graph n v s e back →
+  pub ended : (s e : ℕ) (b : Left) (a n v back : ℕ) → HasSite g s e (site a n v) → EntersAt graph n v s e back →
       TookMessage g (numbered_summary s e b) →
-      HasSite f s e (site a n v) × TookMessage f (numbered_summary s e b) ⊎ Member (triple a back (resumed graph.globals v b)) ds
+      HasSite f s e (site a n v) × TookMessage f (numbered_summary s e b) ⊎ Member (triple a back (resumed_at graph n v b)) ds
   pub asks : (s e a n v : ℕ) → HasSite g s e (site a n v) → HasSite f s e (site a n v) ⊎ HasGiven g s (numbered_entry (caller q) e)
-  pub tells : (a b c : ℕ) → HasExit g a b → TookMessage g (numbered_entry (caller c) a) →
+  pub tells : (a : ℕ) (b : Left) (c : ℕ) → HasExit g a b → TookMessage g (numbered_entry (caller c) a) →
       HasExit f a b × TookMessage f (numbered_entry (caller c) a) ⊎ HasGiven g c (numbered_summary q a b)
-  pub pairs : ((a b : ℕ) → Member (pair a b) f.pairs.keys ↔ HasExit f a b) → (a b : ℕ) → Member (pair a b) g.pairs.keys ↔ HasExit g a b
+  pub pairs : ((a : ℕ) (b : Left) → Member (pair a b) f.pairs.keys ↔ HasExit f a b) → (a : ℕ) (b : Left) →
+      Member (pair a b) g.pairs.keys ↔ HasExit g a b
   pub callers_once : ((a : ℕ) → NoneTwice (under nat_eq f.entries.by_key a)) → (a : ℕ) →
       NoneTwice (under nat_eq g.entries.by_key a)
   pub exits_once : ((a : ℕ) → NoneTwice (under nat_eq f.exits.by_key a)) → (a : ℕ) →
@@ -86,7 +88,7 @@ module _ {A G : Type 0} (graph : Graph G) (q : ℕ) (f g : Found A) (es ds : Lis
   still_worked a n v old = record {
     flows = λ flow i n' v' here most next. step.kept (triple a n' v') (old.flows flow i n' v' here most next);
     calls = λ flow s e n' here enters. step.sites s e a n v (old.calls flow s e n' here enters);
-    leaves = λ is. step.exits a (left graph.globals v) (old.leaves is);
+    leaves = λ is. step.exits a (left_by graph v) (old.leaves is);
   }
 
   -- and nothing is left out
@@ -102,7 +104,7 @@ module _ {A G : Type 0} (graph : Graph G) (q : ℕ) (f g : Found A) (es ds : Lis
       | inr is ↦ inr (inl is)
     ];
     ended = λ s e b a n v back at enters taken. elim (step.ended s e b a n v back at enters taken) [
-      | inl was ↦ step.kept (triple a back (resumed graph.globals v b)) (old.ended s e b a n v back was.0 enters was.1)
+      | inl was ↦ step.kept (triple a back (resumed_at graph n v b)) (old.ended s e b a n v back was.0 enters was.1)
       | inr is ↦ is
     ];
     asks =
@@ -159,7 +161,7 @@ taken_as f g entries summaries (numbered_entry from a) h = subst (Member (caller
 taken_as f g entries summaries (numbered_summary s a b) h = subst (Member b) (sym (summaries (call s a))) h
 
 -- g has other entries, summaries, messages given and edges pending than f
-module _ {A G : Type 0} (graph : Graph G) (q : ℕ) (f : Found A) (entries : Groups ℕ rust.Caller A) (summaries : Groups Call ℕ A)
+module _ {A G : Type 0} (graph : Graph G) (q : ℕ) (f : Found A) (entries : Groups ℕ rust.Caller A) (summaries : Groups Call Left A)
     (given : Given A) (pending : Vec Edge A) where
   -- what is found, with these
   abbrev pub grown_to : Found A
@@ -189,10 +191,10 @@ module _ {A G : Type 0} (graph : Graph G) (q : ℕ) (f : Found A) (entries : Gro
         → ((s : ℕ) (k : NumberedMessage) → HasGiven grown_to s k → HasGiven f s k ⊎ IsOwed grown_to q s k)
         → ((from : Caller) (a : ℕ) → TookMessage grown_to (numbered_entry from a) →
         TookMessage f (numbered_entry from a) ⊎ Member (triple a graph.start a) ds)
-        → ((s e b a n v back : ℕ) → HasSite f s e (site a n v) → EntersAt graph n v s e back →
+        → ((s e : ℕ) (b : Left) (a n v back : ℕ) → HasSite f s e (site a n v) → EntersAt graph n v s e back →
         TookMessage grown_to (numbered_summary s e b) →
-        TookMessage f (numbered_summary s e b) ⊎ Member (triple a back (resumed graph.globals v b)) ds)
-        → ((a b c : ℕ) → HasExit f a b → TookMessage grown_to (numbered_entry (caller c) a) →
+        TookMessage f (numbered_summary s e b) ⊎ Member (triple a back (resumed_at graph n v b)) ds)
+        → ((a : ℕ) (b : Left) (c : ℕ) → HasExit f a b → TookMessage grown_to (numbered_entry (caller c) a) →
         TookMessage f (numbered_entry (caller c) a) ⊎ HasGiven grown_to c (numbered_summary q a b))
         → (((a : ℕ) → NoneTwice (under nat_eq f.entries.by_key a)) → (a : ℕ) →
         NoneTwice (under nat_eq entries.by_key a))
@@ -336,7 +338,7 @@ module _ {A G : Type 0} (graph : Graph G) (q : ℕ) (f : Found A) (es : List Tri
   no_site : (s e : ℕ) (x : Site) → HasSite f s e x → ⊥
   no_site s e x m = subst (Member x) (empty.sites (call s e)) m
 
-  no_exit : (a b : ℕ) → HasExit f a b → ⊥
+  no_exit : (a : ℕ) (b : Left) → HasExit f a b → ⊥
   no_exit a b m = subst (Member b) (empty.exits a) m
 
   pub no_message : (k : NumberedMessage) → TookMessage f k → ⊥

@@ -34,7 +34,7 @@ use Rattle.summaries.specs.declared.table_fault.TableFault.TheVariants.{Memory, 
 use Rattle.summaries.specs.declared.no_verdict.NoVerdict.TheVariants as verdict
 use Rattle.summaries.specs.Mails.{mail}
 use Rattle.summaries.specs.Dues.{due_of}
-use Rattle.summaries.specs.Found.{TookMessage}
+use Rattle.summaries.specs.Found.{left, TookMessage}
 use Rattle.summaries.specs.Tables.{graph_of, answers_of, IsTable, IsQuiet, IsAnswer, KeepsTable, StaysAs, TookAlso, TookOnly, TookSame}
 use Rattle.summaries.specs.Tabulated.{no_verdict, HasMoreEdges}
 use Rattle.summaries.specs.Together.{opening, IsReceived, IsTaken, HaveLimit, IsTableOf, AreNew, AreTables, AreQuietBefore}
@@ -47,7 +47,7 @@ use Rattle.path_sets.specs.EdgeLimits.{most_of}
 pub number_of_due : (d : Due) → (k : NumberedMessage) × (due_of k ≡ d)
 number_of_due (Entry Starter a) = (numbered_entry starter a, refl)
 number_of_due (Entry (Proc q) a) = (numbered_entry (caller q) a, refl)
-number_of_due (Summary s a b) = (numbered_summary s a b, refl)
+number_of_due (Summary s r a b) = (numbered_summary s a (left b r), refl)
 
 -- what a message's numbers are, where it is the starter's
 is_opening : (k : NumberedMessage) → due_of k ≡ Entry Starter 0 → k ≡ numbered_entry starter 0

@@ -12,6 +12,7 @@ use Rattle.flow_graph.specs.Bits.{bit_of}
 use Rattle.flow_graph.specs.Numbers.{NumberedMessage, numbered_entry, GraphReaches, Sends}
 use Rattle.flow_graph.specs.Numbers.{Leaves, IsNumberOf, IsNumberOfEntry, AreNumbersOfEdge, AreNumbersOfPair}
 use Rattle.flow_graph.specs.declared.graph.Graph.{Graph}
+use Rattle.flow_graph.specs.declared.left.Left.{Left}
 use Rattle.flow_graph.proofs.Taking.{there_too, taken_due, edges_taken}
 use Rattle.flow_graph.proofs.Pairs.{edge_numbers, pairs_left, bad_left, entries_taken}
 use Rattle.summaries.specs.declared.due.Caller as callers
@@ -74,7 +75,7 @@ module _ {G A S : Type 0} (members : S → List Triple) (p : Program) (ts : List
 
   -- where some pair is bad there is a first table
   pub bad_table : (bad : ℕ) → SomeBad p bad → 0 < length ts
-  bad_table bad (x, g, pair, is) = entered_table 0 x ((pair_exit p 0 x g).0 pair).1.0
+  bad_table bad (x, g, pair, is) = entered_table 0 x ((pair_exit p 0 x g).0 pair).2.0
 
   module _ (quiet : AreQuietBefore members (length ts) ts) where
     abbrev T : ℕ → NumberedMessage → Type 0
@@ -124,7 +125,7 @@ module _ {G A S : Type 0} (members : S → List Triple) (p : Program) (ts : List
           (entries_taken p (map graph_of ts) T are.drawn.0 are.drawn.2 started sent_taken is_due q a)
 
       -- the pairs that it keeps are those of its procedure
-      pub table_pairs : (a b : ℕ) → Member (pair a b) t.found.pairs.keys ↔ AreNumbersOfPair p q a b
+      pub table_pairs : (a : ℕ) (b : Left) → Member (pair a b) t.found.pairs.keys ↔ AreNumbersOfPair p q a b
       table_pairs a b =
           let pairs : Leaves t.graph.now (TookMessage t.found) a b ↔ AreNumbersOfPair p q a b =
           subst (λ (o : Option (Table G A S)). Leaves t.graph.now (IsTaken o) a b ↔ AreNumbersOfPair p q a b) is
@@ -157,7 +158,7 @@ module _ {G A S : Type 0} (members : S → List Triple) (p : Program) (ts : List
 
     -- some pair is bad where some pair that the first table keeps has the bit
     pub table_bad : (t : Table G A S) → slice_get ts 0 ≡ Some t → (bad : ℕ)
-        → SomeBad p bad ↔ ((a : ℕ) × (b : ℕ) × Member (pair a b) t.found.pairs.keys × (bit_of b bad ≡ true))
+        → SomeBad p bad ↔ ((a : ℕ) × (b : Left) × Member (pair a b) t.found.pairs.keys × (bit_of b.globals bad ≡ true))
     table_bad t is bad =
         let bits =
         bad_left p (map graph_of ts) T are.drawn.0 are.drawn.2 (opening t is) sent_taken is_due are.drawn.1 t.graph.now
@@ -205,7 +206,7 @@ module _ {G A S : Type 0} (members : S → List Triple) (p : Program) (ts : List
       -- and some pair is bad where the program has a bad pair
       pub all_bad : (bad : ℕ)
           → ((s : Effect) × (slice_get ss 0 ≡ Some s) ×
-          ((a : ℕ) × (b : ℕ) × Member (pair a b) s.pairs × (bit_of b bad ≡ true))) ↔ SomeBad p bad
+          ((a : ℕ) × (b : Left) × Member (pair a b) s.pairs × (bit_of b.globals bad ≡ true))) ↔ SomeBad p bad
       all_bad bad = (
         λ h. let (t, there, off) = table_of 0 h.0 h.1 in
             let (a, b, m, bit) = h.2 in

@@ -4,6 +4,7 @@ use Rattle.std.proofs.Common.{inl, inr, sym, subst, ap, ◌∙◌}
 use Rattle.std.proofs.lemmas.List.{append-nil, append_assoc}
 use Rattle.language.specs.Lists.{Member, NoneTwice}
 use Rattle.language.proofs.Members.{member_left, member_right, member_append}
+use Rattle.flow_graph.specs.declared.left.Left.{Left}
 use Rattle.summaries.specs.declared.given.Mail.{Mail}
 use Rattle.summaries.specs.declared.due.Caller.{Caller}
 use Rattle.summaries.specs.declared.due.Caller.TheVariants.{Proc}
@@ -82,10 +83,10 @@ still_new W same xs i d within once old mid new gives x w m = elim (gives.only x
 ]
 
 -- a summary is told to no two callers
-pub one_caller : (p a b : ℕ) (y z : Caller) (x : Mail) → IsSummaryTold p a b y x → IsSummaryTold p a b z x → y ≡ z
+pub one_caller : (p a : ℕ) (b : Left) (y z : Caller) (x : Mail) → IsSummaryTold p a b y x → IsSummaryTold p a b z x → y ≡ z
 one_caller p a b y z x (c, is_c, by_c) (d, is_d, by_d) = is_c ∙ ap (λ m. Proc m.to) (sym by_c ∙ by_d) ∙ sym is_d
 
 -- and is one of what was left
-pub one_left : (p a : ℕ) (from : Caller) (y z : ℕ) (x : Mail) → IsSummaryTold p a y from x → IsSummaryTold p a z from x → y ≡ z
+pub one_left : (p a : ℕ) (from : Caller) (y z : Left) (x : Mail) → IsSummaryTold p a y from x → IsSummaryTold p a z from x → y ≡ z
 one_left p a from y z x (c, is_c, by_c) (d, is_d, by_d) =
     sym (same_summary p p a a y z (ap (λ m. m.due) (sym by_c ∙ by_d))).1

@@ -5,7 +5,7 @@ use Rattle.language.specs.Lists.{Member}
 use Rattle.path_sets.specs.Triples.{Triple, triple}
 use Rattle.flow_graph.specs.Calls.{entry_of}
 use Rattle.flow_graph.specs.Flows.{last_of, next_of, entered_by}
-use Rattle.flow_graph.specs.Returns.{left}
+use Rattle.flow_graph.specs.Returns.{left_by}
 use Rattle.flow_graph.specs.declared.call.Call as rust
 use Rattle.flow_graph.specs.declared.flow.Flow.{Flow}
 use Rattle.flow_graph.specs.declared.flow.Flow.TheVariants.{Assign, Test, Assume, Call, Return}
@@ -16,7 +16,7 @@ use Rattle.summaries.specs.Found.{site, HasSite, HasExit, IsWorked}
 use Rattle.summaries.specs.Grows.{IsNext}
 
 module _ {A G : Type 0} (graph : Graph G) (q : ℕ) (f : Found A) (es : List Triple) (e : Edge)
-    (leaves : e.point ≡ 0 → HasExit f e.entry (left graph.globals e.values)) where
+    (leaves : e.point ≡ 0 → HasExit f e.entry (left_by graph e.values)) where
   -- where there is no such point
   pub beyond_worked : length graph.flows.items ≤ e.point → IsWorked graph q f es e.entry e.point e.values
   beyond_worked past = record {

@@ -1,14 +1,16 @@
 -- What a table holds is reached and sent, and nothing that is reached or sent is left out but by what is pending.
+use Rattle.std.specs.Bool.{beq}
 use Rattle.std.specs.Prelude.{◌≡◌, ◌≤◌, ◌⊎◌, ◌↔◌, ◌&&◌, ℕ, Bool, List, [], Some, nat_eq, slice_get, take}
 use Rattle.language.specs.Sequential.{Caller, caller}
 use Rattle.language.specs.Lists.{Member, NoneTwice}
 use Rattle.path_sets.specs.Triples.{Triple, triple}
-use Rattle.flow_graph.specs.Drawn.{flows_of, globals_of, start_of}
+use Rattle.flow_graph.specs.Drawn.{flows_of, start_of}
 use Rattle.flow_graph.specs.Flows.{last_of, next_of, entered_by}
-use Rattle.flow_graph.specs.Returns.{left, resumed}
+use Rattle.flow_graph.specs.Returns.{left_by, resumed_at}
 use Rattle.flow_graph.specs.Numbers.{NumberedMessage, numbered_entry, numbered_summary, GraphReaches, Sends, Leaves}
 use Rattle.flow_graph.specs.declared.flow.Flow.{Flow}
 use Rattle.flow_graph.specs.declared.graph.Graph.{Graph}
+use Rattle.flow_graph.specs.declared.left.Left.{Left}
 use Rattle.summaries.specs.declared.due.Due.{Due}
 use Rattle.summaries.specs.declared.due.Due.TheVariants.{Entry, Summary}
 use Rattle.summaries.specs.declared.edge.Edge.{Edge}
@@ -29,7 +31,7 @@ call_eq x y = nat_eq x.callee y.callee && nat_eq x.entered y.entered
 
 -- whether two pairs are the same
 abbrev pub pair_eq : Pair → Pair → Bool
-pair_eq x y = nat_eq x.a y.a && nat_eq x.b y.b
+pair_eq x y = nat_eq x.a y.a && (nat_eq x.b y.b && beq x.r y.r)
 
 -- the edge of these three
 abbrev pub edge : ℕ → ℕ → ℕ → Edge
@@ -43,9 +45,13 @@ call callee entered = record { callee = callee; entered = entered }
 abbrev pub site : ℕ → ℕ → ℕ → Site
 site entry point values = record { asked = entry; point = point; values = values }
 
--- what is left, `b`, where the entry valuation was `a`
-abbrev pub pair : ℕ → ℕ → Pair
-pair a b = record { a = a; b = b }
+-- this is left where the entry valuation was this
+abbrev pub pair : ℕ → Left → Pair
+pair entry exit = record { a = entry; b = exit.globals; r = exit.result }
+
+-- what is left: these globals, and this result
+abbrev pub left : ℕ → Bool → Left
+left globals result = record { globals = globals; result = result }
 
 -- the messages given that are answered, in order
 abbrev pub answers_in : {A : Type 0} → Given A → List Mail
@@ -55,7 +61,8 @@ module _ {A : Type 0} (found : Found A) where
   -- the table has taken the message
   abbrev pub TookDue : Due → Type 0
   TookDue (Entry from entered) = Member from (under nat_eq found.entries.by_key entered)
-  TookDue (Summary callee entered exit) = Member exit (under call_eq found.summaries.by_key (call callee entered))
+  TookDue (Summary callee result entered globals) =
+      Member (left globals result) (under call_eq found.summaries.by_key (call callee entered))
 
   -- the table has taken the message of these numbers
   abbrev pub TookMessage : NumberedMessage → Type 0
@@ -65,8 +72,8 @@ module _ {A : Type 0} (found : Found A) where
   abbrev pub HasSite : ℕ → ℕ → Site → Type 0
   HasSite callee entered place = Member place (under call_eq found.sites.by_key (call callee entered))
 
-  -- these globals are left where the entry valuation was this
-  abbrev pub HasExit : ℕ → ℕ → Type 0
+  -- this is left where the entry valuation was this
+  abbrev pub HasExit : ℕ → Left → Type 0
   HasExit entry exit = Member exit (under nat_eq found.exits.by_key entry)
 
   -- the message of these numbers was given to a procedure
@@ -91,21 +98,21 @@ module _ {A G : Type 0} (graph : Graph G) (procedure : ℕ) (found : Found A) (e
     pub edge : (a n v : ℕ) → Member (triple a n v) edges → GraphReaches graph (TookMessage found) a n v
     pub site : (s e a n v : ℕ) → HasSite found s e (site a n v) →
         GraphReaches graph (TookMessage found) a n v × ((back : ℕ) × EntersAt graph n v s e back)
-    pub exit : (a b : ℕ) → HasExit found a b → Leaves graph (TookMessage found) a b
+    pub exit : (a : ℕ) (b : Left) → HasExit found a b → Leaves graph (TookMessage found) a b
     pub given : (s : ℕ) (k : NumberedMessage) → HasGiven found s k → IsOwed found procedure s k
     pub pending : (a n v : ℕ) → IsPending found a n v → Member (triple a n v) edges
     pub callers_once : (a : ℕ) → NoneTwice (under nat_eq found.entries.by_key a)
     pub exits_once : (a : ℕ) → NoneTwice (under nat_eq found.exits.by_key a)
 
-  -- The edge is worked on: where its choices lead are edges, its call stands as a site, and at the exit its globals as
-  -- an exit.
+  -- The edge is worked on: where its choices lead are edges, its call stands as a site, and at the exit what it leaves
+  -- as an exit.
   pub record IsWorked (entry point values : ℕ) : Type 0 where
     pub flows : (flow : Flow G) (i n' v' : ℕ) → slice_get (flows_of graph) point ≡ Some flow → i ≤ last_of flow →
         next_of flow values i ≡ Some (n', v') →
         Member (triple entry n' v') edges
     pub calls : (flow : Flow G) (s e n' : ℕ) → slice_get (flows_of graph) point ≡ Some flow → entered_by flow values ≡ Some (s, e, n') →
         HasSite found s e (site entry point values)
-    pub leaves : point ≡ 0 → HasExit found entry (left (globals_of graph) values)
+    pub leaves : point ≡ 0 → HasExit found entry (left_by graph values)
 
   -- The start of each entry is an edge; each edge is pending, worked on, or one of those left aside; where a site and a
   -- summary meet is the edge behind the call; each site's entry is given; where an exit and a caller's entry meet is
@@ -113,12 +120,12 @@ module _ {A G : Type 0} (graph : Graph G) (procedure : ℕ) (found : Found A) (e
   pub record IsSaturated (Aside : Triple → Type 0) : Type 0 where
     pub begun : (from : Caller) (a : ℕ) → TookMessage found (numbered_entry from a) → Member (triple a (start_of graph) a) edges
     pub worked : (a n v : ℕ) → Member (triple a n v) edges → Aside (triple a n v) ⊎ (IsPending found a n v ⊎ IsWorked a n v)
-    pub ended : (s e b a n v back : ℕ) → HasSite found s e (site a n v) → EntersAt graph n v s e back →
-        TookMessage found (numbered_summary s e b) → Member (triple a back (resumed (globals_of graph) v b)) edges
+    pub ended : (s e : ℕ) (b : Left) (a n v back : ℕ) → HasSite found s e (site a n v) → EntersAt graph n v s e back →
+        TookMessage found (numbered_summary s e b) → Member (triple a back (resumed_at graph n v b)) edges
     pub asks : (s e a n v : ℕ) → HasSite found s e (site a n v) → HasGiven found s (numbered_entry (caller procedure) e)
-    pub tells : (a b c : ℕ) → HasExit found a b → TookMessage found (numbered_entry (caller c) a)
+    pub tells : (a : ℕ) (b : Left) (c : ℕ) → HasExit found a b → TookMessage found (numbered_entry (caller c) a)
         → HasGiven found c (numbered_summary procedure a b)
-    pub pairs : (a b : ℕ) → Member (pair a b) found.pairs.keys ↔ HasExit found a b
+    pub pairs : (a : ℕ) (b : Left) → Member (pair a b) found.pairs.keys ↔ HasExit found a b
 
 -- no edge is still to be worked on
 abbrev pub IsWorkedOff : {A : Type 0} → Found A → Type 0

@@ -3,20 +3,20 @@ use Rattle.std.specs.Prelude.{◌≡◌, ◌≤◌, ◌<◌, ℕ, Option, Some, 
 use Rattle.std.specs.Prelude.{◌++◌, length, ◌+◌, slice_get}
 use Rattle.language.specs.Lists.{Member}
 use Rattle.path_sets.specs.Triples.{Triple, triple}
-use Rattle.flow_graph.specs.Drawn.{flows_of, globals_of}
+use Rattle.flow_graph.specs.Drawn.{flows_of}
 use Rattle.flow_graph.specs.Flows.{last_of, next_of, entered_by}
-use Rattle.flow_graph.specs.Returns.{resumed}
+use Rattle.flow_graph.specs.Returns.{resumed_at}
 use Rattle.flow_graph.specs.declared.flow.Flow.{Flow}
 use Rattle.flow_graph.specs.declared.graph.Graph.{Graph}
+use Rattle.flow_graph.specs.declared.left.Left.{Left}
 use Rattle.summaries.specs.declared.due.Caller.{Caller}
 use Rattle.summaries.specs.declared.due.Caller.TheVariants.{Proc}
-use Rattle.summaries.specs.declared.due.Due.TheVariants.{Summary}
 use Rattle.summaries.specs.declared.edge.Edge.{Edge}
 use Rattle.summaries.specs.declared.edge.Site.{Site}
 use Rattle.summaries.specs.declared.given.Mail.{Mail}
 use Rattle.summaries.specs.declared.table_fault.TableFault.{TableFault}
 use Rattle.summaries.specs.declared.table_fault.TableFault.TheVariants.{EdgeLimit}
-use Rattle.summaries.specs.Mails.{mail}
+use Rattle.summaries.specs.Mails.{mail, summary_due}
 
 -- the path edge as a triple
 abbrev pub triple_of : Edge → Triple
@@ -75,10 +75,10 @@ EntersAt {G} graph point values callee entered back =
     (flow : Flow G) × (slice_get (flows_of graph) point ≡ Some flow) × (entered_by flow values ≡ Some (callee, entered, back))
 
 -- A triple is the edge behind the call of a site, where it has left this.
-abbrev pub IsBehind : {G : Type 0} → Graph G → Site → ℕ → Triple → Type 0
+abbrev pub IsBehind : {G : Type 0} → Graph G → Site → Left → Triple → Type 0
 IsBehind graph site exit edge =
     (s : ℕ) × (e : ℕ) × (back : ℕ) × EntersAt graph site.point site.values s e back
-    × (edge ≡ triple site.asked back (resumed (globals_of graph) site.values exit))
+    × (edge ≡ triple site.asked back (resumed_at graph site.point site.values exit))
 
 -- The messages of which W holds are given after, beside those before, and no others; they come behind those before.
 pub record AddsMails (W : Mail → Type 0) (old new : List Mail) : Type 0 where
@@ -87,5 +87,5 @@ pub record AddsMails (W : Mail → Type 0) (old new : List Mail) : Type 0 where
   pub behind : (more : List Mail) × (new ≡ old ++ more)
 
 -- A message is the summary of the procedure for this caller, which is not the starter.
-abbrev pub IsSummaryTold : ℕ → ℕ → ℕ → Caller → Mail → Type 0
-IsSummaryTold procedure entry exit from message = (c : ℕ) × (from ≡ Proc c) × (message ≡ mail c (Summary procedure entry exit))
+abbrev pub IsSummaryTold : ℕ → ℕ → Left → Caller → Mail → Type 0
+IsSummaryTold procedure entry exit from message = (c : ℕ) × (from ≡ Proc c) × (message ≡ mail c (summary_due procedure entry exit))

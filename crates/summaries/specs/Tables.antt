@@ -3,10 +3,11 @@ use Rattle.std.specs.Prelude.{◌≡◌, ◌≤◌, ◌<◌, ◌⊎◌, ◌↔�
 use Rattle.std.specs.Prelude.{ℕ, Option, Some, None, Result, Ok, Err, OnOk, List, [], length}
 use Rattle.language.specs.Lists.{Member, NoneTwice}
 use Rattle.path_sets.specs.Triples.{Triple, triple}
-use Rattle.flow_graph.specs.Drawn.{callee_of, entered_from, globals_of}
-use Rattle.flow_graph.specs.Returns.{left}
+use Rattle.flow_graph.specs.Drawn.{callee_of, entered_from}
+use Rattle.flow_graph.specs.Returns.{left_by}
 use Rattle.flow_graph.specs.declared.call.Call.{Call}
 use Rattle.flow_graph.specs.declared.graph.Graph.{Graph}
+use Rattle.flow_graph.specs.declared.left.Left.{Left}
 use Rattle.flow_graph.specs.Numbers.{NumberedMessage, GraphReaches, Sends, Leaves}
 use Rattle.summaries.specs.declared.due.Due.{Due}
 use Rattle.summaries.specs.declared.edge.Edge.{Edge}
@@ -84,7 +85,7 @@ IsReached table edge = GraphReaches table.graph.now (TookMessage table.found) ed
 
 -- what an edge leaves that is at the exit stands as an exit
 abbrev pub HasLeft : {G A S : Type 0} → Table G A S → Edge → Type 0
-HasLeft table edge = edge.point ≡ 0 → HasExit table.found edge.entry (left (globals_of (graph_of table)) edge.values)
+HasLeft table edge = edge.point ≡ 0 → HasExit table.found edge.entry (left_by (graph_of table) edge.values)
 
 -- the call stands as a site at the edge
 abbrev pub HasAsked : {G A S : Type 0} → Table G A S → Edge → Call G → Type 0
@@ -171,4 +172,4 @@ module _ {G A S : Type 0} (members : S → List Triple) where
     pub edges : (a n v : ℕ) → GraphReaches table.graph.now (TookMessage table.found) a n v ↔ Member (triple a n v) (members table.edges)
     pub sends : (s : ℕ) (k : NumberedMessage) →
         Sends table.graph.now table.procedure (TookMessage table.found) s k ↔ Member (mail s (due_of k)) (answers_of table)
-    pub leaves : (a b : ℕ) → Member (pair a b) table.found.pairs.keys ↔ Leaves table.graph.now (TookMessage table.found) a b
+    pub leaves : (a : ℕ) (b : Left) → Member (pair a b) table.found.pairs.keys ↔ Leaves table.graph.now (TookMessage table.found) a b

@@ -1,9 +1,10 @@
 -- What the summaries of a program say: the valuations with which its procedures are entered, and their pairs.
-use Rattle.std.specs.Prelude.{◌≡◌, ◌<◌, ◌⊎◌, ◌↔◌, ℕ, true, Some, List, [], ◌∷◌, length, slice_get}
+use Rattle.std.specs.Prelude.{◌≡◌, ◌<◌, ◌⊎◌, ◌↔◌, ℕ, true, false, Some, List, [], ◌∷◌, length, slice_get}
 use Rattle.language.specs.Step.{Program}
 use Rattle.language.specs.Lists.{Member, NoneTwice}
 use Rattle.path_sets.specs.Triples.{Triple}
 use Rattle.flow_graph.specs.Bits.{bit_of}
+use Rattle.flow_graph.specs.declared.left.Left.{Left}
 use Rattle.flow_graph.specs.Numbers.{IsNumberOfEntry, AreNumbersOfEdge, AreNumbersOfPair}
 use Rattle.summaries.specs.declared.pair.Pair.{Pair}
 use Rattle.summaries.specs.Effects.{Effect, Effects}
@@ -24,18 +25,22 @@ IsAscending [] = Unit {0}
 IsAscending (x ∷ []) = Unit {0}
 IsAscending (x ∷ y ∷ zs) = (x < y) × IsAscending (y ∷ zs)
 
--- each pair is before the next, by what it was entered with and then by what it left
+-- the pair is before the other, by what it was entered with, then by the globals that it left, and then by the result
+abbrev pub IsPairBefore : Pair → Pair → Type 0
+IsPairBefore x y = (x.a < y.a) ⊎ ((x.a ≡ y.a) × ((x.b < y.b) ⊎ ((x.b ≡ y.b) × (x.r ≡ false) × (y.r ≡ true))))
+
+-- each pair is before the next
 abbrev pub ArePairsAscending : List Pair → Type 0
 ArePairsAscending [] = Unit {0}
 ArePairsAscending (x ∷ []) = Unit {0}
-ArePairsAscending (x ∷ y ∷ zs) = ((x.a < y.a) ⊎ (x.a ≡ y.a) × (x.b < y.b)) × ArePairsAscending (y ∷ zs)
+ArePairsAscending (x ∷ y ∷ zs) = IsPairBefore x y × ArePairsAscending (y ∷ zs)
 
 -- The entries are those with which the procedure is entered, by number and ascending, and the pairs are its pairs.
 pub record IsSummary (program : Program) (procedure : ℕ) (summary : Effect) : Type 0 where
   pub ascend : IsAscending summary.entries
   pub entries : (a : ℕ) → Member a summary.entries ↔ IsNumberOfEntry program procedure a
   pub pairs_ascend : ArePairsAscending summary.pairs
-  pub pairs : (a b : ℕ) → Member (pair a b) summary.pairs ↔ AreNumbersOfPair program procedure a b
+  pub pairs : (a : ℕ) (b : Left) → Member (pair a b) summary.pairs ↔ AreNumbersOfPair program procedure a b
 
 -- The summaries are those of the program's procedures, by number.
 abbrev pub AreSummaries : Program → Effects → Type 0
@@ -47,7 +52,7 @@ AreSummaries program effects =
 abbrev pub SomePairBad : Effects → Type 0
 SomePairBad effects =
     (summary : Effect) × (slice_get effects.procedures 0 ≡ Some summary)
-    × ((a : ℕ) × (b : ℕ) × Member (pair a b) summary.pairs × (bit_of b effects.bad ≡ true))
+    × ((a : ℕ) × (b : Left) × Member (pair a b) summary.pairs × (bit_of b.globals effects.bad ≡ true))
 
 -- the procedure has more than n path edges
 abbrev pub HasMoreEdges : Program → ℕ → ℕ → Type 0

@@ -21,10 +21,13 @@ pub enum Due {
         /// The valuation on entry.
         a: Word,
     },
-    /// A procedure that it calls leaves the globals `b` where it was entered with `a`.
+    /// A procedure that it calls leaves the globals `b` and the result `r` where it was entered with `a`.
+    // The small ones stand first, where they share a word.
     Summary {
         /// The procedure called.
         p: u8,
+        /// Its result: 0 where it gives none.
+        r: bool,
         /// The valuation on its entry.
         a: Word,
         /// The globals that it left.

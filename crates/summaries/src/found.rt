@@ -5,6 +5,7 @@ use crate::edge::{Call, Edge, Site};
 use crate::given::Given;
 use crate::groups::Groups;
 use crate::pair::Pair;
+use flow_graph::Left;
 use indexmap::IndexSet;
 use language::Word;
 use std::alloc::Allocator;
@@ -15,12 +16,12 @@ use std::hash::{BuildHasherDefault, FoldHasher};
 pub(crate) struct Found<A: Allocator> {
     /// Who enters the procedure, by the valuation on entry.
     pub(crate) entries: Groups<Word, Caller, A>,
-    /// The globals that the procedures called leave, by call.
-    pub(crate) summaries: Groups<Call, Word, A>,
+    /// What the procedures called leave, by call.
+    pub(crate) summaries: Groups<Call, Left, A>,
     /// Where calls stand, by call.
     pub(crate) sites: Groups<Call, Site, A>,
-    /// The globals that the procedure leaves, each once, by the valuation on entry.
-    pub(crate) exits: Groups<Word, Word, A>,
+    /// What the procedure leaves, each once, by the valuation on entry.
+    pub(crate) exits: Groups<Word, Left, A>,
     /// The same exits, to tell whether one is new.
     pub(crate) pairs: IndexSet<Pair, BuildHasherDefault<FoldHasher>, A>,
     /// The messages given.

@@ -3,8 +3,7 @@
 use crate::edge::{Edge, Site};
 use crate::frontier::Frontier;
 use crate::table_fault::TableFault;
-use flow_graph::{Flow, Graph};
-use language::Word;
+use flow_graph::{Flow, Graph, Left};
 use path_sets::PathSet;
 use std::alloc::Allocator;
 
@@ -18,10 +17,10 @@ impl<'e, 'p, A: Allocator, S: PathSet<A>> Frontier<'e, 'p, A, S> {
         &mut self,
         graph: &Graph<G>,
         site: Site,
-        globals: Word,
+        left: Left,
     ) -> Result<(), TableFault>
         requires { IsWithin S.members self.old }
-        ensures { Reaches S.members (IsBehind graph.now site globals) result self.old self.new }
+        ensures { Reaches S.members (IsBehind graph.now site left) result self.old self.new }
     {
         if site.point >= graph.points() {
             return Ok(());
@@ -32,42 +31,41 @@ impl<'e, 'p, A: Allocator, S: PathSet<A>> Frontier<'e, 'p, A, S> {
         let edge = Edge {
             entry: site.asked,
             point: call.back(),
-            values: graph.resumed(site.values, globals),
+            values: call.resumed(site.values, left),
         };
         self.reach(edge)
     }
 
-    /// Goes on behind the call of a site for each of the globals that it left. At an error some of the edges are added.
+    /// Goes on behind the call of a site for each of what it has left. At an error some of the edges are added.
     pub(crate) fn go_on<G: Allocator>(
         &mut self,
         graph: &Graph<G>,
         site: Site,
-        summaries: &[Word],
+        summaries: &[Left],
     ) -> Result<(), TableFault>
         requires { IsWithin S.members self.old }
         ensures { Reaches S.members
             (OfSome (IsBehind graph.now site) summaries.now) result self.old self.new }
     {
-        for globals in summaries {
-            self.reach_behind(graph, site, *globals)?;
+        for left in summaries {
+            self.reach_behind(graph, site, *left)?;
         }
         Ok(())
     }
 
-    /// Goes on behind the call of each of these sites, for the globals that it left. At an error some of the edges are
-    /// added.
+    /// Goes on behind the call of each of these sites, for what it has left. At an error some of the edges are added.
     pub(crate) fn go_on_at_each<G: Allocator>(
         &mut self,
         graph: &Graph<G>,
         sites: &[Site],
-        globals: Word,
+        left: Left,
     ) -> Result<(), TableFault>
         requires { IsWithin S.members self.old }
         ensures { Reaches S.members
-            (OfSome (λ site. IsBehind graph.now site globals) sites.now) result self.old self.new }
+            (OfSome (λ site. IsBehind graph.now site left) sites.now) result self.old self.new }
     {
         for site in sites {
-            self.reach_behind(graph, *site, globals)?;
+            self.reach_behind(graph, *site, left)?;
         }
         Ok(())
     }

@@ -7,7 +7,7 @@ use crate::due::{Caller, Due};
 use crate::edge::{Call, Edge};
 use crate::found::Found;
 use crate::table_fault::TableFault;
-use flow_graph::{Graph, Graphs};
+use flow_graph::{Graph, Graphs, Left};
 use language::Word;
 use path_sets::{EdgeLimit, PathSet};
 use std::alloc::Allocator;
@@ -67,11 +67,11 @@ impl<'g, G: Allocator, A: Allocator + Copy, S: PathSet<A>> Table<'g, G, A, S> {
         self.keep(entered)
     }
 
-    /// Takes a message: procedure `p`, entered with the valuation `a`, leaves the globals `b`. It fails as `take_entry`
-    /// does.
-    pub fn take_summary(&mut self, p: u8, a: Word, b: Word) -> Result<(), TableFault>
+    /// Takes a message: procedure `p`, entered with the valuation `a`, leaves the globals `b` and the result `r`. It
+    /// fails as `take_entry` does.
+    pub fn take_summary(&mut self, p: u8, a: Word, b: Word, r: bool) -> Result<(), TableFault>
         requires { IsTable S.members self.old }
-        ensures { TableTakes S.members (Summary p a b) result self.old self.new }
+        ensures { TableTakes S.members (Summary p r a b) result self.old self.new }
     {
         if let Some(fault) = self.fault {
             return Err(fault);
@@ -81,7 +81,10 @@ impl<'g, G: Allocator, A: Allocator + Copy, S: PathSet<A>> Table<'g, G, A, S> {
                 callee: p,
                 entered: a,
             },
-            b,
+            Left {
+                globals: b,
+                result: r,
+            },
         );
         self.keep(resumed)
     }

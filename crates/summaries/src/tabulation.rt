@@ -48,7 +48,7 @@ pub fn deliver<G: Allocator, A: Allocator + Copy, S: PathSet<A>>(
 {
     match due {
         Due::Entry { caller, a } => table.take_entry(caller, a),
-        Due::Summary { p, a, b } => table.take_summary(p, a, b),
+        Due::Summary { p, a, b, r } => table.take_summary(p, a, b, r),
     }
 }
 

@@ -7,6 +7,7 @@ ghost use Rattle.summaries.specs.Grows.{AddsOnly, AddsMails, OfSome, IsSummaryTo
 
 use crate::due::{Caller, Due};
 use crate::given::Given;
+use flow_graph::Left;
 use language::Word;
 use std::alloc::{AllocError, Allocator};
 
@@ -15,18 +16,24 @@ pub(crate) fn tell<A: Allocator + Copy>(
     given: &mut Given<A>,
     p: u8,
     a: Word,
-    b: Word,
+    left: Left,
     caller: Caller,
 ) -> Result<(), AllocError>
-    requires { (x : Mail) → IsSummaryTold p a b caller x → ¬ Member x given.old.mails.items }
+    requires { (x : Mail) → IsSummaryTold p a left caller x → ¬ Member x given.old.mails.items }
     ensures ok { OnOk result
-        (AddsMails (IsSummaryTold p a b caller) given.old.mails.items given.new.mails.items) }
+        (AddsMails (IsSummaryTold p a left caller) given.old.mails.items given.new.mails.items) }
     ensures only { AddsOnly
-        (IsSummaryTold p a b caller) given.old.mails.items given.new.mails.items }
+        (IsSummaryTold p a left caller) given.old.mails.items given.new.mails.items }
     ensures answered { given.new.answered ≡ given.old.answered }
 {
     if let Caller::Proc(to) = caller {
-        given.give(to, Due::Summary { p, a, b })?;
+        let due = Due::Summary {
+            p,
+            a,
+            b: left.globals,
+            r: left.result,
+        };
+        given.give(to, due)?;
     }
     Ok(())
 }
@@ -37,45 +44,45 @@ pub(crate) fn tell_all<A: Allocator + Copy>(
     given: &mut Given<A>,
     p: u8,
     a: Word,
-    b: Word,
+    left: Left,
     callers: &[Caller],
 ) -> Result<(), AllocError>
     requires once { NoneTwice callers.now }
-    requires new { (x : Mail) → OfSome (IsSummaryTold p a b) callers.now x
+    requires new { (x : Mail) → OfSome (IsSummaryTold p a left) callers.now x
         → ¬ Member x given.old.mails.items }
     ensures ok { OnOk result
         (AddsMails
-        (OfSome (IsSummaryTold p a b) callers.now) given.old.mails.items given.new.mails.items) }
+        (OfSome (IsSummaryTold p a left) callers.now) given.old.mails.items given.new.mails.items) }
     ensures only { AddsOnly
-        (OfSome (IsSummaryTold p a b) callers.now) given.old.mails.items given.new.mails.items }
+        (OfSome (IsSummaryTold p a left) callers.now) given.old.mails.items given.new.mails.items }
     ensures answered { given.new.answered ≡ given.old.answered }
 {
     for caller in callers {
-        tell(given, p, a, b, *caller)?;
+        tell(given, p, a, left, *caller)?;
     }
     Ok(())
 }
 
-/// Gives a caller the summaries of procedure `p` for these globals that it left, of which it has none; the starter gets
+/// Gives a caller the summaries of procedure `p` for what it has left, of which the caller has none; the starter gets
 /// none. At an error it has some.
 pub(crate) fn tell_exits<A: Allocator + Copy>(
     given: &mut Given<A>,
     p: u8,
     a: Word,
-    exits: &[Word],
+    exits: &[Left],
     caller: Caller,
 ) -> Result<(), AllocError>
     requires once { NoneTwice exits.now }
-    requires new { (x : Mail) → OfSome (λ b. IsSummaryTold p a b caller) exits.now x
+    requires new { (x : Mail) → OfSome (λ left. IsSummaryTold p a left caller) exits.now x
         → ¬ Member x given.old.mails.items }
-    ensures ok { OnOk result (AddsMails (OfSome (λ b. IsSummaryTold p a b caller) exits.now)
+    ensures ok { OnOk result (AddsMails (OfSome (λ left. IsSummaryTold p a left caller) exits.now)
         given.old.mails.items given.new.mails.items) }
-    ensures only { AddsOnly (OfSome (λ b. IsSummaryTold p a b caller) exits.now)
+    ensures only { AddsOnly (OfSome (λ left. IsSummaryTold p a left caller) exits.now)
         given.old.mails.items given.new.mails.items }
     ensures answered { given.new.answered ≡ given.old.answered }
 {
-    for b in exits {
-        tell(given, p, a, *b, caller)?;
+    for left in exits {
+        tell(given, p, a, *left, caller)?;
     }
     Ok(())
 }

@@ -4,7 +4,8 @@ ghost use Rattle.std.specs.Prelude.{◌≡◌, ◌≤◌, length, OnOk, slice_ge
 ghost use Rattle.language.specs.Lists.{Member};
 ghost use Rattle.flow_graph.specs.Drawn.{flows_of};
 ghost use Rattle.flow_graph.specs.declared.flow.Flow.TheVariants as flow;
-ghost use Rattle.summaries.specs.declared.due.Due.TheVariants.{Entry, Summary};
+ghost use Rattle.summaries.specs.declared.due.Due.TheVariants.{Entry};
+ghost use Rattle.summaries.specs.Mails.{summary_due};
 ghost use Rattle.summaries.specs.Grows.{triple_of};
 ghost use Rattle.summaries.specs.Tables.{answers_of, graph_of, limit_of, HasLeft, HasAsked};
 ghost use Rattle.summaries.specs.Tables.{Holds, Worked, StaysAs, IsLess};
@@ -17,7 +18,7 @@ use crate::pair::Pair;
 use crate::table::Table;
 use crate::table_fault::TableFault;
 use crate::tell::{tell_all, tell_exits};
-use flow_graph::Flow;
+use flow_graph::{Flow, Left};
 use language::{EXIT, Word};
 use path_sets::PathSet;
 use std::alloc::{AllocError, Allocator};
@@ -39,18 +40,20 @@ impl<'g, G: Allocator, A: Allocator + Copy, S: PathSet<A>> Table<'g, G, A, S> {
         if edge.point != EXIT {
             return Ok(());
         }
+        let left = self.graph.left(edge.values);
         let pair = Pair {
             a: edge.entry,
-            b: self.graph.left(edge.values),
+            b: left.globals,
+            r: left.result,
         };
         if self.found.pairs.insert(pair)? {
-            self.found.exits.add(pair.a, pair.b)?;
+            self.found.exits.add(edge.entry, left)?;
             tell_all(
                 &mut self.found.given,
                 self.procedure,
-                pair.a,
-                pair.b,
-                self.found.entries.of(pair.a),
+                edge.entry,
+                left,
+                self.found.entries.of(edge.entry),
             )?;
         }
         Ok(())
@@ -152,21 +155,22 @@ impl<'g, G: Allocator, A: Allocator + Copy, S: PathSet<A>> Table<'g, G, A, S> {
         Ok(())
     }
 
-    /// Resumes each call of this kind, for globals that it left.
-    pub(crate) fn resume(&mut self, call: Call, b: Word) -> Result<(), TableFault>
+    /// Resumes each call of this kind, for what it has left.
+    pub(crate) fn resume(&mut self, call: Call, left: Left) -> Result<(), TableFault>
         requires holds { Holds S.members (λ t. ⊥) self.old }
         requires within { length (S.members self.old.edges) ≤ limit_of self.old }
         ensures worked { Worked S.members (λ t. ⊥) result self.old self.new }
         ensures taken { OnOk result
-            (TookAlso (Summary call.callee call.entered b) self.old.found self.new.found) }
-        ensures only { TookOnly (Summary call.callee call.entered b) self.old.found self.new.found }
+            (TookAlso (summary_due call.callee call.entered left) self.old.found self.new.found) }
+        ensures only { TookOnly
+            (summary_due call.callee call.entered left) self.old.found self.new.found }
     {
-        self.found.summaries.add(call, b)?;
+        self.found.summaries.add(call, left)?;
         let mut frontier = Frontier {
             edges: &mut self.edges,
             pending: &mut self.found.pending,
             limit: self.limit,
         };
-        frontier.go_on_at_each(self.graph, self.found.sites.of(call), b)
+        frontier.go_on_at_each(self.graph, self.found.sites.of(call), left)
     }
 }

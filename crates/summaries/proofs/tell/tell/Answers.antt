@@ -1,8 +1,7 @@
 use Rattle.std.proofs.Common.{◌≡◌, ℕ, refl, sym, ap, ◌∙◌}
 use Rattle.summaries.specs.declared.due.Caller.{Caller}
 use Rattle.summaries.specs.declared.due.Caller.TheVariants.{Proc}
-use Rattle.summaries.specs.declared.due.Due.TheVariants.{Summary}
-use Rattle.summaries.specs.Mails.{mail}
+use Rattle.summaries.specs.Mails.{mail, summary_due}
 use Rattle.summaries.specs.Grows.{IsSummaryTold}
 use Rattle.summaries.proofs.Telling.{gives_one, gives_as}
 use Rattle.summaries.proofs.tell.tell.Goals as goal
@@ -18,12 +17,12 @@ number c to e = ap the e
 
 pub returns-in_ok-give-clause-ok : goal.returns-in_ok-give-clause-ok
 returns-in_ok-give-clause-ok g c =
-    let told = mail c.in-Proc.to (Summary c.args.p c.args.a c.args.b) in
+    let told = mail c.in-Proc.to (summary_due c.args.p c.args.a c.args.left) in
     let one = gives_one told c.args.given.now.mails.items c.give.new.self.mails.items c.in_ok-give.ensures.ok in
     gives_as (λ x. x ≡ told)
-    (IsSummaryTold c.args.p c.args.a c.args.b c.args.caller) c.args.given.now.mails.items c.give.new.self.mails.items
+    (IsSummaryTold c.args.p c.args.a c.args.left c.args.caller) c.args.given.now.mails.items c.give.new.self.mails.items
     (λ x e. (c.in-Proc.to, c.in-Proc.is, e))
-    (λ x w. w.2 ∙ ap (λ to. mail to (Summary c.args.p c.args.a c.args.b)) (number w.0 c.in-Proc.to (sym w.1 ∙ c.in-Proc.is)))
+    (λ x w. w.2 ∙ ap (λ to. mail to (summary_due c.args.p c.args.a c.args.left)) (number w.0 c.in-Proc.to (sym w.1 ∙ c.in-Proc.is)))
     one
 
 pub returns-in_ok-give-clause-only : goal.returns-in_ok-give-clause-only
@@ -31,4 +30,4 @@ returns-in_ok-give-clause-only g c = (returns-in_ok-give-clause-ok g c).only
 
 pub give-requires : goal.give-requires
 give-requires g c =
-    c.requires (mail c.in-Proc.to (Summary c.args.p c.args.a c.args.b)) (c.in-Proc.to, c.in-Proc.is, refl)
+    c.requires (mail c.in-Proc.to (summary_due c.args.p c.args.a c.args.left)) (c.in-Proc.to, c.in-Proc.is, refl)

@@ -13,13 +13,13 @@ returns-in_err-reach_behind g c =
     let failed = c.in_err-reach_behind.ensures.adds in
     reaches_on g.S.PathSet.members c.loop-site.invariant.2 c.in_err-reach_behind.ensures.stays (record {
       ok = search rules;
-      only = λ t there. each_until (λ site. IsBehind c.args.graph.now site c.args.globals) xs i (site 0 0 0) c.loop-site-test.true t
+      only = λ t there. each_until (λ site. IsBehind c.args.graph.now site c.args.left) xs i (site 0 0 0) c.loop-site-test.true t
           (failed.only t there) (c.loop-site.invariant.0.only t);
       within = failed.within;
       limit = λ e.
           let (t, is, new, full) = failed.limit (ap Err (sym (fault_of _ _ _ c.from_residual.ensures.1 e))) in (
             t,
-            each_at (λ site. IsBehind c.args.graph.now site c.args.globals) xs i (site 0 0 0) c.loop-site-test.true t is,
+            each_at (λ site. IsBehind c.args.graph.now site c.args.left) xs i (site 0 0 0) c.loop-site-test.true t is,
             new,
             full,
           );
@@ -27,7 +27,7 @@ returns-in_err-reach_behind g c =
 
 pub loop-site-preserved : goal.loop-site-preserved
 loop-site-preserved g c = (
-  each_next (λ site. IsBehind c.args.graph.now site c.args.globals) c.args.sites.now c.loop-site.site-index _ _ _ _ c.loop-site.invariant.0
+  each_next (λ site. IsBehind c.args.graph.now site c.args.left) c.args.sites.now c.loop-site.site-index _ _ _ _ c.loop-site.invariant.0
       (site 0 0 0) c.loop-site-test.true _ _ c.in_ok-reach_behind.ensures.adds.ok,
   still_within g.S.PathSet.members c.in_ok-reach_behind.ensures,
   stays_on c.loop-site.invariant.2 c.in_ok-reach_behind.ensures.stays,
@@ -36,6 +36,6 @@ loop-site-preserved g c = (
 pub returns : goal.returns
 returns g c =
     reaches_on g.S.PathSet.members c.loop-site.invariant.2 (record { edges = refl; pending = refl; limit = refl })
-    (each_done (λ site. IsBehind c.args.graph.now site c.args.globals) c.args.sites.now c.loop-site.site-index
+    (each_done (λ site. IsBehind c.args.graph.now site c.args.left) c.args.sites.now c.loop-site.site-index
     _ _ _ _ c.loop-site.invariant.0 _
     (omega (arith, c.loop-site-test.false, c.loop-site.auto.site-index-end)) c.loop-site.invariant.1)

@@ -5,6 +5,6 @@ use Rattle.summaries.proofs.frontier.Frontier.go_on_at_each.Given as goal
 
 abbrev pub invariant-loop-site : goal.invariant-loop-site
 invariant-loop-site g l =
-    Grows (OfSome (λ site. IsBehind l.graph site l.globals) (take l.site-index l.sites)) (g.S.PathSet.members l.initial.self.edges.now)
+    Grows (OfSome (λ site. IsBehind l.graph site l.left) (take l.site-index l.sites)) (g.S.PathSet.members l.initial.self.edges.now)
     (g.S.PathSet.members l.self.edges.now) l.initial.self.pending.now.items l.self.pending.now.items
     × IsWithin g.S.PathSet.members l.self × StaysFrontier l.initial.self l.self

@@ -18,17 +18,17 @@ use Rattle.summaries.proofs.table.Table.leave.Goals.{In_ok-insert}
 
 -- the pair is new
 is_new : (g : Over) (c : In_ok-insert g) → c.in_ok-insert.field-0 ≡ true →
-    Member (pair c.args.edge.entry c.left.result) c.args.self.now.found.pairs.keys → ⊥
+    Member (pair c.args.edge.entry c.left-left.result) c.args.self.now.found.pairs.keys → ⊥
 is_new g c =
     inserted_apart pair_eq
-    (pair c.args.edge.entry c.left.result) c.args.self.now.found.pairs.keys c.insert.new.self.keys
+    (pair c.args.edge.entry c.left-left.result) c.args.self.now.found.pairs.keys c.insert.new.self.keys
     c.in_ok-insert.field-0 c.in_ok-insert.ensures.added c.in_ok-insert.ensures.keys laws-law.refl
 
 pub tell_all-requires : goal.tell_all-requires
 tell_all-requires g c =
     let self = c.args.self.now in
     let e = c.args.edge in
-    let b = c.left.result in
+    let b = c.left-left.result in
     let new = is_new g (goal.at.tell_all-requires g c).In_ok-insert c.if-branch.true in record {
       once = subst NoneTwice (sym c.of.ensures) (c.requires.holds.0.callers_once e.entry);
       new = none_told self.graph.now self.procedure self.found (g.S.PathSet.members self.edges) (λ t. t ≡ triple_of e)
@@ -40,7 +40,7 @@ returns-in_ok-tell_all-clause-ok g c =
     let self = c.args.self.now in
     let f = self.found in
     let e = c.args.edge in
-    let b = c.left.result in
+    let b = c.left-left.result in
     let es = g.S.PathSet.members self.edges in
     let h : Found g.row.A.Denot = record {
       entries = f.entries;
@@ -56,7 +56,7 @@ returns-in_ok-tell_all-clause-ok g c =
     c.in_ok-insert.field-0 c.in_ok-insert.ensures.added c.in_ok-insert.ensures.keys c.if-branch.true in
     let gave = subst (λ cs. AddsMails (OfSome (IsSummaryTold self.procedure e.entry b) cs) f.given.mails.items h.given.mails.items)
     c.of.ensures c.in_ok-tell_all.ensures.ok in
-    let step = leave_step self.graph.now self.procedure f h es e.entry e.values b c.left.ensures.number
+    let step = leave_step self.graph.now self.procedure f h es e.entry e.values b c.left-left.ensures.number
     c.requires.holds.0 there keys c.in_ok-add.ensures.added c.in_ok-add.ensures.others
     (λ left. is_new g (goal.at.returns-in_ok-tell_all-clause-ok g c).In_ok-insert c.if-branch.true
     ((c.requires.holds.1.pairs e.entry b).1 left)) gave in
@@ -67,8 +67,8 @@ returns-in_ok-tell_all-clause-left g c = λ _.
     let self = c.args.self.now in
     let f = self.found in
     let e = c.args.edge in
-    let b = c.left.result in
-    subst (λ y. Member y (under nat_eq c.add.new.self.by_key e.entry)) c.left.ensures.number
+    let b = c.left-left.result in
+    subst (λ y. Member y (under nat_eq c.add.new.self.by_key e.entry)) c.left-left.ensures.number
     (subst (Member b) (sym c.in_ok-add.ensures.added) (member_right b (under nat_eq f.exits.by_key e.entry) (b ∷ []) (inl refl)))
 
 pub returns-in_ok-tell_all-clause-answers : goal.returns-in_ok-tell_all-clause-answers
@@ -92,7 +92,7 @@ returns-else-branch-clause-ok g c =
       given = f.given;
       pending = f.pending;
     } in
-    let known = inserted_known pair_eq (pair e.entry c.left.result) f.pairs.keys c.insert.new.self.keys
+    let known = inserted_known pair_eq (pair e.entry c.left-left.result) f.pairs.keys c.insert.new.self.keys
     c.in_ok-insert.field-0 c.in_ok-insert.ensures.added c.in_ok-insert.ensures.keys c.if-branch.false in
     let step = same_step self.graph.now self.procedure f h es known.0 refl refl in
     still_holds self.graph.now self.procedure f h es es step (λ t. t ≡ triple_of e) c.requires.holds
@@ -102,7 +102,7 @@ returns-else-branch-clause-left g c = λ _.
     let self = c.args.self.now in
     let f = self.found in
     let e = c.args.edge in
-    let known = inserted_known pair_eq (pair e.entry c.left.result) f.pairs.keys c.insert.new.self.keys
+    let known = inserted_known pair_eq (pair e.entry c.left-left.result) f.pairs.keys c.insert.new.self.keys
     c.in_ok-insert.field-0 c.in_ok-insert.ensures.added c.in_ok-insert.ensures.keys c.if-branch.false in
-    subst (λ b. Member b (under nat_eq f.exits.by_key e.entry)) c.left.ensures.number
-    ((c.requires.holds.1.pairs e.entry c.left.result).0 (found_is_in pair_eq same_pair (pair e.entry c.left.result) f.pairs.keys known.1))
+    subst (λ b. Member b (under nat_eq f.exits.by_key e.entry)) c.left-left.ensures.number
+    ((c.requires.holds.1.pairs e.entry c.left-left.result).0 (found_is_in pair_eq same_pair (pair e.entry c.left-left.result) f.pairs.keys known.1))

@@ -2,7 +2,7 @@ use Rattle.std.proofs.Common.{◌≡◌, ◌≤◌, length, nat_eq, Some, slice_
 use Rattle.std.proofs.lemmas.Result.{IfOk-weaker}
 use Rattle.language.specs.Lists.{Member}
 use Rattle.flow_graph.specs.Numbers.{GraphReaches}
-use Rattle.flow_graph.specs.Returns.{left}
+use Rattle.flow_graph.specs.Returns.{left_by}
 use Rattle.flow_graph.specs.declared.flow.Flow.TheVariants.{Call}
 use Rattle.summaries.specs.Under.{under}
 use Rattle.summaries.specs.Found.{call_eq, TookMessage, HasExit}
@@ -64,9 +64,9 @@ returns-in-Call-clause-worked g c =
     let asked = c.ask.ensures.worked in
     let same = sym asked.stays.graph in
     let here = subst (λ graph. slice_get graph.flows.items e.point ≡ Some (Call call)) same (c.flow.ensures ∙ ap Some c.in-Call.is) in
-    let leaves : e.point ≡ 0 → HasExit last.found e.entry (left last.graph.now.globals e.values) =
-    λ is. subst (λ graph. HasExit last.found e.entry (left graph.globals e.values)) same
-    (subst (λ x. Member (left new.graph.now.globals e.values) (under nat_eq x.by_key e.entry)) (sym c.ask.ensures.exits) (was.left is)) in
+    let leaves : e.point ≡ 0 → HasExit last.found e.entry (left_by last.graph.now e.values) =
+    λ is. subst (λ graph. HasExit last.found e.entry (left_by graph e.values)) same
+    (subst (λ x. Member (left_by new.graph.now e.values) (under nat_eq x.by_key e.entry)) (sym c.ask.ensures.exits) (was.left is)) in
     then_worked g.S.PathSet.members (λ t. t ≡ triple_of e) (λ t. ⊥) c.ask.result old new last was.stays was.fault was.answers
     (both_ok c.ask.result
     (λ holds site. (
