@@ -9,7 +9,7 @@ use Rattle.std.proofs.lemmas.List.{length-map}
 use Rattle.std.proofs.lemmas.Nat.{mul-add-lt}
 use Rattle.std.proofs.Math.Nat.{mul_comm}
 use Rattle.std.proofs.lemmas.List.Sums.{sum_by-set}
-use Rattle.language.specs.Step.{Program, Routine, AtRoutine, zeros}
+use Rattle.language.specs.Step.{Program, Routine, AtRoutine, zeros, frame_size}
 use Rattle.post_ledger.proofs.Orders.{element_at}
 use Rattle.flow_graph.specs.declared.graph.Graphs.{Graphs}
 use Rattle.flow_graph.specs.Drawn.{graphs_of}
@@ -59,10 +59,10 @@ is_opening (numbered_summary s a b) e = let no : ⊥ = cc in absurd no
 starter_due : (p : Program) (routine : Routine) → slice_get p.routines 0 ≡ Some routine → (k : NumberedMessage)
     → due_of k ≡ Entry Starter 0 → IsNumberOf (IsDue p 0) k
 starter_due p routine there k e =
-    let x : Valuation = record { globals = zeros p.globals; places = zeros routine.places } in
-    let zero_is : code x ≡ 0 = coded_zeros p.globals routine.places in
+    let x : Valuation = record { globals = zeros p.globals; places = zeros (frame_size routine) } in
+    let zero_is : code x ≡ 0 = coded_zeros p.globals (frame_size routine) in
     let begins : IsZero p x =
-    subst (λ o. AtRoutine o (λ r. x ≡ record { globals = zeros p.globals; places = zeros r.places }))
+    subst (λ o. AtRoutine o (λ r. x ≡ record { globals = zeros p.globals; places = zeros (frame_size r) }))
     (sym there) refl in
     (entry starter x, (refl, begins), is_opening k e ∙ ap (numbered_entry starter) (sym zero_is))
 
