@@ -32,7 +32,7 @@ posted_to {M} h = map (λ (p : ℕ × M). p.1) (posts h)
 abbrev pub sender_of : ℕ → Due → ℕ
 sender_of starter (Entry Starter a) = starter
 sender_of starter (Entry (Proc c) a) = c
-sender_of starter (Summary s a b) = s
+sender_of starter (Summary s r a b) = s
 
 -- The messages posted are those that are due for procedure q, each once, and each was posted by its sender, where the
 -- starter's number is that of the procedures.
