@@ -1,7 +1,7 @@
 //! Answers to questions on flow graphs. A question is a word and numbers: valuations in binary digits behind `0b`,
 //! others in decimal.
 
-use flow_graph::{Call, Flow, Graph, Graphs};
+use flow_graph::{Call, Flow, Graph, Graphs, Left};
 use language::Point;
 use std::alloc::Allocator;
 use std::fmt::Write;
@@ -52,6 +52,13 @@ fn put_bits<B: Allocator>(out: &mut String<B>, values: u64) -> Option<()> {
 fn put_pair<B: Allocator>(out: &mut String<B>, pair: (Point, u64)) -> Option<()> {
     let (point, values) = pair;
     write!(out, " {point}:{values:b}").ok()
+}
+
+/// Puts the globals and the result that a call leaves behind the others.
+fn put_left<B: Allocator>(out: &mut String<B>, left: Left) -> Option<()> {
+    let globals = left.globals;
+    let result = u8::from(left.result);
+    write!(out, " {globals:b}:{result}").ok()
 }
 
 /// Where the run goes on with one choice, from each of the valuations.
@@ -168,6 +175,14 @@ fn kind<A: Allocator>(flow: &Flow<A>) -> &'static str {
     }
 }
 
+/// What a call leaves: these globals, and a result.
+fn left(globals: u64, given: u64) -> Left {
+    Left {
+        globals,
+        result: given == 1,
+    }
+}
+
 /// The answer of a point's flow to a question: a word and numbers.
 fn of_flow<A: Allocator, B: Allocator>(
     flow: &Flow<A>,
@@ -182,18 +197,22 @@ fn of_flow<A: Allocator, B: Allocator>(
             Flow::Call(call) => calls(call, valuations, out),
             _ => None,
         },
+        ("resumed", [values, globals, result, ..]) => match flow {
+            Flow::Call(call) => put_bits(out, call.resumed(*values, left(*globals, *result))),
+            _ => None,
+        },
         _ => None,
     }
 }
 
-/// The globals that the graph leaves of each of the valuations.
+/// What the graph leaves of each of the valuations.
 fn leaves<A: Allocator, B: Allocator>(
     graph: &Graph<A>,
     valuations: &[u64],
     out: &mut String<B>,
 ) -> Option<()> {
     for values in valuations {
-        put_bits(out, graph.left(*values))?;
+        put_left(out, graph.left(*values))?;
     }
     Some(())
 }
@@ -215,7 +234,6 @@ fn of_graph<A: Allocator, B: Allocator + Copy>(
         ("size", _) => size(graph, out),
         ("reached", [entry, ..]) => reaches(alloc, graph, *entry, out),
         ("left", valuations) => leaves(graph, valuations, out),
-        ("resumed", [values, globals, ..]) => put_bits(out, graph.resumed(*values, *globals)),
         (word, [point, rest @ ..]) => of_flow(flow_numbered(graph, *point)?, (word, rest), out),
         _ => None,
     }
