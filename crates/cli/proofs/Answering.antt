@@ -18,6 +18,7 @@ use Rattle.post_ledger.specs.declared.event.Event.TheVariants.{Done, Post, Take}
 use Rattle.summaries.specs.declared.due.Caller.TheVariants.{Proc, Starter}
 use Rattle.summaries.specs.declared.due.Due.{Due}
 use Rattle.summaries.specs.declared.due.Due.TheVariants.{Entry, Summary}
+use Rattle.summaries.specs.Found.{left}
 use Rattle.summaries.specs.Dues.{due_of}
 use Rattle.summaries.specs.Fitting.{IsDueFor}
 use Rattle.cli.specs.Counts.{AreSoMany, names_of}
@@ -44,12 +45,12 @@ takes_counted = is_count_by (λ h. length (takes h)) is_take refl one_more
 abbrev by_number : Due → NumberedMessage
 by_number (Entry Starter a) = numbered_entry starter a
 by_number (Entry (Proc q) a) = numbered_entry (caller q) a
-by_number (Summary p a b) = numbered_summary p a b
+by_number (Summary p r a b) = numbered_summary p a (left b r)
 
 same_message : (d : Due) → due_of (by_number d) ≡ d
 same_message (Entry Starter a) = refl
 same_message (Entry (Proc q) a) = refl
-same_message (Summary p a b) = refl
+same_message (Summary p r a b) = refl
 
 -- the messages posted are those due
 due_members : (p : Program) (q : ℕ) (h : List (Event Due)) → AreDueOnce p q h → (d : Due)

@@ -1,6 +1,6 @@
 -- What is counted of procedures is how many entries, pairs and messages they have.
 use Rattle.std.proofs.Common.{◌≡◌, ◌∙◌, ◌⊎◌, ◌<◌, ◌++◌, ℕ, zero, suc, List, [], ◌∷◌, Some, inl, inr}
-use Rattle.std.proofs.Common.{refl, sym, ap, ap₂, subst}
+use Rattle.std.proofs.Common.{refl, sym, ap, ap₂, subst, true, false, true≢false}
 use Rattle.std.proofs.Common.{◌+◌, ◌≤◌, add-one, append_assoc, append-nil, arith, count_by, get_or, length, map}
 use Rattle.std.proofs.Common.{option_map, slice_get, take}
 use Rattle.std.specs.String.{string_bytes}
@@ -18,9 +18,10 @@ use Rattle.language.specs.Lists.{Member, NoneTwice}
 use Rattle.post_ledger.specs.declared.event.Event.{Event}
 use Rattle.summaries.specs.declared.due.Due.{Due}
 use Rattle.summaries.specs.declared.pair.Pair.{Pair}
+use Rattle.summaries.specs.Found.{left}
 use Rattle.summaries.specs.Effects.{Effect, Effects}
 use Rattle.summaries.specs.Fitting.{IsDueFor}
-use Rattle.summaries.specs.Tabulated.{ArePairsAscending, AreSummaries, IsAscending, IsSummary}
+use Rattle.summaries.specs.Tabulated.{ArePairsAscending, AreSummaries, IsAscending, IsPairBefore, IsSummary}
 use Rattle.cli.specs.Counts.{AreCountsOf, AreSoMany, Counts, TellCounts, counts_line, counts_lines, names_of}
 use Rattle.cli.specs.Counted.{counted, counted_each, is_take}
 
@@ -40,24 +41,30 @@ numbers_once [] up = tt
 numbers_once (x ∷ xs) up =
     (λ m. let less = above x xs x up m in omega (arith, less), numbers_once xs (rest_ascends x xs up))
 
--- one pair is before another
-abbrev IsBefore : Pair → Pair → Type 0
-IsBefore x y = (x.a < y.a) ⊎ (x.a ≡ y.a) × (x.b < y.b)
+-- one pair is before another, of those with one entry valuation
+abbrev LeavesBefore : Pair → Pair → Type 0
+LeavesBefore x y = (x.b < y.b) ⊎ ((x.b ≡ y.b) × (x.r ≡ false) × (y.r ≡ true))
 
-before_all : (x y z : Pair) → IsBefore x y → IsBefore y z → IsBefore x z
+leaves_all : (x y z : Pair) → LeavesBefore x y → LeavesBefore y z → LeavesBefore x z
+leaves_all x y z (inl a) (inl b) = inl (omega arith)
+leaves_all x y z (inl a) (inr b) = inl (let e = b.0 in omega (arith, e))
+leaves_all x y z (inr a) (inl b) = inl (let e = a.0 in omega (arith, e))
+leaves_all x y z (inr a) (inr b) = absurd (true≢false (sym a.2 ∙ b.1))
+
+before_all : (x y z : Pair) → IsPairBefore x y → IsPairBefore y z → IsPairBefore x z
 before_all x y z (inl a) (inl b) = inl (omega arith)
 before_all x y z (inl a) (inr b) = inl (let e = b.0 in omega (arith, e))
 before_all x y z (inr a) (inl b) = inl (let e = a.0 in omega (arith, e))
-before_all x y z (inr a) (inr b) = inr (a.0 ∙ b.0, let c = a.1 in let d = b.1 in omega (arith, c, d))
+before_all x y z (inr a) (inr b) = inr (a.0 ∙ b.0, leaves_all x y z a.1 b.1)
 
-before_itself : (x : Pair) → IsBefore x x → ⊥
+before_itself : (x : Pair) → IsPairBefore x x → ⊥
 before_itself x (inl a) = omega arith
-before_itself x (inr a) = let b = a.1 in omega (arith, b)
+before_itself x (inr a) = elim a.1 [ inl b ↦ omega (arith, b) | inr r ↦ true≢false (sym r.2 ∙ r.1) ]
 
 -- of ascending pairs, the first is before each other
-before : (x : Pair) (xs : List Pair) (y : Pair) → ArePairsAscending (x ∷ xs) → Member y xs → IsBefore x y
+before : (x : Pair) (xs : List Pair) (y : Pair) → ArePairsAscending (x ∷ xs) → Member y xs → IsPairBefore x y
 before x [] y up m = absurd m
-before x (z ∷ zs) y up (inl e) = subst (IsBefore x) (sym e) up.0
+before x (z ∷ zs) y up (inl e) = subst (IsPairBefore x) (sym e) up.0
 before x (z ∷ zs) y up (inr m) = before_all x z y up.0 (before z zs y up.1 m)
 
 rest_pairs : (x : Pair) (xs : List Pair) → ArePairsAscending (x ∷ xs) → ArePairsAscending xs
@@ -78,7 +85,7 @@ counts_of p q s history is due = record {
   pairs = record {
     all = s.pairs;
     once = pairs_once s.pairs is.pairs_ascend;
-    members = λ x. is.pairs x.a x.b;
+    members = λ x. is.pairs x.a (left x.b x.r);
     many = refl;
   };
   taken = due;

@@ -8,6 +8,7 @@ use Rattle.round_rewrite.specs.Names.{sequential_for}
 use Rattle.flow_graph.specs.Numbers.{AreNumbersOfPair, IsNumberOfEntry}
 use Rattle.summaries.specs.Fitting.{IsDueFor}
 use Rattle.summaries.specs.declared.pair.Pair.{Pair}
+use Rattle.summaries.specs.Found.{left}
 
 -- There are so many of which P holds: a list of them, in which none stands twice, has this length.
 pub record AreSoMany {A : Type 0} (P : A → Type 0) (n : ℕ) : Type 0 where
@@ -24,7 +25,7 @@ pub record Counts : Type 0 where
 
 -- the numbers are those of a pair of procedure q
 abbrev pub IsPairOf : Program → ℕ → Pair → Type 0
-IsPairOf program procedure x = AreNumbersOfPair program procedure x.a x.b
+IsPairOf program procedure x = AreNumbersOfPair program procedure x.a (left x.b x.r)
 
 -- Procedure q is entered with so many valuations, it has so many pairs, and so many messages are due for it.
 pub record AreCountsOf (program : Program) (procedure : ℕ) (counts : Counts) : Type 0 where
