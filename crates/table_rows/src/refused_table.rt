@@ -64,7 +64,12 @@ impl Seen {
 fn call_of(due: Due) -> Call {
     match due {
         Due::Entry { caller: _, a: _ } => Call::Entry,
-        Due::Summary { p: _, a: _, b: _ } => Call::Summary,
+        Due::Summary {
+            p: _,
+            a: _,
+            b: _,
+            r: _,
+        } => Call::Summary,
     }
 }
 
@@ -167,7 +172,7 @@ fn stays<G: Allocator, A: Allocator + Copy, S: PathSet<A>>(table: &mut Table<'_,
     requires { IsTable S.members table.old }
 {
     table.take_entry(Caller::Starter, 0) == Err(TableFault::Memory)
-        && table.take_summary(1, 0, 0) == Err(TableFault::Memory)
+        && table.take_summary(1, 0, 0, false) == Err(TableFault::Memory)
         && table.next() == Err(TableFault::Memory)
 }
 

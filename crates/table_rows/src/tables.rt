@@ -15,11 +15,13 @@ pub fn message_of(word: &str) -> Due {
     match word.strip_prefix('s') {
         Some(numbers) => {
             let (p, numbers) = procedure(numbers);
-            let (a, b) = first(numbers);
+            let (a, numbers) = first(numbers);
+            let (b, result) = first(numbers);
             Due::Summary {
                 p,
                 a,
-                b: first(b).0,
+                b,
+                r: result == "1",
             }
         }
         None => {
@@ -50,7 +52,10 @@ fn word_of(alloc: Global, to: u8, due: Due) -> Result<String, AllocError> {
             caller: Caller::Proc(p),
             a,
         } => format!(in alloc; "{to}<{p}.{a}"),
-        Due::Summary { p, a, b } => format!(in alloc; "{to}<s{p}.{a}.{b}"),
+        Due::Summary { p, a, b, r } => {
+            let result = if r { ".1" } else { "" };
+            format!(in alloc; "{to}<s{p}.{a}.{b}{result}")
+        }
     }
 }
 
@@ -64,7 +69,7 @@ pub fn take<G: Allocator, A: Allocator + Copy, S: PathSet<A>>(
 {
     match due {
         Due::Entry { caller, a } => table.take_entry(caller, a),
-        Due::Summary { p, a, b } => table.take_summary(p, a, b),
+        Due::Summary { p, a, b, r } => table.take_summary(p, a, b, r),
     }
 }
 

@@ -85,11 +85,12 @@ fn write_entries(out: &mut String, entries: &[u64]) -> Result<(), AllocError> {
     Ok(())
 }
 
-/// Writes pairs.
+/// Writes pairs, with a result only where it is 1.
 fn write_pairs(out: &mut String, pairs: &[Pair]) -> Result<(), AllocError> {
     write!(out, "; pairs")?;
     for pair in pairs {
-        write!(out, " {}-{}", pair.a, pair.b)?;
+        let result = if pair.r { "-1" } else { "" };
+        write!(out, " {}-{}{result}", pair.a, pair.b)?;
     }
     write!(out, "\n")
 }
