@@ -30,7 +30,8 @@ pub returns-in_err-tell-clause-only : goal.returns-in_err-tell-clause-only
 returns-in_err-tell-clause-only g c = λ x there.
     let xs = c.args.exits.now in
     let i = c.loop-left.left-index in
-    each_until (λ b. IsSummaryTold c.args.p c.args.a b c.args.caller) xs i (left 0 false) c.loop-left-test.true x (c.in_err-tell.ensures.only x there)
+    each_until (λ b. IsSummaryTold c.args.p c.args.a b c.args.caller) xs i (left 0 false) c.loop-left-test.true x
+    (c.in_err-tell.ensures.only x there)
     (c.loop-left.invariant.0.only x)
 
 pub returns-clause-only : goal.returns-clause-only
