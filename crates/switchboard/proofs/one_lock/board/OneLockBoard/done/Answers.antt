@@ -5,7 +5,7 @@ use Rattle.post_ledger.specs.Orders.{HasJob}
 use Rattle.switchboard.specs.Books.{with_entry}
 use Rattle.switchboard.proofs.Inside.{inside, to_lane, to_call, job_inside, completing, completes_on, shows_completed}
 use Rattle.switchboard.proofs.Visits.{may_leave, visit_is}
-use Rattle.switchboard.proofs.one_lock.board.OneLock.done.Goals as goal
+use Rattle.switchboard.proofs.one_lock.board.OneLockBoard.done.Goals as goal
 
 pub done-requires : goal.done-requires
 done-requires g c =

@@ -4,7 +4,7 @@ use Rattle.switchboard.specs.Passes.{sight_of}
 use Rattle.switchboard.specs.Promises.{Learned}
 use Rattle.switchboard.proofs.Visits.{shows, shows_now, showing, moved}
 use Rattle.switchboard.proofs.Learning.{ends_after, news_is, pass_learned, learned_is}
-use Rattle.switchboard.proofs.one_lock.board.OneLock.learn.Goals as goal
+use Rattle.switchboard.proofs.one_lock.board.OneLockBoard.learn.Goals as goal
 
 pub invariant_of-pass : goal.invariant_of-pass
 invariant_of-pass g c =

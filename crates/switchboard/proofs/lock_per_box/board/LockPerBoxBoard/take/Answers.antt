@@ -1,7 +1,7 @@
 -- The word says that the board is closed or aborted, or the mailbox has the oldest message.
 use Rattle.std.proofs.Common.{◌∙◌}
 use Rattle.switchboard.proofs.BoxTakes.{looked_on, says_closed, says_aborted, take_asks, takes_on, took_is}
-use Rattle.switchboard.proofs.lock_per_box.board.LockPerBox.take.Goals as goal
+use Rattle.switchboard.proofs.lock_per_box.board.LockPerBoxBoard.take.Goals as goal
 
 pub invariant_of-pass : goal.invariant_of-pass
 invariant_of-pass g c =

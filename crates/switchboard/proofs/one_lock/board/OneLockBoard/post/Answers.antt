@@ -3,7 +3,7 @@ use Rattle.std.proofs.Common.{◌<◌, arith}
 use Rattle.post_ledger.specs.Orders.{HasJob}
 use Rattle.switchboard.proofs.Inside.{inside, to_call, boxes_inside, job_inside, posting, posts_on, shows_posted}
 use Rattle.switchboard.proofs.Visits.{may_leave, visit_is}
-use Rattle.switchboard.proofs.one_lock.board.OneLock.post.Goals as goal
+use Rattle.switchboard.proofs.one_lock.board.OneLockBoard.post.Goals as goal
 
 pub post-answer-requires-clause-job : goal.post-answer-requires-clause-job
 post-answer-requires-clause-job g c =

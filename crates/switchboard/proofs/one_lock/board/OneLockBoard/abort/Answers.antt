@@ -5,7 +5,7 @@ use Rattle.switchboard.specs.Sights.{abort_of}
 use Rattle.switchboard.specs.Promises.{MadeAbort}
 use Rattle.switchboard.proofs.Inside.{inside, to_lane, aborting, aborts_on, shows_aborted}
 use Rattle.switchboard.proofs.Visits.{shows, may_leave, visit_is, again_when, showing, moved}
-use Rattle.switchboard.proofs.one_lock.board.OneLock.abort.Goals as goal
+use Rattle.switchboard.proofs.one_lock.board.OneLockBoard.abort.Goals as goal
 
 pub returns-then-not-pass : goal.returns-then-not-pass
 returns-then-not-pass g c =

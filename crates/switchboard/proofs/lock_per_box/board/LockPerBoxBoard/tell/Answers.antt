@@ -2,7 +2,7 @@
 use Rattle.std.proofs.Common.{ap, sym, subst, ◌∙◌, arith}
 use Rattle.switchboard.specs.BoxPasses.{IsBoxPass}
 use Rattle.switchboard.proofs.BoxSeats.{tells_allowed}
-use Rattle.switchboard.proofs.lock_per_box.board.LockPerBox.tell.Goals as goal
+use Rattle.switchboard.proofs.lock_per_box.board.LockPerBoxBoard.tell.Goals as goal
 
 pub split_seat-requires : goal.split_seat-requires
 split_seat-requires g c = (

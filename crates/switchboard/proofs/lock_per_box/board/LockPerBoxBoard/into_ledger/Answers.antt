@@ -2,7 +2,7 @@
 use Rattle.std.proofs.Common.{sym, subst}
 use Rattle.switchboard.specs.Promises.{AreAll, Settles}
 use Rattle.switchboard.proofs.Opening.{map_same}
-use Rattle.switchboard.proofs.lock_per_box.as_board.LockPerBoxBoard.into_ledger.Goals as goal
+use Rattle.switchboard.proofs.lock_per_box.board.LockPerBoxBoard.into_ledger.Goals as goal
 
 pub into_ledger-requires : goal.into_ledger-requires
 into_ledger-requires g c =

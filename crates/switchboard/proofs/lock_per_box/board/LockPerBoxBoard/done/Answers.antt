@@ -1,7 +1,7 @@
 -- The mailbox that is out has the Take of the job, and no Done of it.
 use Rattle.std.proofs.Common.{◌∙◌, arith}
 use Rattle.switchboard.proofs.BoxDones.{may_complete, done_asks, done_owes, done_on, was_done}
-use Rattle.switchboard.proofs.lock_per_box.board.LockPerBox.done.Goals as goal
+use Rattle.switchboard.proofs.lock_per_box.board.LockPerBoxBoard.done.Goals as goal
 
 pub done-requires-clause-taken : goal.done-requires-clause-taken
 done-requires-clause-taken g c =

@@ -1,7 +1,7 @@
 -- What the lane had seen last is told.
 use Rattle.std.proofs.Common.{sym, subst}
 use Rattle.ticket_lock.specs.History.{EndsIn}
-use Rattle.switchboard.proofs.one_lock.board.OneLock.tell.Goals as goal
+use Rattle.switchboard.proofs.one_lock.board.OneLockBoard.tell.Goals as goal
 
 pub invariant_of-result : goal.invariant_of-result
 invariant_of-result g c =

@@ -1,6 +1,6 @@
 -- A note has nothing but what its pass had seen.
 use Rattle.switchboard.proofs.BoxLearns.{learn_on, learned_is}
-use Rattle.switchboard.proofs.lock_per_box.board.LockPerBox.learn.Goals as goal
+use Rattle.switchboard.proofs.lock_per_box.board.LockPerBoxBoard.learn.Goals as goal
 
 pub invariant_of-pass : goal.invariant_of-pass
 invariant_of-pass g c =

@@ -1,6 +1,6 @@
 -- The abort is the pass's own, where there was none before.
 use Rattle.switchboard.proofs.BoxDones.{abort_on, was_aborted}
-use Rattle.switchboard.proofs.lock_per_box.board.LockPerBox.abort.Goals as goal
+use Rattle.switchboard.proofs.lock_per_box.board.LockPerBoxBoard.abort.Goals as goal
 
 pub invariant_of-pass : goal.invariant_of-pass
 invariant_of-pass g c =

@@ -3,7 +3,7 @@ use Rattle.std.proofs.Common.{◌<◌}
 use Rattle.switchboard.specs.Books.{TakeAnswers}
 use Rattle.switchboard.proofs.Inside.{inside, to_lane, to_call, taking, takes_on, shows_taken}
 use Rattle.switchboard.proofs.Visits.{may_leave, visit_is}
-use Rattle.switchboard.proofs.one_lock.board.OneLock.take.Goals as goal
+use Rattle.switchboard.proofs.one_lock.board.OneLockBoard.take.Goals as goal
 
 pub take-answer-requires : goal.take-answer-requires
 take-answer-requires g c =
