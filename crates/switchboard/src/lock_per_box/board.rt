@@ -18,6 +18,7 @@ use crate::lock_per_box::pass::{BoxPass, BoxTold};
 use crate::lock_per_box::rule::Boxes;
 use crate::lock_per_box::visiting::{enter_box, leave_box};
 use crate::mail::Mail;
+use crate::world::Shown;
 use atomic_table::Table;
 use post_ledger::{Ledger, Mailbox};
 use std::alloc::{AllocError, Allocator};
@@ -149,7 +150,13 @@ impl<M: Mail<W>, W, A: Allocator> Board<M, W, A> for LockPerBox<M, W, A> {
     where
         A: Clone,
     {
-        LockPerBox::open_with_budget(alloc, world, boxes, to, first, budget)
+        let about = Ground {
+            world: Shown::of(world),
+            boxes,
+            to,
+            first,
+        };
+        LockPerBox::of(alloc, world, about, budget)
     }
 
     fn post<R: Wait>(

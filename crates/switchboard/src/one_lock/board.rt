@@ -44,40 +44,6 @@ impl<M: Mail<W>, W, A: Allocator> OnePass<M, W, A> {
 }
 
 impl<M: Mail<W>, W, A: Allocator> OneLock<M, W, A> {
-    fn open_with_budget(
-        alloc: A,
-        world: &W,
-        boxes: u8,
-        to: u8,
-        first: M,
-        budget: u64,
-    ) -> Result<(Self, Vec<OnePass<M, W, A>, A>), AllocError>
-    where
-        A: Clone,
-        requires boxes { (to < boxes) × (boxes ≤ 64) }
-        requires budget { (2 ≤ budget) × (budget ≤ 2 ^ 56) }
-        requires fits { M.fits world.now to first }
-        ensures { IfOk result (λ r. (r.0.lock.lanes ≡ boxes)
-            × (r.1.items
-            ≡ fresh_sights r.0.lock.id budget (opened world.now boxes to first) 0 boxes)) }
-    {
-        let book = Book::open(alloc.clone()?, world, boxes, to, first)?;
-        let mut passes = Vec::with_capacity(alloc.clone()?, usize::from(boxes))?;
-        let heap = alloc.clone()?;
-        let Ok((lock, lanes)) = TicketLock::with_budget(alloc, book, boxes, budget) else {
-            return Err(AllocError);
-        };
-        for lane in lanes {
-            passes.push_reserved(OnePass {
-                lane,
-                world: Shown::of(world),
-                boxes,
-                kept: true,
-            });
-        }
-        Ok((OneLock { lock, heap }, passes))
-    }
-
     fn into_ledger(self, passes: &mut Vec<OnePass<M, W, A>, A>) -> Ledger<M, A>
         requires { AreAll self.lock.id self.lock.lanes passes.old.items }
         ensures empty { passes.new.items ≡ [] }
@@ -117,7 +83,21 @@ impl<M: Mail<W>, W, A: Allocator> Board<M, W, A> for OneLock<M, W, A> {
     where
         A: Clone,
     {
-        OneLock::open_with_budget(alloc, world, boxes, to, first, budget)
+        let book = Book::open(alloc.clone()?, world, boxes, to, first)?;
+        let mut passes = Vec::with_capacity(alloc.clone()?, usize::from(boxes))?;
+        let heap = alloc.clone()?;
+        let Ok((lock, lanes)) = TicketLock::with_budget(alloc, book, boxes, budget) else {
+            return Err(AllocError);
+        };
+        for lane in lanes {
+            passes.push_reserved(OnePass {
+                lane,
+                world: Shown::of(world),
+                boxes,
+                kept: true,
+            });
+        }
+        Ok((OneLock { lock, heap }, passes))
     }
 
     fn post<R: Wait>(

@@ -3,7 +3,7 @@ use Rattle.std.proofs.Common.{◌≡◌, ◌≤◌, ◌++◌, length, vec_capaci
 use Rattle.std.specs.Vec.Iter.{into_iter_items}
 use Rattle.ticket_lock.specs.Lanes.{fresh_lanes}
 use Rattle.switchboard.specs.Sights.{fresh_sights}
-use Rattle.switchboard.proofs.one_lock.board.OneLock.open_with_budget.Given as goal
+use Rattle.switchboard.proofs.one_lock.board.OneLockBoard.open_with_budget.Given as goal
 
 abbrev pub invariant-loop-lane : goal.invariant-loop-lane
 invariant-loop-lane g l =
