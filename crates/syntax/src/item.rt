@@ -7,23 +7,18 @@ ghost use Rattle.syntax.specs.Parser.{Parser, Strict};
 ghost use Rattle.tokens.specs.Token.{Tok, toks_of};
 
 use crate::reader::{Read, Reader, begins, put};
+use crate::stands::Stands;
 use std::alloc::Allocator;
 use tokens::{Kind, Token};
 
 /// What stands one after the other, as the names of a declaration do.
-pub trait Item<A: Allocator + Clone>: Sized + Drop {
-    // The trees that items stand for.
-    ghost Tree: { Type 0 };
-
-    // The tree that an item stands for.
-    ghost tree: { Self → Tree };
-
+pub trait Item<A: Allocator + Clone>: Stands + Sized + Drop {
     // What the grammar reads as an item.
-    ghost grammar: { Parser Tree };
+    ghost grammar: { Parser Self.Tree };
 
     /// Reads an item.
     fn read<'t>(reader: &Reader<'_, A>, tokens: &'t [Token<'t>]) -> Read<'t, Self>
-        ensures gives { Parses tree result grammar tokens.now }
+        ensures gives { Parses Self.tree result grammar tokens.now }
         ensures shorter { Shorter result tokens.now };
 }
 

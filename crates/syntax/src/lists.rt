@@ -14,13 +14,7 @@ use tokens::{Kind, Token};
 use trees::{Expr, Name, Rhs};
 
 impl<A: Allocator + Clone> Item<A> for Name<A> {
-    ghost use Rattle.language.specs.Tree as tree;
     ghost use Rattle.syntax.specs.Exact.{name};
-    ghost use Rattle.trees.specs.Trees.{name_of};
-
-    ghost Tree = { tree.Name };
-
-    ghost tree = { name_of };
 
     ghost grammar = { name };
 
@@ -31,13 +25,7 @@ impl<A: Allocator + Clone> Item<A> for Name<A> {
 }
 
 impl<A: Allocator + Clone> Item<A> for Rhs<A> {
-    ghost use Rattle.language.specs.Tree as tree;
     ghost use Rattle.syntax.specs.Exact.{right};
-    ghost use Rattle.trees.specs.Trees.{rhs_of};
-
-    ghost Tree = { tree.RightSide tree.Name };
-
-    ghost tree = { rhs_of };
 
     ghost grammar = { right };
 
@@ -53,13 +41,7 @@ impl<A: Allocator + Clone> Item<A> for Rhs<A> {
 }
 
 impl<A: Allocator + Clone> Item<A> for Expr<A> {
-    ghost use Rattle.language.specs.Tree as tree;
     ghost use Rattle.syntax.specs.Exact.{expression};
-    ghost use Rattle.trees.specs.Trees.{expr_of};
-
-    ghost Tree = { tree.Expression tree.Name };
-
-    ghost tree = { expr_of };
 
     ghost grammar = { expression };
 

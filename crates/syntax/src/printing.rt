@@ -29,13 +29,7 @@ fn print_declaration<N: Allocator, A: Allocator>(
 }
 
 impl<N: Allocator> Show for Proc<N> {
-    ghost use Rattle.language.specs.Tree.{Procedure};
     ghost use Rattle.syntax.specs.Printed.{procedure_parts};
-    ghost use Rattle.trees.specs.Trees.{proc_of};
-
-    ghost Tree = { Procedure };
-
-    ghost tree = { proc_of };
 
     ghost parts = { procedure_parts };
 
@@ -51,13 +45,7 @@ impl<N: Allocator> Show for Proc<N> {
 }
 
 impl<N: Allocator> Show for Thread<N> {
-    ghost use Rattle.language.specs.Tree.{ThreadLine};
     ghost use Rattle.syntax.specs.Printed.{thread_parts};
-    ghost use Rattle.trees.specs.Trees.{thread_of};
-
-    ghost Tree = { ThreadLine };
-
-    ghost tree = { thread_of };
 
     ghost parts = { thread_parts };
 

@@ -77,13 +77,7 @@ impl<'a, A: Allocator + Clone> Reader<'a, A> {
 }
 
 impl<A: Allocator + Clone> Item<A> for Proc<A> {
-    ghost use Rattle.language.specs.Tree.{Procedure};
     ghost use Rattle.syntax.specs.Exact.{procedure};
-    ghost use Rattle.trees.specs.Trees.{proc_of};
-
-    ghost Tree = { Procedure };
-
-    ghost tree = { proc_of };
 
     ghost grammar = { procedure };
 
@@ -117,13 +111,7 @@ impl<A: Allocator + Clone> Repeated<A> for Proc<A> {
 }
 
 impl<A: Allocator + Clone> Item<A> for Thread<A> {
-    ghost use Rattle.language.specs.Tree.{ThreadLine};
     ghost use Rattle.syntax.specs.Exact.{thread_line};
-    ghost use Rattle.trees.specs.Trees.{thread_of};
-
-    ghost Tree = { ThreadLine };
-
-    ghost tree = { thread_of };
 
     ghost grammar = { thread_line };
 

@@ -12,7 +12,7 @@ use Rattle.syntax.proofs.reader.Reader.list.Goals as goal
 pub loop-rest-init : goal.loop-rest-init
 unfolding list
 loop-rest-init g c = record {
-  whole = first_read g.T.Item.tree (begins kind.Comma) g.T.Item.grammar (take kind.Comma >>= λ _. g.T.Item.grammar)
+  whole = first_read g.T.Stands.tree (begins kind.Comma) g.T.Item.grammar (take kind.Comma >>= λ _. g.T.Item.grammar)
       (toks_of c.args.tokens.now) c.in_ok-first.ensures.gives c.in_ok-list.ensures.ok;
   shorter = c.in_ok-first.ensures.shorter;
 }

@@ -8,7 +8,7 @@ use Rattle.syntax.proofs.reader.Reader.repeated.Goals as goal
 pub loop-rest-init : goal.loop-rest-init
 unfolding repeated
 loop-rest-init g c = record {
-  whole = first_read g.T.Item.tree g.T.Repeated.another g.T.Item.grammar g.T.Item.grammar
+  whole = first_read g.T.Stands.tree g.T.Repeated.another g.T.Item.grammar g.T.Item.grammar
       (toks_of c.args.tokens.now) c.in_ok-first.ensures.gives c.in_ok-list.ensures.ok;
   shorter = c.in_ok-first.ensures.shorter;
 }
