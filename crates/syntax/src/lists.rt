@@ -14,10 +14,6 @@ use tokens::{Kind, Token};
 use trees::{Expr, Name, Rhs};
 
 impl<A: Allocator + Clone> Item<A> for Name<A> {
-    ghost use Rattle.syntax.specs.Exact.{name};
-
-    ghost grammar = { name };
-
     fn read<'t>(reader: &Reader<'_, A>, tokens: &'t [Token<'t>]) -> Read<'t, Name<A>> {
         let (token, rest) = reader.take(Kind::Id, tokens)?;
         Ok((reader.name(&token)?, rest))
@@ -25,10 +21,6 @@ impl<A: Allocator + Clone> Item<A> for Name<A> {
 }
 
 impl<A: Allocator + Clone> Item<A> for Rhs<A> {
-    ghost use Rattle.syntax.specs.Exact.{right};
-
-    ghost grammar = { right };
-
     /// Reads `?` or an expression.
     fn read<'t>(reader: &Reader<'_, A>, tokens: &'t [Token<'t>]) -> Read<'t, Rhs<A>> {
         if begins(Kind::Any, tokens) {
@@ -41,10 +33,6 @@ impl<A: Allocator + Clone> Item<A> for Rhs<A> {
 }
 
 impl<A: Allocator + Clone> Item<A> for Expr<A> {
-    ghost use Rattle.syntax.specs.Exact.{expression};
-
-    ghost grammar = { expression };
-
     fn read<'t>(reader: &Reader<'_, A>, tokens: &'t [Token<'t>]) -> Read<'t, Expr<A>> {
         reader.expression(0, tokens)
     }

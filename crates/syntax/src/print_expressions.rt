@@ -24,10 +24,6 @@ fn sign(op: Op) -> &'static str
 }
 
 impl<N: Allocator> Show for Name<N> {
-    ghost use Rattle.syntax.specs.Printed.{name_parts};
-
-    ghost parts = { name_parts };
-
     fn print<A: Allocator>(&self, out: &mut String<A>) -> Result<(), AllocError> {
         out.push_str(self.text.as_str())
     }
@@ -59,10 +55,6 @@ fn print_operand<N: Allocator, A: Allocator>(
 }
 
 impl<N: Allocator> Show for Expr<N> {
-    ghost use Rattle.syntax.specs.Printed.{expression_parts};
-
-    ghost parts = { expression_parts };
-
     /// Prints the expression, without parentheses around it.
     fn print<A: Allocator>(&self, out: &mut String<A>) -> Result<(), AllocError> {
         match self {
@@ -79,10 +71,6 @@ impl<N: Allocator> Show for Expr<N> {
 }
 
 impl<N: Allocator> Show for Rhs<N> {
-    ghost use Rattle.syntax.specs.Printed.{side_parts};
-
-    ghost parts = { side_parts };
-
     fn print<A: Allocator>(&self, out: &mut String<A>) -> Result<(), AllocError> {
         match self {
             Rhs::Any => out.push_str("?"),

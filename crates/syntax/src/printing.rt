@@ -29,10 +29,6 @@ fn print_declaration<N: Allocator, A: Allocator>(
 }
 
 impl<N: Allocator> Show for Proc<N> {
-    ghost use Rattle.syntax.specs.Printed.{procedure_parts};
-
-    ghost parts = { procedure_parts };
-
     fn print<A: Allocator>(&self, out: &mut String<A>) -> Result<(), AllocError> {
         self.name.print(out)?;
         out.push_str("(")?;
@@ -45,10 +41,6 @@ impl<N: Allocator> Show for Proc<N> {
 }
 
 impl<N: Allocator> Show for Thread<N> {
-    ghost use Rattle.syntax.specs.Printed.{thread_parts};
-
-    ghost parts = { thread_parts };
-
     fn print<A: Allocator>(&self, out: &mut String<A>) -> Result<(), AllocError> {
         out.push_str("thread ")?;
         self.name.print(out)?;

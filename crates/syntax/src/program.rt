@@ -77,10 +77,6 @@ impl<'a, A: Allocator + Clone> Reader<'a, A> {
 }
 
 impl<A: Allocator + Clone> Item<A> for Proc<A> {
-    ghost use Rattle.syntax.specs.Exact.{procedure};
-
-    ghost grammar = { procedure };
-
     #[tactic(auto, unfolding(crate::specs::Exact::procedure))]
     fn read<'t>(reader: &Reader<'_, A>, tokens: &'t [Token<'t>]) -> Read<'t, Proc<A>> {
         let (name, opened) = Name::read(reader, tokens)?;
@@ -111,10 +107,6 @@ impl<A: Allocator + Clone> Repeated<A> for Proc<A> {
 }
 
 impl<A: Allocator + Clone> Item<A> for Thread<A> {
-    ghost use Rattle.syntax.specs.Exact.{thread_line};
-
-    ghost grammar = { thread_line };
-
     #[tactic(auto, using(crate::proofs::Closings::closed_seen), unfolding(crate::specs::Exact::thread_line))]
     fn read<'t>(reader: &Reader<'_, A>, tokens: &'t [Token<'t>]) -> Read<'t, Thread<A>> {
         let (word, others) = reader.take(Kind::Thread, tokens)?;
