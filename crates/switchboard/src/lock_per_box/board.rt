@@ -2,10 +2,9 @@
 ghost use Rattle.std.specs.Prelude.{◌≡◌, ℕ, Bool, ◌<◌, ◌≤◌, ◌∷◌, map, [], MatchResult};
 ghost use Rattle.std.specs.Prelude.{vec_len, vec_capacity};
 ghost use Rattle.ticket_lock.specs.Calls.{IsSameSeat};
-ghost use Rattle.post_ledger.specs.Orders.{own, HasJob};
-ghost use Rattle.switchboard.specs.declared.lock_per_box.knowing.Own.{Own};
+ghost use Rattle.post_ledger.specs.Orders.{HasJob};
 ghost use Rattle.switchboard.specs.Promises.{WasPosted, WasRefused, AreAll, Settles};
-ghost use Rattle.switchboard.specs.PerBox.{IsBoardTable};
+ghost use Rattle.switchboard.specs.PerBox.{IsBoardTable, HasOwnJob};
 ghost use Rattle.switchboard.specs.BoxAnswers.{TookOut, PutIn};
 
 use crate::board::Board;
@@ -66,9 +65,7 @@ fn put<F: Fn(), W, M: Mail<W>, A: Allocator>(
 ) -> Result<(), PostFault<M>>
     requires callable { F.IsAlwaysCallable held.now }
     requires table { (seat.old.table_id ≡ shared.now.table_id) × (0 < shared.now.table_id.words) }
-    requires job { (o : Own M) × (seat.old.me.0.lanes ≡ o ∷ [])
-        × (own o.number seat.old.me.0.seen.order ≡ o.events)
-        × HasJob o.number job.now seat.old.me.0.seen.order }
+    requires job { HasOwnJob seat.old.me.0 job.now }
     requires budget { 0 < seat.old.me.0.budget }
     ensures { IsSameSeat seat.old seat.new
         × PutIn M.fits number job.now message result mailbox.old mailbox.new seat.old.me
@@ -170,11 +167,7 @@ impl<M: Mail<W>, W, A: Allocator> Board<M, W, A> for LockPerBox<M, W, A> {
         self.post_held(rt, pass, job, to, message, &|| {})
     }
 
-    fn take<R: Wait>(
-        &self,
-        rt: &R,
-        pass: &mut BoxPass<M, W, A>,
-    ) -> Result<Taken<M>, Spent> {
+    fn take<R: Wait>(&self, rt: &R, pass: &mut BoxPass<M, W, A>) -> Result<Taken<M>, Spent> {
         if pass.left == 0 {
             return Err(Spent);
         }

@@ -1,18 +1,29 @@
--- The lane that comes is the next new one.
-use Rattle.std.proofs.Common.{◌≡◌, ◌+◌, ◌∷◌, ◌++◌, [], true, length, suc, sym, ap, ◌∙◌, subst, arith, append_assoc, length-append}
+-- Each new lane has its pass.
+use Rattle.std.proofs.Common.{◌≡◌, ◌<◌, ◌+◌, ◌∷◌, ◌++◌, [], true, length, suc, sym, ap, ◌∙◌, subst, arith, append_assoc, length-append}
 use Rattle.std.proofs.lemmas.List.{length_push}
 use Rattle.std.specs.Vec.Iter.{into_iter_items}
-use Rattle.ticket_lock.specs.Lanes.{fresh_lanes}
+use Rattle.ticket_lock.specs.Lanes.{fresh_lane, fresh_lanes}
 use Rattle.switchboard.specs.Sights.{fresh_sights}
 use Rattle.switchboard.specs.Passes.{IsPass}
 use Rattle.switchboard.proofs.Opening.{fresh_next, fresh_count, sights_push, sights_count, sight_fresh, pass_fresh, map_same}
+use Rattle.switchboard.proofs.one_lock.board.OneLockBoard.open_with_budget.Given as given
 use Rattle.switchboard.proofs.one_lock.board.OneLockBoard.open_with_budget.Goals as goal
+use Rattle.switchboard.proofs.one_lock.board.OneLockBoard.open_with_budget.Goals.{In-Some}
+
+-- the lane that came is the next new one
+next_lane : (g : given.Over) (c : In-Some g) →
+    let lock = c.in-Ok.lock in
+    let came = c.loop-lane.yielded in
+    (came ++ c.in-Some.lane ∷ into_iter_items c.next.new.self ≡ fresh_lanes lock.id c.args.budget lock.opening 0 c.args.boxes)
+    × ((c.in-Some.lane ≡ fresh_lane lock.id c.args.budget lock.opening (0 + length came)) × (length came < c.args.boxes))
+next_lane g c =
+    fresh_next c.in-Ok.lock.id c.args.budget c.in-Ok.lock.opening c.args.boxes c.loop-lane.yielded c.in-Some.ensures.steps.0
+    c.loop-lane.invariant.0
 
 pub invariant_of-push_reserved : goal.invariant_of-push_reserved
 invariant_of-push_reserved g c =
     let lock = c.in-Ok.lock in
-    let r = fresh_next lock.id c.args.budget lock.opening c.args.boxes c.loop-lane.yielded
-    c.in-Some.ensures.steps.0 c.loop-lane.invariant.0 in
+    let r = next_lane g (goal.at.invariant_of-push_reserved g c).In-Some in
     let s = c.in-Ok.ensures.ok.0 ∙ c.in_ok-book.ensures in
     subst (λ w. IsPass g.M.Mail.fits c.in-Some.lane w c.args.boxes true) (sym c.of.ensures)
     (pass_fresh g.M.Mail.fits lock.id c.args.budget c.args.world.now c.args.boxes c.args.to (0 + length c.loop-lane.yielded)
@@ -22,17 +33,14 @@ invariant_of-push_reserved g c =
 pub push_reserved-requires : goal.push_reserved-requires
 push_reserved-requires g c =
     let lock = c.in-Ok.lock in
-    let r = fresh_next lock.id c.args.budget lock.opening c.args.boxes c.loop-lane.yielded
-    c.in-Some.ensures.steps.0 c.loop-lane.invariant.0 in
-    let s = c.in-Ok.ensures.ok.0 ∙ c.in_ok-book.ensures in
+    let r = next_lane g (goal.at.push_reserved-requires g c).In-Some in
     let count = sights_count lock.id c.args.budget lock.opening 0 (length c.loop-lane.yielded) in
     omega (arith, r.1.1, ap length c.loop-lane.invariant.1, count, c.loop-lane.invariant.2, c.loop-lane.passes.ok)
 
 pub loop-lane-preserved : goal.loop-lane-preserved
 loop-lane-preserved g c =
     let lock = c.in-Ok.lock in
-    let r = fresh_next lock.id c.args.budget lock.opening c.args.boxes c.loop-lane.yielded
-    c.in-Some.ensures.steps.0 c.loop-lane.invariant.0 in
+    let r = next_lane g (goal.at.loop-lane-preserved g c).In-Some in
     let s = c.in-Ok.ensures.ok.0 ∙ c.in_ok-book.ensures in
     let n = length c.loop-lane.yielded in
     let shown = sight_fresh lock.id c.args.budget c.args.world.now c.of.result.value c.args.boxes c.args.to (0 + n)
@@ -60,8 +68,7 @@ returns g c =
       fresh_count lock.id c.args.budget lock.opening 0 c.args.boxes,
       c.in-None.ensures.steps.0,
       it.rest.ok.0,
-    ) in
-    (
+    ) in (
       c.in-Ok.ensures.ok.1,
       map_same _ ∙ (c.loop-lane.invariant.1 ∙ (λ i. fresh_sights lock.id c.args.budget (s i) 0 (all i))),
     )
