@@ -49,26 +49,24 @@ done-requires-clause-taken g c = (there g c).0
 pub done-requires-clause-open : goal.done-requires-clause-open
 done-requires-clause-open g c = (there g c).1
 
+-- so there is room for its Done
+room : (g : given.Over) (c : After-index_mut-mailbox g) → length c.self.inside.order.items < vec_capacity c.self.inside.order
+room g c =
+    let i = c.self.inside in
+    room_done i.mailboxes.items i.order.items (vec_capacity i.order) i.posted i.completed c.args.by c.job.inside.take c.self.invariant
+    (held g c)
+
 pub push_reserved-requires : goal.push_reserved-requires
 push_reserved-requires g c =
-    let i = c.self.inside in
-    let has = held g (goal.at.push_reserved-requires g c).After-index_mut-mailbox in
-    omega (
-      arith,
-      room_done i.mailboxes.items i.order.items
-          (vec_capacity i.order) i.posted i.completed c.args.by c.job.inside.take c.self.invariant has,
-    )
+    let r : length c.self.inside.order.items < vec_capacity c.self.inside.order =
+    room g (goal.at.push_reserved-requires g c).After-index_mut-mailbox in
+    omega (arith, r)
 
 pub overflow_add-self : goal.overflow_add-self
 overflow_add-self g c =
     let i = c.self.inside in
-    let has = held g (goal.at.overflow_add-self g c).After-index_mut-mailbox in
-    omega (
-      arith,
-      few_done i.mailboxes.items i.order.items (vec_capacity i.order) i.posted i.completed c.self.invariant,
-      room_done i.mailboxes.items i.order.items
-          (vec_capacity i.order) i.posted i.completed c.args.by c.job.inside.take c.self.invariant has,
-    )
+    let r : length i.order.items < vec_capacity i.order = room g (goal.at.overflow_add-self g c).After-index_mut-mailbox in
+    omega (arith, few_done i.mailboxes.items i.order.items (vec_capacity i.order) i.posted i.completed c.self.invariant, r)
 
 pub invariant_of-self : goal.invariant_of-self
 invariant_of-self g c =
