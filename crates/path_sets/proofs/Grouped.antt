@@ -1,11 +1,10 @@
 -- The edges of all masks, and those of one mask among them.
-use Rattle.std.proofs.Common.{◌≡◌, ℕ, ◌<◌, Bool, true, false, cond, List, [], ◌∷◌, ◌++◌, None, Some, get_or}
-use Rattle.std.proofs.Common.{slice_get, position, inl, inr, refl, sym, ap, ◌∙◌, subst, true≢false, suc, zero, is_some}
+use Rattle.std.proofs.Common.{◌≡◌, ℕ, ◌<◌, Bool, true, false, cond, List, [], ◌∷◌, ◌++◌, None, Some}
+use Rattle.std.proofs.Common.{slice_get, inl, inr, refl, sym, ap, ◌∙◌, subst, true≢false, suc, zero, is_some}
 use Rattle.std.specs.Map.{keys_of, values_of, lookup}
 use Rattle.std.specs.List.{IsDistinct, AllByRecursion}
 use Rattle.std.proofs.lemmas.Map.Keys.{IsDistinct-head, IsDistinct-tail}
-use Rattle.std.proofs.lemmas.Option.{slice_get-get_or, same_Some}
-use Rattle.std.proofs.lemmas.List.Quantifiers.{position-Some}
+use Rattle.std.proofs.lemmas.Option.{same_Some}
 use Rattle.indexmap.specs.IndexMap.{set_value_at}
 use Rattle.language.specs.Lists.{Member}
 use Rattle.language.proofs.Members.{member_left, member_right, member_append, member_map}
@@ -26,12 +25,6 @@ pub pair_at : {K V : Type 0} (es : List (K × V)) (i : ℕ) (k : K) (v : V) → 
 pair_at [] i k v key value = absurd (true≢false (ap is_some (sym key)))
 pair_at (e ∷ es) zero k v key value = ap Some (λ j. (same_Some e.0 k key j, same_Some e.1 v value j))
 pair_at (e ∷ es) (suc i) k v key value = pair_at es i k v key value
-
--- the place that is looked up stands at the index that is found
-pub found_at : (ks : List Place) (i : ℕ) (p : Place) → Some i ≡ position (place_eq p) ks → slice_get ks i ≡ Some p
-found_at ks i p h =
-    let r = position-Some (place_eq p) ks i p (sym h) in
-    slice_get-get_or ks i p r.0 ∙ ap Some (sym (same_place p (get_or ks i p) r.1))
 
 -- what holds of each place holds of the one at an index
 of_each : (P : Place → Type 0) (gs : Groups) (i : ℕ) (p : Place) (m : ℕ) → slice_get gs i ≡ Some (p, m) →

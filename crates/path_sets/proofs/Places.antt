@@ -15,22 +15,27 @@ pub both : (a b : Bool) → (a && b) ≡ true → (a ≡ true) × (b ≡ true)
 both true b h = (refl, h)
 both false b h = absurd (true≢false (sym h))
 
+-- three numbers that compare as equal, each with its own, are the same, and the same compare as equal
+pub same_three : (a a' b b' c c' : ℕ) → (nat_eq a a' && (nat_eq b b' && nat_eq c c')) ≡ true → (a ≡ a') × (b ≡ b') × (c ≡ c')
+same_three a a' b b' c c' h =
+    let (first, rest) = both (nat_eq a a') (nat_eq b b' && nat_eq c c') h in
+    let (second, third) = both (nat_eq b b') (nat_eq c c') rest in
+    (exact_unsigned_eq a a' first, exact_unsigned_eq b b' second, exact_unsigned_eq c c' third)
+
+pub eq_three : (a a' b b' c c' : ℕ) → a ≡ a' → b ≡ b' → c ≡ c' → (nat_eq a a' && (nat_eq b b' && nat_eq c c')) ≡ true
+eq_three a a' b b' c c' x y z = ap₂ ◌&&◌ (eq-eqb a a' x) (ap₂ ◌&&◌ (eq-eqb b b' y) (eq-eqb c c' z))
+
 -- places that compare as equal are the same
 pub same_place : (x y : Place) → place_eq x y ≡ true → x ≡ y
 same_place x y h =
-    let (entry, rest) = both (nat_eq x.entry y.entry) (nat_eq x.values y.values && nat_eq x.block y.block) h in
-    let (values, block) = both (nat_eq x.values y.values) (nat_eq x.block y.block) rest in
-    let e : x.entry ≡ y.entry = exact_unsigned_eq x.entry y.entry entry in
-    let v : x.values ≡ y.values = exact_unsigned_eq x.values y.values values in
-    let b : x.block ≡ y.block = exact_unsigned_eq x.block y.block block in
+    let (e, v, b) = same_three x.entry y.entry x.values y.values x.block y.block h in
     λ j. record { entry = e j; values = v j; block = b j }
 
 -- the same place compares as equal
 pub eq_place : (x y : Place) → x ≡ y → place_eq x y ≡ true
 eq_place x y is =
-    ap₂ ◌&&◌ (eq-eqb x.entry y.entry (ap (λ (p : Place). p.entry) is))
-    (ap₂ ◌&&◌ (eq-eqb x.values y.values (ap (λ (p : Place). p.values) is))
-    (eq-eqb x.block y.block (ap (λ (p : Place). p.block) is)))
+    eq_three x.entry y.entry x.values y.values x.block y.block (ap (λ (p : Place). p.entry) is) (ap (λ (p : Place). p.values) is)
+    (ap (λ (p : Place). p.block) is)
 
 -- an edge among those of a mask is of its place, and its bit is 1
 pub own_edge : (p q : Place) (b m : ℕ) → b < 64 → Member (edge_at p b) (edges_in q m) →

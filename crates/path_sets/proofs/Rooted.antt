@@ -1,6 +1,6 @@
 -- The numbers of rows after one is given.
 use Rattle.std.proofs.Common.{◌≡◌, ℕ, Bool, true, false}
-use Rattle.std.proofs.Common.{cond, ◌&&◌, nat_eq, List, Some, get_or, slice_get, position}
+use Rattle.std.proofs.Common.{cond, ◌&&◌, nat_eq, List, Option, None, Some, IfSome, get_or, slice_get, position}
 use Rattle.std.proofs.Common.{refl, sym, ap, ap₂, ◌∙◌, true≢false, eq-eqb}
 use Rattle.std.specs.Option.{option_map_or}
 use Rattle.std.specs.Map.{lookup}
@@ -31,6 +31,10 @@ module _ {K : Type 0} (eq : K → K → Bool) (self : (x : K) → eq x x ≡ tru
   found ks i k h =
       let r = position-Some (eq k) ks i k (sym h) in
       slice_get-get_or ks i k r.0 ∙ ap Some (sym (same k (get_or ks i k) r.1))
+
+  pub found_if : (ks : List K) (k : K) (o : Option ℕ) → o ≡ position (eq k) ks → IfSome o (λ i. slice_get ks i ≡ Some k)
+  found_if ks k None h = tt
+  found_if ks k (Some i) h = found ks i k h
 
 pub row_self : (x : Row) → row_eq x x ≡ true
 row_self x = ap₂ ◌&&◌ (eq-eqb x.entry x.entry refl) (eq-eqb x.block x.block refl)

@@ -1,9 +1,8 @@
 -- Members of sets that are decision diagrams.
 use Rattle.std.proofs.Common.{◌≡◌, ℕ, ◌+◌, ◌<◌, ◌^◌, Bool, true, false, ◌&&◌, ◌||◌}
 use Rattle.std.proofs.Common.{nat_eq, List, [], ◌∷◌, map, filter, length, ◌⊎◌, ◌↔◌, inl, inr}
-use Rattle.std.proofs.Common.{refl, sym, ap, ap₂, ◌∙◌, subst, true≢false, eq-eqb}
+use Rattle.std.proofs.Common.{refl, sym, ap, ◌∙◌, subst, true≢false}
 use Rattle.std.specs.List.{list_any}
-use Rattle.std.proofs.lemmas.Map.Views.{exact_unsigned_eq}
 use Rattle.language.specs.Lists.{Member, NoneTwice}
 use Rattle.language.proofs.Members.{member_map, map_member}
 use Rattle.path_sets.specs.declared.quad.Quad.{Quad}
@@ -13,7 +12,7 @@ use Rattle.path_sets.specs.Triples.{Triple, triple}
 use Rattle.path_sets.specs.Edges.{edges}
 use Rattle.path_sets.specs.Diagrams.{TakesGiven, merged_has}
 use Rattle.path_sets.specs.Members.{below, each, universe, triple_eq, has_edge, all_edges, IsEdgeThere}
-use Rattle.path_sets.proofs.Places.{both}
+use Rattle.path_sets.proofs.Places.{same_three, eq_three}
 use Rattle.path_sets.proofs.Filtered.{kept_is, is_kept, same_kept, kept_none_twice, one_more, in_each}
 use Rattle.path_sets.proofs.Filtered.{of_each, each_none_twice, map_none_twice, in_below, of_below, below_none_twice}
 
@@ -61,18 +60,13 @@ universe_none_twice =
 -- path edges that compare as equal are the same
 pub same_triple : (x y : Triple) → triple_eq x y ≡ true → x ≡ y
 same_triple x y h =
-    let (entry, rest) = both (nat_eq x.entry y.entry) (nat_eq x.point y.point && nat_eq x.values y.values) h in
-    let (point, values) = both (nat_eq x.point y.point) (nat_eq x.values y.values) rest in
-    let e : x.entry ≡ y.entry = exact_unsigned_eq x.entry y.entry entry in
-    let p : x.point ≡ y.point = exact_unsigned_eq x.point y.point point in
-    let v : x.values ≡ y.values = exact_unsigned_eq x.values y.values values in
+    let (e, p, v) = same_three x.entry y.entry x.point y.point x.values y.values h in
     λ j. record { entry = e j; point = p j; values = v j }
 
 pub triple_self : (x y : Triple) → x ≡ y → triple_eq x y ≡ true
 triple_self x y is =
-    ap₂ ◌&&◌ (eq-eqb x.entry y.entry (ap (λ (t : Triple). t.entry) is))
-    (ap₂ ◌&&◌ (eq-eqb x.point y.point (ap (λ (t : Triple). t.point) is))
-    (eq-eqb x.values y.values (ap (λ (t : Triple). t.values) is)))
+    eq_three x.entry y.entry x.point y.point x.values y.values (ap (λ (t : Triple). t.entry) is) (ap (λ (t : Triple). t.point) is)
+    (ap (λ (t : Triple). t.values) is)
 
 -- the test for members of a list
 pub any_member : (t : Triple) (ts : List Triple) → list_any (triple_eq t) ts ≡ true → Member t ts

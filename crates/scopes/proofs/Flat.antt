@@ -1,7 +1,8 @@
 -- The statements of a block, one statement after the other.
-use Rattle.std.proofs.Common.{◌≡◌, ℕ, ◌+◌, ◌<◌, ◌≤◌, List, [], ◌∷◌, ◌++◌, length, map, drop, get_or, refl, sym, ◌∙◌, ap}
+use Rattle.std.proofs.Common.{◌≡◌, ℕ, ◌+◌, ◌*◌, ◌<◌, ◌≤◌, arith, List, [], ◌∷◌, ◌++◌, length, map, drop, get_or, refl, sym, ◌∙◌, ap}
 use Rattle.std.proofs.Common.{append_assoc, append-nil}
 use Rattle.std.proofs.lemmas.List.{drop_more, drop_all}
+use Rattle.language.specs.Sequential.{statements}
 use Rattle.language.specs.Tree.{Name, Mark, Block}
 use Rattle.trees.specs.Trees.{Deed, simple, branch, repeat, Item, item_of, marked_before, block_of, deed_of, proc_of, procs_of}
 use Rattle.trees.specs.declared.tree.Proc.{Proc}
@@ -9,6 +10,7 @@ use Rattle.trees.specs.declared.tree.Stmt.{Stmt}
 use Rattle.resolved.specs.Statements.{Statement, statement_of, statements_of, statements_of_all, inside}
 use Rattle.trees.specs.Parts.{head_of}
 use Rattle.trees.proofs.Folds.{item_is}
+use Rattle.trees.proofs.Held.{held, smaller}
 
 put : (m : Mark Name) (d : Deed) (k : Block Name Name Name)
     → statements_of (marked_before m d k) ≡ record { mark = m; head = head_of d } ∷ (inside d ++ statements_of k)
@@ -25,6 +27,11 @@ pub first : {A : Type 0} (s : Stmt A) (k : List (Stmt A))
 first s k =
     put (item_of s).mark (item_of s).deed (block_of k)
     ∙ ap (λ (i : Item). statement_of s ∷ (inside i.deed ++ statements_of (block_of k))) (item_is s)
+
+-- the measure of a statement of a list, as the two functions that flatten call one another, is less than the list's
+pub less_inside : {A : Type 0} (l : List (Stmt A)) (i : ℕ) (s : Stmt A) → i < length l → s ≡ get_or l i s
+    → 2 * held (deed_of s.core) + 2 < 2 * statements (block_of l) + 1
+less_inside l i s lt is = let part = smaller l i s lt is in omega (arith, part)
 
 -- a loop that puts statements behind others
 pub one_more : {A : Type 0} (l : List (Stmt A)) (i : ℕ) (s : Stmt A) (old new w : List Statement)

@@ -81,23 +81,21 @@ all_declared : (s : Scope) (xs : List Name) → Each (Declared s) xs → AllDecl
 all_declared s [] h = tt
 all_declared s (x ∷ xs) h = (h.0, all_declared s xs h.1)
 
+-- what holds of each of two lists that stand one behind the other
+apart : {X : Type 0} (P : X → Type 0) (xs ys : List X) → Each P (xs ++ ys) → Each P xs × Each P ys
+apart P xs ys h = (each_left P xs ys h, each_right P xs ys h)
+
 expression_declared : (s : Scope) (e : Expression Name) → Each (Declared s) (variables_of e) → ExpressionDeclared s e
 expression_declared s (const b) h = tt
 expression_declared s (var x) h = h.0
 expression_declared s (negation e) h = expression_declared s e h
-expression_declared s (two o a b) h = (
-  expression_declared s a (each_left (Declared s) (variables_of a) (variables_of b) h),
-  expression_declared s b
-      (each_right (Declared s) (variables_of a) (variables_of b) h),
-)
+expression_declared s (two o a b) h =
+    let parts = apart (Declared s) (variables_of a) (variables_of b) h in (expression_declared s a parts.0, expression_declared s b parts.1)
 
 expressions_declared : (s : Scope) (es : List (Expression Name)) → Each (Declared s) (variables_of_all es) → ExpressionsDeclared s es
 expressions_declared s [] h = tt
-expressions_declared s (e ∷ es) h = (
-  expression_declared s e (each_left (Declared s) (variables_of e) (variables_of_all es) h),
-  expressions_declared s es
-      (each_right (Declared s) (variables_of e) (variables_of_all es) h),
-)
+expressions_declared s (e ∷ es) h =
+    let parts = apart (Declared s) (variables_of e) (variables_of_all es) h in (expression_declared s e parts.0, expressions_declared s es parts.1)
 
 side_declared : (s : Scope) (r : RightSide Name) → Each (Declared s) (variables_of_side r) → SideDeclared s r
 side_declared s any h = tt
@@ -105,11 +103,9 @@ side_declared s (value e) h = expression_declared s e h
 
 sides_declared : (s : Scope) (rs : List (RightSide Name)) → Each (Declared s) (variables_of_sides rs) → SidesDeclared s rs
 sides_declared s [] h = tt
-sides_declared s (r ∷ rs) h = (
-  side_declared s r (each_left (Declared s) (variables_of_side r) (variables_of_sides rs) h),
-  sides_declared s rs
-      (each_right (Declared s) (variables_of_side r) (variables_of_sides rs) h),
-)
+sides_declared s (r ∷ rs) h =
+    let parts = apart (Declared s) (variables_of_side r) (variables_of_sides rs) h in
+    (side_declared s r parts.0, sides_declared s rs parts.1)
 
 room : (o : Option Procedure) (m : ℕ) → IsThere o (λ r. length r.formals ≡ m) → HasRoom o m
 room None m h = h

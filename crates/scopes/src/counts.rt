@@ -8,10 +8,10 @@ ghost use Rattle.scopes.specs.Faults.{first_at, MiscountsSides, MiscountsArgumen
 ghost use Rattle.scopes.specs.Faults.{MiscountsIn, WrongCount};
 
 use crate::names::earlier;
-use crate::search::{earliest, try_earliest};
+use crate::search::{Answer, earliest, try_earliest};
 use crate::statements::statements;
 use crate::undeclared::find;
-use std::alloc::{AllocError, Allocator};
+use std::alloc::Allocator;
 use trees::{Name, Proc, Program, Stmt};
 
 /// Where the targets of a statement begin; where there are none, where the statement does.
@@ -65,11 +65,7 @@ pub fn miscounted<A: Allocator>(procs: &[Proc<A>], stmt: &Stmt<A>) -> Option<u32
 }
 
 /// The same for a procedure.
-pub fn miscounted_in<A: Allocator + Copy>(
-    alloc: &A,
-    procs: &[Proc<A>],
-    proc: &Proc<A>,
-) -> Result<Option<u32>, AllocError>
+pub fn miscounted_in<A: Allocator + Copy>(alloc: &A, procs: &[Proc<A>], proc: &Proc<A>) -> Answer
     ensures { IfOk result (λ r. Finds (MiscountsIn (procs_of procs.now) (proc_of proc.now)) r) }
 {
     let stmts = statements(alloc, proc)?;
@@ -78,10 +74,7 @@ pub fn miscounted_in<A: Allocator + Copy>(
 
 /// The least offset of an assignment's first target, or of a called name, whose two sides differ in number; nothing
 /// where none do. An error is a refused growth.
-pub(crate) fn first_wrong_count<A: Allocator + Copy>(
-    alloc: &A,
-    program: &Program<A>,
-) -> Result<Option<u32>, AllocError>
+pub(crate) fn first_wrong_count<A: Allocator + Copy>(alloc: &A, program: &Program<A>) -> Answer
     ensures { IfOk result (λ r. Finds (λ n. WrongCount (tree_of program.now) n) r) }
 {
     let procs = program.procs.as_slice();

@@ -10,6 +10,7 @@ ghost use Rattle.scopes.specs.Faults.{IsUnknown, Repeated};
 ghost use Rattle.scopes.specs.Known.{AreTexts};
 
 use crate::names::earlier;
+use crate::search::Answer;
 use indexmap::IndexSet;
 use std::alloc::{AllocError, Allocator};
 use std::hash::{BuildHasherDefault, FoldHasher};
@@ -27,10 +28,7 @@ pub struct Known<'a, A: Allocator> {
 }
 
 /// The offset of a name whose text was seen before; from now on it is seen.
-pub fn seen_again<'a, A: Allocator + Copy>(
-    seen: &mut Texts<'a, A>,
-    name: &'a Name<A>,
-) -> Result<Option<u32>, AllocError>
+pub fn seen_again<'a, A: Allocator + Copy>(seen: &mut Texts<'a, A>, name: &'a Name<A>) -> Answer
     ensures told { (ns : List tree.Name) → AreTexts seen.old ns
         → IfOk result (λ r. AreTexts seen.new (ns ++ name_of name.now ∷ [])) }
     ensures again { (ns : List tree.Name) → AreTexts seen.old ns
@@ -45,10 +43,7 @@ pub fn seen_again<'a, A: Allocator + Copy>(
 }
 
 /// The least offset of a name that is written as one before it.
-pub fn repeated<A: Allocator + Copy>(
-    alloc: A,
-    names: &[&Name<A>],
-) -> Result<Option<u32>, AllocError>
+pub fn repeated<A: Allocator + Copy>(alloc: A, names: &[&Name<A>]) -> Answer
     ensures { IfOk result (λ r. Finds (Repeated (lent names.now)) r) }
 {
     let mut seen = IndexSet::new(alloc);

@@ -8,7 +8,7 @@ ghost use Rattle.scopes.specs.Faults.{GoesNowhere, MislabelledIn, BadLabel};
 
 use crate::known::{Known, repeated};
 use crate::names::earlier;
-use crate::search::{earliest, try_earliest};
+use crate::search::{Answer, earliest, try_earliest};
 use crate::statements::statements;
 use std::alloc::{AllocError, Allocator};
 use trees::{Name, Proc, Program, Stmt};
@@ -38,10 +38,7 @@ pub fn lost<A: Allocator + Copy>(labels: &Known<A>, stmt: &Stmt<A>) -> Option<u3
 }
 
 /// The least offset of a label of a procedure that is defined twice, or of the name of a `goto` that is none.
-pub fn mislabelled<A: Allocator + Copy>(
-    alloc: &A,
-    proc: &Proc<A>,
-) -> Result<Option<u32>, AllocError>
+pub fn mislabelled<A: Allocator + Copy>(alloc: &A, proc: &Proc<A>) -> Answer
     ensures { IfOk result (λ r. Finds (λ n. MislabelledIn n (proc_of proc.now)) r) }
 {
     let stmts = statements(alloc, proc)?;
@@ -54,10 +51,7 @@ pub fn mislabelled<A: Allocator + Copy>(
 
 /// The least offset of the name in a `goto` that is no label of its procedure, or of a label that is defined again;
 /// nothing where there is none. An error is a refused growth.
-pub(crate) fn first_bad_label<A: Allocator + Copy>(
-    alloc: &A,
-    program: &Program<A>,
-) -> Result<Option<u32>, AllocError>
+pub(crate) fn first_bad_label<A: Allocator + Copy>(alloc: &A, program: &Program<A>) -> Answer
     ensures { IfOk result (λ r. Finds (λ n. BadLabel (tree_of program.now) n) r) }
 {
     try_earliest(&program.procs, |proc| mislabelled(alloc, proc))

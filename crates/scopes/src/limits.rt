@@ -9,6 +9,7 @@ ghost use Rattle.scopes.specs.Faults.{TooMany};
 ghost use Rattle.scopes.specs.Limits.{most_procedures, most_statements, most_threads};
 
 use crate::names::earlier;
+use crate::search::Answer;
 use crate::statements::flatten;
 use std::alloc::{AllocError, Allocator};
 use trees::{Proc, Program, Stmt, Thread};
@@ -74,10 +75,7 @@ pub fn all_statements<'a, A: Allocator + Copy>(
 
 /// The least offset of a 32nd procedure's name, of a 9th thread line or of a 1,001st statement of the whole text;
 /// nothing where there is none. An error is a refused growth.
-pub(crate) fn first_too_many<A: Allocator + Copy>(
-    alloc: &A,
-    program: &Program<A>,
-) -> Result<Option<u32>, AllocError>
+pub(crate) fn first_too_many<A: Allocator + Copy>(alloc: &A, program: &Program<A>) -> Answer
     ensures { IfOk result (λ r. Finds (λ n. TooMany (tree_of program.now) n) r) }
 {
     let stmts = all_statements(alloc, &program.procs)?;

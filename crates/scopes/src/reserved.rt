@@ -7,17 +7,14 @@ ghost use Rattle.scopes.specs.Faults.{ReservedIn, Reserved};
 
 use crate::labels::labels;
 use crate::names::{earlier, lend, own_names, reserved};
-use crate::search::try_earliest;
+use crate::search::{Answer, try_earliest};
 use crate::statements::statements;
 use crate::twice::proc_names;
-use std::alloc::{AllocError, Allocator};
+use std::alloc::Allocator;
 use trees::{Proc, Program};
 
 /// The least offset of a formal, a local or a label of a procedure with two underscores in a row.
-pub fn reserved_in<A: Allocator + Copy>(
-    alloc: &A,
-    proc: &Proc<A>,
-) -> Result<Option<u32>, AllocError>
+pub fn reserved_in<A: Allocator + Copy>(alloc: &A, proc: &Proc<A>) -> Answer
     ensures { IfOk result (λ r. Finds (λ n. ReservedIn n (proc_of proc.now)) r) }
 {
     let own = own_names(alloc, proc)?;
@@ -30,10 +27,7 @@ pub fn reserved_in<A: Allocator + Copy>(
 
 /// The least offset of a declared variable, procedure or label with two underscores in a row; nothing where none has.
 /// An error is a refused growth.
-pub(crate) fn first_reserved<A: Allocator + Copy>(
-    alloc: &A,
-    program: &Program<A>,
-) -> Result<Option<u32>, AllocError>
+pub(crate) fn first_reserved<A: Allocator + Copy>(alloc: &A, program: &Program<A>) -> Answer
     ensures { IfOk result (λ r. Finds (λ n. Reserved (tree_of program.now) n) r) }
 {
     let globals = lend(&program.globals, Vec::new(*alloc))?;

@@ -5,6 +5,10 @@ ghost use Rattle.std.specs.Fn.{FnReturnsAt};
 ghost use Rattle.scopes.specs.Find.{Earliest};
 
 use crate::names::earlier;
+use std::alloc::AllocError;
+
+/// The offset that a search found, if any; an error is a refused growth.
+pub type Answer = Result<Option<u32>, AllocError>;
 
 /// The least of the offsets that `search` answers at the items; nothing where it answers none.
 pub fn earliest<T, F: Fn(&T) -> Option<u32>>(items: &[T], search: F) -> Option<u32>

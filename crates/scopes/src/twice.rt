@@ -10,7 +10,7 @@ ghost use Rattle.resolved.specs.There.{names};
 
 use crate::known::repeated;
 use crate::names::{earlier, lend, own_names};
-use crate::search::try_earliest;
+use crate::search::{Answer, try_earliest};
 use crate::statements::statements;
 use std::alloc::{AllocError, Allocator};
 use trees::{Name, Proc, Program, Stmt};
@@ -30,10 +30,7 @@ pub fn proc_names<'a, A: Allocator + Copy>(
 }
 
 /// The least offset of a target that comes again in a statement.
-pub fn target_again<A: Allocator + Copy>(
-    alloc: &A,
-    stmt: &Stmt<A>,
-) -> Result<Option<u32>, AllocError>
+pub fn target_again<A: Allocator + Copy>(alloc: &A, stmt: &Stmt<A>) -> Answer
     ensures { IfOk result
         (λ r. Finds (λ n. Repeated (targets_of (statement_of stmt.now).head) n) r) }
 {
@@ -42,7 +39,7 @@ pub fn target_again<A: Allocator + Copy>(
 }
 
 /// The least offset of a name that comes again in a procedure.
-pub fn twice_in<A: Allocator + Copy>(alloc: &A, proc: &Proc<A>) -> Result<Option<u32>, AllocError>
+pub fn twice_in<A: Allocator + Copy>(alloc: &A, proc: &Proc<A>) -> Answer
     ensures { IfOk result (λ r. Finds (λ n. IsTwiceIn (proc_of proc.now) n) r) }
 {
     let own = own_names(alloc, proc)?;
@@ -54,10 +51,7 @@ pub fn twice_in<A: Allocator + Copy>(alloc: &A, proc: &Proc<A>) -> Result<Option
 
 /// The least offset of a name that comes again among the globals, the procedures, the formals and locals of one
 /// procedure, or the targets of one assignment; nothing where none does. An error is a refused growth.
-pub(crate) fn first_twice<A: Allocator + Copy>(
-    alloc: &A,
-    program: &Program<A>,
-) -> Result<Option<u32>, AllocError>
+pub(crate) fn first_twice<A: Allocator + Copy>(alloc: &A, program: &Program<A>) -> Answer
     ensures { IfOk result (λ r. Finds (λ n. DeclaredTwice (tree_of program.now) n) r) }
 {
     let globals = lend(&program.globals, Vec::new(*alloc))?;

@@ -11,9 +11,9 @@ ghost use Rattle.scopes.specs.Faults.{UndeclaredInProcedure, Undeclared};
 
 use crate::known::Known;
 use crate::names::{earlier, is_same, lend, own_names};
-use crate::search::{earliest, try_earliest};
+use crate::search::{Answer, earliest, try_earliest};
 use crate::statements::statements;
-use std::alloc::{AllocError, Allocator};
+use std::alloc::Allocator;
 use trees::{Expr, Name, Proc, Program, Rhs, Stmt};
 
 /// The first procedure that is named as `x` is written.
@@ -146,11 +146,7 @@ pub fn of_statement<A: Allocator + Copy>(
 }
 
 /// The same for a procedure.
-pub fn of_proc<A: Allocator + Copy>(
-    alloc: &A,
-    program: &Program<A>,
-    proc: &Proc<A>,
-) -> Result<Option<u32>, AllocError>
+pub fn of_proc<A: Allocator + Copy>(alloc: &A, program: &Program<A>, proc: &Proc<A>) -> Answer
     ensures { IfOk result
         (λ r. Finds (UndeclaredInProcedure (tree_of program.now) (proc_of proc.now)) r) }
 {
@@ -164,10 +160,7 @@ pub fn of_proc<A: Allocator + Copy>(
 
 /// The least offset of a variable or a called procedure that has no declaration; nothing where each has one. An
 /// error is a refused growth.
-pub(crate) fn first_undeclared<A: Allocator + Copy>(
-    alloc: &A,
-    program: &Program<A>,
-) -> Result<Option<u32>, AllocError>
+pub(crate) fn first_undeclared<A: Allocator + Copy>(alloc: &A, program: &Program<A>) -> Answer
     ensures { IfOk result (λ r. Finds (λ n. Undeclared (tree_of program.now) n) r) }
 {
     try_earliest(&program.procs, |proc| of_proc(alloc, program, proc))

@@ -20,7 +20,7 @@ use Rattle.switchboard.specs.declared.lock_per_box.knowing.Ground.{Ground}
 use Rattle.switchboard.specs.declared.lock_per_box.knowing.Seen.{Seen}
 use Rattle.switchboard.specs.declared.lock_per_box.knowing.Own.{Own}
 use Rattle.switchboard.specs.Knowing.{bare, merged_hands, unseen, made_by, hand_at, numbers, makes, only_seen, merged}
-use Rattle.switchboard.specs.PerBox.{View, word_of, Saw, KnowsBoard, Rule, Boxes}
+use Rattle.switchboard.specs.PerBox.{View, word_of, LockStands, Saw, KnowsBoard, Rule, Boxes}
 
 module _ {T : Type 0} where
   -- two hands have what one had
@@ -117,6 +117,20 @@ module _ {T : Type 0} where
             ]
       ])
 
+-- a lock whose hands become others stands, where they keep its core
+stands_with : {M W : Type 0} (q : ℕ) (order : List (Entry M)) (s : Boxes M W)
+    (l : LockStands q order s.words s.homes (map (hand_at q) s.views)) (hands new : List (Hand (List (Event M)))) → new ≡ hands
+    → Core (get_or s.words (word_of q) 0) (get_or s.words (word_of q + 1) 0) l.0 (get_elem? s.homes q) hands
+    → LockStands q order s.words s.homes new
+stands_with q order s l hands new same core = (
+  l.0,
+  record {
+    room = l.1.room;
+    core = subst (λ z. Core (get_or s.words (word_of q) 0) (get_or s.words (word_of q + 1) 0) l.0 (get_elem? s.homes q) z) (sym same) core;
+  },
+  l.2,
+)
+
 module _ {M W : Type 0} (fits : W → ℕ → M → Type 0) (g : Ground M W) where
   -- nothing was seen
   pub saw_none : (order : List (Entry M)) (first : Option Abort) (low : ℕ) → Saw fits g order first low unseen
@@ -157,16 +171,8 @@ module _ {M W : Type 0} (fits : W → ℕ → M → Type 0) (g : Ground M W) whe
               map-snoc (hand_at q) (set s.views id a) b ∙ ap (λ l. l ++ hand_at q b ∷ []) (map-set (hand_at q) s.views id a) in
               let core =
               core_splits (get_or s.words (word_of q) 0) (get_or s.words (word_of q + 1) 0) l.0 (get_elem? s.homes q) hs id
-              (hand_at q v) (hand_at q a) (hand_at q b) (at-map (hand_at q) s.views id v is_at) (hands q near) l.1.core in (
-                l.0,
-                record {
-                  room = l.1.room;
-                  core =
-                      subst (λ z. Core (get_or s.words (word_of q) 0) (get_or s.words (word_of q + 1) 0) l.0 (get_elem? s.homes q) z)
-                      (sym same) core;
-                },
-                l.2,
-              );
+              (hand_at q v) (hand_at q a) (hand_at q b) (at-map (hand_at q) s.views id v is_at) (hands q near) l.1.core in
+              stands_with q r.order s l _ _ same core;
           some_word = r.some_word;
           word = r.word;
           count = omega (arith, sum (λ (u : View M W). u.owes) owes, r.count);
@@ -239,16 +245,8 @@ module _ {M W : Type 0} (fits : W → ℕ → M → Type 0) (g : Ground M W) whe
               core_joins (get_or s.words (word_of q) 0) (get_or s.words (word_of q + 1) 0) l.0 (get_elem? s.homes q) hs id other
               (hand_at q v) (hand_at q w) (hand_at q u) (at-map (hand_at q) s.views id v is_at) ne
               (at-map (hand_at q) s.views other w at_w)
-              (merged_is v.hands w.hands q) (out_v q near) (out_w q near) l.1.core in (
-                l.0,
-                record {
-                  room = l.1.room;
-                  core =
-                      subst (λ z. Core (get_or s.words (word_of q) 0) (get_or s.words (word_of q + 1) 0) l.0 (get_elem? s.homes q) z)
-                      (sym same) core;
-                },
-                l.2,
-              );
+              (merged_is v.hands w.hands q) (out_v q near) (out_w q near) l.1.core in
+              stands_with q r.order s l _ _ same core;
           some_word = r.some_word;
           word = r.word;
           count = omega (arith, sum (λ (x : View M W). x.owes) refl refl, r.count);

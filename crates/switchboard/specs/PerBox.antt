@@ -38,6 +38,11 @@ flag (Some abort) = 2 ^ 63
 abbrev pub View : Type 0 → Type 0 → Type 0
 View M W = Knowing M W (List (Event M))
 
+-- a seat of one pass alone has the job
+abbrev pub HasOwnJob : {M W : Type 0} → View M W → ℕ → Type 0
+HasOwnJob {M} view job =
+    (o : Own M) × (view.lanes ≡ o ∷ []) × (own o.number view.seen.order ≡ o.events) × HasJob o.number job view.seen.order
+
 -- a seat of the board's table: what it knows, and the slots that it has emptied
 abbrev pub Seat : Type 0 → Type 0 → Type 0
 Seat M W = table.Me (Option (List (Event M))) (View M W)

@@ -13,7 +13,7 @@ use crate::mail::Mail;
 use post_ledger::Ledger;
 use std::alloc::{AllocError, Allocator};
 use std::sync::Wait;
-use ticket_lock::Spent;
+use ticket_lock::{MOST_TICKETS, Spent};
 
 /// Mailboxes with a pass each, numbered alike: pass i alone takes from mailbox i, and is the sender of what it posts.
 /// Every call stands at one order of the board's events, of which its pass has seen a beginning.
@@ -47,7 +47,10 @@ pub trait Board<M: Mail<W>, W, A: Allocator>: Sized {
         requires fits { M.fits world.now to first }
         ensures { IfOk result (λ r. (mailboxes r.0 ≡ boxes)
             × (map sight r.1.items
-            ≡ fresh_sights (identity r.0) (2 ^ 56) (opened world.now boxes to first) 0 boxes)) };
+            ≡ fresh_sights (identity r.0) (2 ^ 56) (opened world.now boxes to first) 0 boxes)) }
+    {
+        Self::open_with_budget(alloc, world, boxes, to, first, MOST_TICKETS)
+    }
 
     /// The same, where each pass has fewer calls: one fewer than `budget`, from 2 to 2^56.
     fn open_with_budget(

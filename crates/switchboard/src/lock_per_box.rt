@@ -1,6 +1,5 @@
 //! The board with a lock for each mailbox.
 
-mod as_board;
 pub(crate) mod board;
 pub(crate) mod close;
 pub(crate) mod knowing;

@@ -174,21 +174,13 @@ bound zero = 0
 bound (suc l) = suc (suc l)
 
 -- the levels of an operator's sides
-left_bound : (o : Operator) → level o < bound (left_level o)
-left_bound implies = omega arith
-left_bound or = omega arith
-left_bound xor = omega arith
-left_bound and = omega arith
-left_bound equal = omega arith
-left_bound differs = omega arith
-
-level_left : (o : Operator) → level o ≤ left_level o
-level_left implies = omega arith
-level_left or = omega arith
-level_left xor = omega arith
-level_left and = omega arith
-level_left equal = omega arith
-level_left differs = omega arith
+left_levels : (o : Operator) → (level o < bound (left_level o)) × (level o ≤ left_level o)
+left_levels implies = (omega arith, omega arith)
+left_levels or = (omega arith, omega arith)
+left_levels xor = (omega arith, omega arith)
+left_levels and = (omega arith, omega arith)
+left_levels equal = (omega arith, omega arith)
+left_levels differs = (omega arith, omega arith)
 
 bound_right : (o : Operator) (m : ℕ) → m ≤ level o → bound m ≤ right_level o
 bound_right implies zero h = omega arith
@@ -239,7 +231,7 @@ passes (reads_paren {t = t} {ts = ts} {us = us} {rest = rest} {e = a} e r c) l h
     ∙ bind_is (take kind.Close) (λ _. give a) us closed.0 rest closed.1)
 passes {m} (reads_two {t = t} {ts = ts} {us = us} {rest = rest} {a = a} {b = b} o low left op right) l h s =
     let first : reading (from l) ts ≡ reading (after l a) (t ∷ us) =
-    passes left l (let j = level_left o in omega arith) (operator_stops (bound (left_level o)) t us o op (left_bound o)) in
+    passes left l (let j = (left_levels o).1 in omega arith) (operator_stops (bound (left_level o)) t us o op (left_levels o).0) in
     let ends : Stops (right_level o) rest = Stops-weaker (bound_right o m low) s in
     let second : reading (from (right_level o)) us ≡ Some (b, rest) =
     passes right (right_level o) (omega arith) (Stops-weaker (bound_bound_right o m low) s) ∙ reading_stops (right_level o) b rest ends in

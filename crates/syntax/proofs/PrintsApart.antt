@@ -208,26 +208,16 @@ first_line_fits level l ok s more apart =
     (put _ (label_parts l ++ (s ++ (line ∷ more))) (append_assoc (label_parts l) s (line ∷ more))
     (label_fits l ok (s ++ (line ∷ more)) apart))
 
-if_fits : (r : RightSide Name) → SideInGrammar r → (more : List Part) → AreApart more
-    → AreApart (test_parts kind.If r kind.Then ++ (line ∷ more))
-if_fits r ok more apart =
-    put _ (fixed kind.If ∷ space ∷ (printed.in_parens (side_parts r) ++ (space ∷ fixed kind.Then ∷ line ∷ more)))
-    (ap (λ (ps : List Part). fixed kind.If ∷ space ∷ ps)
-    (append_assoc (printed.in_parens (side_parts r)) (space ∷ fixed kind.Then ∷ []) (line ∷ more))) (
-      inl (reserved refl),
+-- a keyword, a test in parentheses and another keyword
+test_fits : (first last : Kind) → IsSpelled first (spelling first) → IsSpelled last (spelling last) → (r : RightSide Name)
+    → SideInGrammar r → (more : List Part) → AreApart more → AreApart (test_parts first r last ++ (line ∷ more))
+test_fits first last is_first is_last r ok more apart =
+    put _ (fixed first ∷ space ∷ (printed.in_parens (side_parts r) ++ (space ∷ fixed last ∷ line ∷ more)))
+    (ap (λ (ps : List Part). fixed first ∷ space ∷ ps)
+    (append_assoc (printed.in_parens (side_parts r)) (space ∷ fixed last ∷ []) (line ∷ more))) (
+      is_first,
       tt,
-      parens_fit (side_parts r) (side_fits r ok) (space ∷ fixed kind.Then ∷ line ∷ more) (inl (reserved refl), tt, apart),
-    )
-
-while_fits : (r : RightSide Name) → SideInGrammar r → (more : List Part) → AreApart more
-    → AreApart (test_parts kind.While r kind.Do ++ (line ∷ more))
-while_fits r ok more apart =
-    put _ (fixed kind.While ∷ space ∷ (printed.in_parens (side_parts r) ++ (space ∷ fixed kind.Do ∷ line ∷ more)))
-    (ap (λ (ps : List Part). fixed kind.While ∷ space ∷ ps)
-    (append_assoc (printed.in_parens (side_parts r)) (space ∷ fixed kind.Do ∷ []) (line ∷ more))) (
-      inl (reserved refl),
-      tt,
-      parens_fit (side_parts r) (side_fits r ok) (space ∷ fixed kind.Do ∷ line ∷ more) (inl (reserved refl), tt, apart),
+      parens_fit (side_parts r) (side_fits r ok) (space ∷ fixed last ∷ line ∷ more) (is_last, tt, apart),
     )
 
 block_fits : (b : Block Name Name Name) → BlockInGrammar b → (level : ℕ) (more : List Part) → AreApart more
@@ -252,7 +242,7 @@ block_fits (choose m r a b k) ok level more apart =
     put _ (line_of level (label_parts m.label ++ test_parts kind.If r kind.Then) ++ from_yes)
     (six (line_of level (label_parts m.label ++ test_parts kind.If r kind.Then)) (block_parts (suc level) a)
     (line_of level (fixed kind.Else ∷ [])) (block_parts (suc level) b) (line_of level (fixed kind.Fi ∷ [])) (block_parts level k) more)
-    (first_line_fits level m.label ok.0 (test_parts kind.If r kind.Then) from_yes (if_fits r ok.1 from_yes h5))
+    (first_line_fits level m.label ok.0 (test_parts kind.If r kind.Then) from_yes (test_fits kind.If kind.Then (inl (reserved refl)) (inl (reserved refl)) r ok.1 from_yes h5))
 block_fits (loop m r a k) ok level more apart =
     let rest : List Part = block_parts level k ++ more in
     let from_od : List Part = line_of level (fixed kind.Od ∷ []) ++ rest in
@@ -263,7 +253,7 @@ block_fits (loop m r a k) ok level more apart =
     put _ (line_of level (label_parts m.label ++ test_parts kind.While r kind.Do) ++ from_body)
     (four (line_of level (label_parts m.label ++ test_parts kind.While r kind.Do)) (block_parts (suc level) a)
     (line_of level (fixed kind.Od ∷ [])) (block_parts level k) more)
-    (first_line_fits level m.label ok.0 (test_parts kind.While r kind.Do) from_body (while_fits r ok.1 from_body h3))
+    (first_line_fits level m.label ok.0 (test_parts kind.While r kind.Do) from_body (test_fits kind.While kind.Do (inl (reserved refl)) (inl (reserved refl)) r ok.1 from_body h3))
 
 declaration_fits : (ns : List Name) → AreIds ns → (level : ℕ) (more : List Part) → AreApart more
     → AreApart (declaration_parts level ns ++ more)

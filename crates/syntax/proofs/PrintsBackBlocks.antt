@@ -28,6 +28,23 @@ arguments_show es =
     parens_show (Perhaps IsExpression) (map unplaced_expression) (separated expression_parts es) es
     (perhaps_shows IsExpression unplaced_expression expression_parts expression_shows es)
 
+-- a keyword and a test in parentheses
+check_shows : (k : Kind) (s : RightSide Name → Simple Name Name Name)
+    → ((p q : RightSide Name) → unplaced_side p ≡ unplaced_side q → unplaced_simple (s p) ≡ unplaced_simple (s q))
+    → ((ts us vs rest : List Tok) (r : RightSide Name) → Takes k ts us → InParens IsRight us r vs → Takes kind.Semicolon vs rest
+    → IsSimple ts (s r) rest)
+    → (r : RightSide Name) → Shows IsSimple unplaced_simple (ended (fixed k ∷ printed.in_parens (side_parts r))) (s r)
+check_shows k s alike is r at more =
+    let test = side_in_parens r (at + length (spelling k)) (fixed kind.Semicolon ∷ more) in
+    put at _ (fixed k ∷ (printed.in_parens (side_parts r) ++ (fixed kind.Semicolon ∷ more)))
+    (ap (λ (ps : List Part). fixed k ∷ ps) (append_assoc (printed.in_parens (side_parts r)) (fixed kind.Semicolon ∷ []) more))
+    (record {
+      found = s test.found;
+      next = test.next + 1;
+      same = alike test.found r test.same;
+      reads = is _ _ _ _ _ (takes refl) test.reads (takes refl);
+    })
+
 pub simple_shows : (s : Simple Name Name Name) → SimpleInGrammar s → Shows IsSimple unplaced_simple (simple_parts s) s
 simple_shows skip ok at more = record { found = skip; next = at + 4 + 1; same = refl; reads = is_skip (takes refl) (takes refl) }
 simple_shows leave ok at more = record { found = leave; next = at + 6 + 1; same = refl; reads = is_return (takes refl) (takes refl) }
@@ -49,25 +66,9 @@ simple_shows (goto l) ok at more =
       reads = is_goto (takes refl) (is_name refl) (takes refl);
     }
 simple_shows (assert r) ok at more =
-    let test = side_in_parens r (at + 6) (fixed kind.Semicolon ∷ more) in
-    put at _ (fixed kind.Assert ∷ (printed.in_parens (side_parts r) ++ (fixed kind.Semicolon ∷ more)))
-    (ap (λ (ps : List Part). fixed kind.Assert ∷ ps) (append_assoc (printed.in_parens (side_parts r)) (fixed kind.Semicolon ∷ []) more))
-    (record {
-      found = assert test.found;
-      next = test.next + 1;
-      same = ap assert test.same;
-      reads = is_assert (takes refl) test.reads (takes refl);
-    })
+    check_shows kind.Assert assert (λ p q e. ap assert e) (λ ts us vs rest q x y z. is_assert x y z) r at more
 simple_shows (assume r) ok at more =
-    let test = side_in_parens r (at + 6) (fixed kind.Semicolon ∷ more) in
-    put at _ (fixed kind.Assume ∷ (printed.in_parens (side_parts r) ++ (fixed kind.Semicolon ∷ more)))
-    (ap (λ (ps : List Part). fixed kind.Assume ∷ ps) (append_assoc (printed.in_parens (side_parts r)) (fixed kind.Semicolon ∷ []) more))
-    (record {
-      found = assume test.found;
-      next = test.next + 1;
-      same = ap assume test.same;
-      reads = is_assume (takes refl) test.reads (takes refl);
-    })
+    check_shows kind.Assume assume (λ p q e. ap assume e) (λ ts us vs rest q x y z. is_assume x y z) r at more
 simple_shows (assign xs rs) ok at more =
     let behind_targets : List Part = space ∷ fixed kind.Assign ∷ space ∷ (separated side_parts rs ++ (fixed kind.Semicolon ∷ more)) in
     let targets = list_shows IsName unplaced name_parts name_shows xs ok.0 at behind_targets in

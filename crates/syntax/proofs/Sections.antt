@@ -15,23 +15,22 @@ use Rattle.syntax.proofs.Fixes.{Shrinks-Strict-bind, Agree-same, Agree-bind, Agr
 use Rattle.syntax.proofs.Exactly.{chosen}
 use Rattle.syntax.proofs.Parts.{strict_name, strict_names, strict_rights, strict_arguments, strict_expression, strict_test}
 
+-- what is read last, and a semicolon behind it
+shrinks_ended : {X : Type 0} {p : Parser X} (deed : X → Deed) → Strict p → Shrinks (p >>= λ x. take kind.Semicolon >>= λ _. give (deed x))
+shrinks_ended deed strict =
+    Shrinks-bind (Strict-Shrinks strict)
+    (λ x. Shrinks-bind (Strict-Shrinks (Strict-take kind.Semicolon)) (λ _. Shrinks-give (deed x)))
+
 pub strict_assignment : Strict assignment
 unfolding assignment
 strict_assignment =
     Strict-bind strict_names
     (λ xs.
-    Shrinks-bind (Strict-Shrinks (Strict-take kind.Assign))
-    (λ _.
-    Shrinks-bind (Strict-Shrinks strict_rights)
-    (λ rs. Shrinks-bind (Strict-Shrinks (Strict-take kind.Semicolon)) (λ _. Shrinks-give (simple (assign xs rs))))))
+    Shrinks-bind (Strict-Shrinks (Strict-take kind.Assign)) (λ _. shrinks_ended (λ rs. simple (assign xs rs)) strict_rights))
 
 pub strict_calling : Strict calling
 unfolding calling
-strict_calling =
-    Strict-bind strict_name
-    (λ p.
-    Shrinks-bind (Strict-Shrinks strict_arguments)
-    (λ es. Shrinks-bind (Strict-Shrinks (Strict-take kind.Semicolon)) (λ _. Shrinks-give (simple (call p es)))))
+strict_calling = Strict-bind strict_name (λ p. shrinks_ended (λ es. simple (call p es)) strict_arguments)
 
 pub strict_asking : Strict asking
 unfolding asking
@@ -39,11 +38,7 @@ strict_asking =
     Strict-bind strict_name
     (λ x.
     Shrinks-bind (Strict-Shrinks (Strict-take kind.Assign))
-    (λ _.
-    Shrinks-bind (Strict-Shrinks strict_name)
-    (λ p.
-    Shrinks-bind (Strict-Shrinks strict_arguments)
-    (λ es. Shrinks-bind (Strict-Shrinks (Strict-take kind.Semicolon)) (λ _. Shrinks-give (simple (call_for x p es)))))))
+    (λ _. Shrinks-bind (Strict-Shrinks strict_name) (λ p. shrinks_ended (λ es. simple (call_for x p es)) strict_arguments)))
 
 pub strict_giving : Strict giving
 unfolding giving

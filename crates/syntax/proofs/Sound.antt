@@ -1,10 +1,10 @@
 -- The function that reads statements is sound and complete for the grammar of statements.
 use Rattle.std.proofs.Common.{◌≡◌, Bool, true, false, cond, ◌&&◌, List, [], ◌∷◌, Option, Some, None, refl, ◌⊎◌, inl, inr}
-use Rattle.language.specs.Tree.{Name, Simple, skip, assign, assert, assume, goto, leave, leave_with, call, call_for, Mark, Block, done}
+use Rattle.language.specs.Tree.{Name, RightSide, Simple, skip, assign, assert, assume, goto, leave, leave_with, call, call_for, Mark, Block, done}
 use Rattle.tokens.specs.declared.vocabulary.Kind.TheVariants as kind
 use Rattle.tokens.specs.Token.{Tok, same_kind}
 use Rattle.syntax.specs.Parser.{Parser, give, refuse, ◌>>=◌, begins, take}
-use Rattle.syntax.specs.Grammar.{takes, name_at, IsMarked, bare, labelled, IsSimple, is_skip, is_return, is_give, is_goto, is_assert}
+use Rattle.syntax.specs.Grammar.{Takes, takes, InParens, IsRight, name_at, IsMarked, bare, labelled, IsSimple, is_skip, is_return, is_give, is_goto, is_assert}
 use Rattle.syntax.specs.Grammar.{is_assume, is_assign, is_call, is_call_for, IsSome, Statements, nothing_more, statement, if_statement}
 use Rattle.syntax.specs.Grammar.{while_statement}
 use Rattle.trees.specs.Trees.{Deed, simple, branch, repeat, Item, before, marked_before}
@@ -149,23 +149,22 @@ module _ (f : Unit {0} → Parser (Block Name Name Name)) (sound : Finds Found f
       plain_found (t ∷ ts) (goto b.x) c.us
       (is_goto (takes is) (exactly_name.finds ts b.x b.us b.first) (take_finds kind.Semicolon b.us c.x c.us c.first).0) d rest c.second
 
+  test_finds : (s : RightSide Name → Simple Name Name Name)
+      → ((us rest : List Tok) (r : RightSide Name) → InParens IsRight ts r us → Takes kind.Semicolon us rest → IsSimple (t ∷ ts) (s r) rest)
+      → FindsDeed (λ us. (condition >>= λ r. take kind.Semicolon >>= λ _. give (simple (s r))) ts) (t ∷ ts)
+  test_finds s is d rest e =
+      let b = between condition (λ r. take kind.Semicolon >>= λ _. give (simple (s r))) ts d rest e in
+      let c = between (take kind.Semicolon) (λ _. give (simple (s b.x))) b.us d rest b.second in
+      plain_found (t ∷ ts) (s b.x) c.us
+      (is b.us c.us b.x (exactly_test.finds ts b.x b.us b.first) (take_finds kind.Semicolon b.us c.x c.us c.first).0) d rest c.second
+
   assert_finds : t.kind ≡ kind.Assert
       → FindsDeed (λ us. (condition >>= λ r. take kind.Semicolon >>= λ _. give (simple (assert r))) ts) (t ∷ ts)
-  assert_finds is d rest e =
-      let b = between condition (λ r. take kind.Semicolon >>= λ _. give (simple (assert r))) ts d rest e in
-      let c = between (take kind.Semicolon) (λ _. give (simple (assert b.x))) b.us d rest b.second in
-      plain_found (t ∷ ts) (assert b.x) c.us
-      (is_assert (takes is) (exactly_test.finds ts b.x b.us b.first) (take_finds kind.Semicolon b.us c.x c.us c.first).0) d rest
-      c.second
+  assert_finds is = test_finds assert (λ us rest r p q. is_assert (takes is) p q)
 
   assume_finds : t.kind ≡ kind.Assume
       → FindsDeed (λ us. (condition >>= λ r. take kind.Semicolon >>= λ _. give (simple (assume r))) ts) (t ∷ ts)
-  assume_finds is d rest e =
-      let b = between condition (λ r. take kind.Semicolon >>= λ _. give (simple (assume r))) ts d rest e in
-      let c = between (take kind.Semicolon) (λ _. give (simple (assume b.x))) b.us d rest b.second in
-      plain_found (t ∷ ts) (assume b.x) c.us
-      (is_assume (takes is) (exactly_test.finds ts b.x b.us b.first) (take_finds kind.Semicolon b.us c.x c.us c.first).0) d rest
-      c.second
+  assume_finds is = test_finds assume (λ us rest r p q. is_assume (takes is) p q)
 
   if_finds : t.kind ≡ kind.If → FindsDeed (λ us. branching (f tt) ts) (t ∷ ts)
   if_finds is d rest e =

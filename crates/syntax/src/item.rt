@@ -1,29 +1,21 @@
-//! What stands one after the other, and the loops that read it.
+//! What written one after the other, and the loops that read it.
 
 ghost use Rattle.std.specs.Prelude.{◌≡◌, map, Bool, List};
 ghost use Rattle.syntax.specs.Exact.{list, repeated};
 ghost use Rattle.syntax.specs.Gives.{Parses, Shorter};
-ghost use Rattle.syntax.specs.Parser.{Parser, Strict};
+ghost use Rattle.syntax.specs.Parser.{Strict};
 ghost use Rattle.tokens.specs.Token.{Tok, toks_of};
 
 use crate::reader::{Read, Reader, begins, put};
+use crate::written::Written;
 use std::alloc::Allocator;
 use tokens::{Kind, Token};
 
-/// What stands one after the other, as the names of a declaration do.
-pub trait Item<A: Allocator + Clone>: Sized + Drop {
-    // The trees that items stand for.
-    ghost Tree: { Type 0 };
-
-    // The tree that an item stands for.
-    ghost tree: { Self → Tree };
-
-    // What the grammar reads as an item.
-    ghost grammar: { Parser Tree };
-
+/// What written one after the other, as the names of a declaration do.
+pub trait Item<A: Allocator + Clone>: Written + Sized + Drop {
     /// Reads an item.
     fn read<'t>(reader: &Reader<'_, A>, tokens: &'t [Token<'t>]) -> Read<'t, Self>
-        ensures gives { Parses tree result grammar tokens.now }
+        ensures gives { Parses Self.tree result Self.grammar tokens.now }
         ensures shorter { Shorter result tokens.now };
 }
 

@@ -15,6 +15,7 @@ mod reader;
 mod reading;
 mod show;
 mod statement;
+mod written;
 
 pub use fault::ReadFault;
 pub use laws::texts_have_one_tree;

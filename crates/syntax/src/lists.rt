@@ -14,16 +14,6 @@ use tokens::{Kind, Token};
 use trees::{Expr, Name, Rhs};
 
 impl<A: Allocator + Clone> Item<A> for Name<A> {
-    ghost use Rattle.language.specs.Tree as tree;
-    ghost use Rattle.syntax.specs.Exact.{name};
-    ghost use Rattle.trees.specs.Trees.{name_of};
-
-    ghost Tree = { tree.Name };
-
-    ghost tree = { name_of };
-
-    ghost grammar = { name };
-
     fn read<'t>(reader: &Reader<'_, A>, tokens: &'t [Token<'t>]) -> Read<'t, Name<A>> {
         let (token, rest) = reader.take(Kind::Id, tokens)?;
         Ok((reader.name(&token)?, rest))
@@ -31,16 +21,6 @@ impl<A: Allocator + Clone> Item<A> for Name<A> {
 }
 
 impl<A: Allocator + Clone> Item<A> for Rhs<A> {
-    ghost use Rattle.language.specs.Tree as tree;
-    ghost use Rattle.syntax.specs.Exact.{right};
-    ghost use Rattle.trees.specs.Trees.{rhs_of};
-
-    ghost Tree = { tree.RightSide tree.Name };
-
-    ghost tree = { rhs_of };
-
-    ghost grammar = { right };
-
     /// Reads `?` or an expression.
     fn read<'t>(reader: &Reader<'_, A>, tokens: &'t [Token<'t>]) -> Read<'t, Rhs<A>> {
         if begins(Kind::Any, tokens) {
@@ -53,16 +33,6 @@ impl<A: Allocator + Clone> Item<A> for Rhs<A> {
 }
 
 impl<A: Allocator + Clone> Item<A> for Expr<A> {
-    ghost use Rattle.language.specs.Tree as tree;
-    ghost use Rattle.syntax.specs.Exact.{expression};
-    ghost use Rattle.trees.specs.Trees.{expr_of};
-
-    ghost Tree = { tree.Expression tree.Name };
-
-    ghost tree = { expr_of };
-
-    ghost grammar = { expression };
-
     fn read<'t>(reader: &Reader<'_, A>, tokens: &'t [Token<'t>]) -> Read<'t, Expr<A>> {
         reader.expression(0, tokens)
     }

@@ -24,16 +24,6 @@ fn sign(op: Op) -> &'static str
 }
 
 impl<N: Allocator> Show for Name<N> {
-    ghost use Rattle.language.specs.Tree as tree;
-    ghost use Rattle.syntax.specs.Printed.{name_parts};
-    ghost use Rattle.trees.specs.Trees.{name_of};
-
-    ghost Tree = { tree.Name };
-
-    ghost tree = { name_of };
-
-    ghost parts = { name_parts };
-
     fn print<A: Allocator>(&self, out: &mut String<A>) -> Result<(), AllocError> {
         out.push_str(self.text.as_str())
     }
@@ -65,16 +55,6 @@ fn print_operand<N: Allocator, A: Allocator>(
 }
 
 impl<N: Allocator> Show for Expr<N> {
-    ghost use Rattle.language.specs.Tree as tree;
-    ghost use Rattle.syntax.specs.Printed.{expression_parts};
-    ghost use Rattle.trees.specs.Trees.{expr_of};
-
-    ghost Tree = { tree.Expression tree.Name };
-
-    ghost tree = { expr_of };
-
-    ghost parts = { expression_parts };
-
     /// Prints the expression, without parentheses around it.
     fn print<A: Allocator>(&self, out: &mut String<A>) -> Result<(), AllocError> {
         match self {
@@ -91,16 +71,6 @@ impl<N: Allocator> Show for Expr<N> {
 }
 
 impl<N: Allocator> Show for Rhs<N> {
-    ghost use Rattle.language.specs.Tree as tree;
-    ghost use Rattle.syntax.specs.Printed.{side_parts};
-    ghost use Rattle.trees.specs.Trees.{rhs_of};
-
-    ghost Tree = { tree.RightSide tree.Name };
-
-    ghost tree = { rhs_of };
-
-    ghost parts = { side_parts };
-
     fn print<A: Allocator>(&self, out: &mut String<A>) -> Result<(), AllocError> {
         match self {
             Rhs::Any => out.push_str("?"),

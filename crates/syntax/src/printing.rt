@@ -29,16 +29,6 @@ fn print_declaration<N: Allocator, A: Allocator>(
 }
 
 impl<N: Allocator> Show for Proc<N> {
-    ghost use Rattle.language.specs.Tree.{Procedure};
-    ghost use Rattle.syntax.specs.Printed.{procedure_parts};
-    ghost use Rattle.trees.specs.Trees.{proc_of};
-
-    ghost Tree = { Procedure };
-
-    ghost tree = { proc_of };
-
-    ghost parts = { procedure_parts };
-
     fn print<A: Allocator>(&self, out: &mut String<A>) -> Result<(), AllocError> {
         self.name.print(out)?;
         out.push_str("(")?;
@@ -51,16 +41,6 @@ impl<N: Allocator> Show for Proc<N> {
 }
 
 impl<N: Allocator> Show for Thread<N> {
-    ghost use Rattle.language.specs.Tree.{ThreadLine};
-    ghost use Rattle.syntax.specs.Printed.{thread_parts};
-    ghost use Rattle.trees.specs.Trees.{thread_of};
-
-    ghost Tree = { ThreadLine };
-
-    ghost tree = { thread_of };
-
-    ghost parts = { thread_parts };
-
     fn print<A: Allocator>(&self, out: &mut String<A>) -> Result<(), AllocError> {
         out.push_str("thread ")?;
         self.name.print(out)?;

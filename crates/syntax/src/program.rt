@@ -77,16 +77,6 @@ impl<'a, A: Allocator + Clone> Reader<'a, A> {
 }
 
 impl<A: Allocator + Clone> Item<A> for Proc<A> {
-    ghost use Rattle.language.specs.Tree.{Procedure};
-    ghost use Rattle.syntax.specs.Exact.{procedure};
-    ghost use Rattle.trees.specs.Trees.{proc_of};
-
-    ghost Tree = { Procedure };
-
-    ghost tree = { proc_of };
-
-    ghost grammar = { procedure };
-
     #[tactic(auto, unfolding(crate::specs::Exact::procedure))]
     fn read<'t>(reader: &Reader<'_, A>, tokens: &'t [Token<'t>]) -> Read<'t, Proc<A>> {
         let (name, opened) = Name::read(reader, tokens)?;
@@ -117,16 +107,6 @@ impl<A: Allocator + Clone> Repeated<A> for Proc<A> {
 }
 
 impl<A: Allocator + Clone> Item<A> for Thread<A> {
-    ghost use Rattle.language.specs.Tree.{ThreadLine};
-    ghost use Rattle.syntax.specs.Exact.{thread_line};
-    ghost use Rattle.trees.specs.Trees.{thread_of};
-
-    ghost Tree = { ThreadLine };
-
-    ghost tree = { thread_of };
-
-    ghost grammar = { thread_line };
-
     #[tactic(auto, using(crate::proofs::Closings::closed_seen), unfolding(crate::specs::Exact::thread_line))]
     fn read<'t>(reader: &Reader<'_, A>, tokens: &'t [Token<'t>]) -> Read<'t, Thread<A>> {
         let (word, others) = reader.take(Kind::Thread, tokens)?;

@@ -1,26 +1,17 @@
 //! What is printed one after the other, and the loops that print it.
 
-ghost use Rattle.std.specs.Prelude.{List, map};
-ghost use Rattle.tokens.specs.Parts.{Part};
+ghost use Rattle.std.specs.Prelude.{map};
 ghost use Rattle.syntax.specs.Grammar.{joined};
 ghost use Rattle.syntax.specs.Printed.{Prints, separated};
 
+use crate::written::Written;
 use std::alloc::{AllocError, Allocator};
 
 /// What is printed one after the other, as the names of a declaration are.
-pub trait Show {
-    // The trees that values stand for.
-    ghost Tree: { Type 0 };
-
-    // The tree that a value stands for.
-    ghost tree: { Self → Tree };
-
-    // The printed form of a tree.
-    ghost parts: { Tree → List Part };
-
+pub trait Show: Written {
     /// Prints the value.
     fn print<A: Allocator>(&self, out: &mut String<A>) -> Result<(), AllocError>
-        ensures { Prints result out.old out.new (parts (tree self.now)) };
+        ensures { Prints result out.old out.new (Self.parts (Self.tree self.now)) };
 }
 
 /// Prints values, separated by commas.

@@ -340,28 +340,23 @@ module _ {T Part : Type 0} (before : T → T → Type 0) (part : ℕ → T → P
             λ k l x y e ends.
             elim (at_append v.own w.own k (l, x) e) [ inl t ↦ knows_v.owns k l x y t ends | inr t ↦ knows_w.owns t.0 l x y t.1 ends ];
       } in
+      -- the view that knew the log is in the one that took both
+      let taken : (u : View T) → r.known.1 ≡ u → length u.own ≤ length b.own
+      → ((u.hand.seen ≡ r.log) ⊎ (u.told ≡ r.log) → (b.hand.seen ≡ r.log) ⊎ (b.told ≡ r.log)) → Known r.log (set vs other z) =
+      λ u is more saw.
+      let at = subst (λ (u : View T). (0 < length u.own) × ((u.hand.seen ≡ r.log) ⊎ (u.told ≡ r.log))) is (r.known.3, r.known.4) in (
+        id,
+        b,
+        set_else vs other id z (λ i. apart (sym i)) ∙ set_here s.views id b (at_inside s.views id v is_at),
+        omega (arith, at.0, more),
+        saw at.1,
+      ) in
       let known : Known r.log (set vs other z) = dite (ℕ_discrete r.known.0 id)
-      (λ (e : r.known.0 ≡ id).
-      let is : r.known.1 ≡ v = some-injective r.known.1 v (sym r.known.2 ∙ (ap (get_elem? s.views) e ∙ is_at)) in
-      let K : View T → Type 0 = λ u. (0 < length u.own) × ((u.hand.seen ≡ r.log) ⊎ (u.told ≡ r.log)) in
-      let at_v = subst K is (r.known.3, r.known.4) in (
-        id,
-        b,
-        set_else vs other id z (λ i. apart (sym i)) ∙ set_here s.views id b (at_inside s.views id v is_at),
-        omega (arith, at_v.0),
-        elim at_v.1 [ inl q ↦ inl q | inr q ↦ absurd (not_told s r v.told none_v q) ],
-      ))
+      (λ (e : r.known.0 ≡ id). taken v (some-injective r.known.1 v (sym r.known.2 ∙ (ap (get_elem? s.views) e ∙ is_at))) (omega (arith, len))
+      (λ q. elim q [ inl q ↦ inl q | inr q ↦ absurd (not_told s r v.told none_v q) ]))
       (λ (ne : r.known.0 ≢ id). dite (ℕ_discrete r.known.0 other)
-      (λ (e : r.known.0 ≡ other).
-      let is : r.known.1 ≡ w = some-injective r.known.1 w (sym r.known.2 ∙ (ap (get_elem? s.views) e ∙ is_w)) in
-      let K : View T → Type 0 = λ u. (0 < length u.own) × ((u.hand.seen ≡ r.log) ⊎ (u.told ≡ r.log)) in
-      let at_w = subst K is (r.known.3, r.known.4) in (
-        id,
-        b,
-        set_else vs other id z (λ i. apart (sym i)) ∙ set_here s.views id b (at_inside s.views id v is_at),
-        omega (arith, at_w.0),
-        elim at_w.1 [ inl q ↦ inr q | inr q ↦ absurd (not_told s r w.told none_w q) ],
-      ))
+      (λ (e : r.known.0 ≡ other). taken w (some-injective r.known.1 w (sym r.known.2 ∙ (ap (get_elem? s.views) e ∙ is_w))) (omega (arith, len))
+      (λ q. elim q [ inl q ↦ inr q | inr q ↦ absurd (not_told s r w.told none_w q) ]))
       (λ (no : r.known.0 ≢ other). (
         r.known.0,
         r.known.1,

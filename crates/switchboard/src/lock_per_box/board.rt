@@ -1,15 +1,13 @@
 //! The board with a lock for each mailbox.
-ghost use Rattle.std.specs.Prelude.{◌≡◌, ℕ, Bool, ◌<◌, ◌≤◌, ◌∷◌, [], MatchResult};
+ghost use Rattle.std.specs.Prelude.{◌≡◌, ℕ, Bool, ◌<◌, ◌≤◌, ◌∷◌, map, [], MatchResult};
 ghost use Rattle.std.specs.Prelude.{vec_len, vec_capacity};
 ghost use Rattle.ticket_lock.specs.Calls.{IsSameSeat};
-ghost use Rattle.post_ledger.specs.Orders.{own, HasJob};
-ghost use Rattle.switchboard.specs.declared.lock_per_box.knowing.Own.{Own};
-ghost use Rattle.switchboard.specs.Sights.{told_by};
-ghost use Rattle.switchboard.specs.Promises.{WasSpent, WasPosted, WasRefused, Took, WasDone};
-ghost use Rattle.switchboard.specs.Promises.{MadeAbort, Learned};
-ghost use Rattle.switchboard.specs.PerBox.{IsBoardTable};
+ghost use Rattle.post_ledger.specs.Orders.{HasJob};
+ghost use Rattle.switchboard.specs.Promises.{WasPosted, WasRefused, AreAll, Settles};
+ghost use Rattle.switchboard.specs.PerBox.{IsBoardTable, HasOwnJob};
 ghost use Rattle.switchboard.specs.BoxAnswers.{TookOut, PutIn};
 
+use crate::board::Board;
 use crate::calls::{Cause, Job, PostFault, Taken};
 use crate::lock_per_box::knowing::{Ground, Knowing};
 use crate::lock_per_box::outstanding::{
@@ -19,9 +17,10 @@ use crate::lock_per_box::pass::{BoxPass, BoxTold};
 use crate::lock_per_box::rule::Boxes;
 use crate::lock_per_box::visiting::{enter_box, leave_box};
 use crate::mail::Mail;
+use crate::world::Shown;
 use atomic_table::Table;
-use post_ledger::Mailbox;
-use std::alloc::Allocator;
+use post_ledger::{Ledger, Mailbox};
+use std::alloc::{AllocError, Allocator};
 use std::sync::Wait;
 use ticket_lock::Spent;
 
@@ -66,9 +65,7 @@ fn put<F: Fn(), W, M: Mail<W>, A: Allocator>(
 ) -> Result<(), PostFault<M>>
     requires callable { F.IsAlwaysCallable held.now }
     requires table { (seat.old.table_id ≡ shared.now.table_id) × (0 < shared.now.table_id.words) }
-    requires job { (o : Own M) × (seat.old.me.0.lanes ≡ o ∷ [])
-        × (own o.number seat.old.me.0.seen.order ≡ o.events)
-        × HasJob o.number job.now seat.old.me.0.seen.order }
+    requires job { HasOwnJob seat.old.me.0 job.now }
     requires budget { 0 < seat.old.me.0.budget }
     ensures { IsSameSeat seat.old seat.new
         × PutIn M.fits number job.now message result mailbox.old mailbox.new seat.old.me
@@ -124,15 +121,53 @@ impl<M: Mail<W>, W, A: Allocator> LockPerBox<M, W, A> {
         leave_box(shared, &mut pass.seat, to, mailbox);
         answer
     }
+}
 
-    pub(crate) fn take<R: Wait>(
+impl<M: Mail<W>, W, A: Allocator> Board<M, W, A> for LockPerBox<M, W, A> {
+    type Pass = BoxPass<M, W, A>;
+
+    type Told = BoxTold<M, W, A>;
+
+    ghost identity = { λ b. b.table.shared.table_id };
+
+    ghost mailboxes = { λ b. b.table.shared.key.boxes };
+
+    ghost sight = { λ p. p };
+
+    ghost account = { λ t. t };
+
+    fn open_with_budget(
+        alloc: A,
+        world: &W,
+        boxes: u8,
+        to: u8,
+        first: M,
+        budget: u64,
+    ) -> Result<(Self, Vec<BoxPass<M, W, A>, A>), AllocError>
+    where
+        A: Clone,
+    {
+        let about = Ground {
+            world: Shown::of(world),
+            boxes,
+            to,
+            first,
+        };
+        LockPerBox::of(alloc, world, about, budget)
+    }
+
+    fn post<R: Wait>(
         &self,
         rt: &R,
         pass: &mut BoxPass<M, W, A>,
-    ) -> Result<Taken<M>, Spent>
-        requires { pass.old.board ≡ self.now.table.shared.table_id }
-        ensures { Took M.fits result pass.old pass.new }
-    {
+        job: &Job,
+        to: u8,
+        message: M,
+    ) -> Result<(), PostFault<M>> {
+        self.post_held(rt, pass, job, to, message, &|| {})
+    }
+
+    fn take<R: Wait>(&self, rt: &R, pass: &mut BoxPass<M, W, A>) -> Result<Taken<M>, Spent> {
         if pass.left == 0 {
             return Err(Spent);
         }
@@ -151,17 +186,12 @@ impl<M: Mail<W>, W, A: Allocator> LockPerBox<M, W, A> {
         Ok(answer)
     }
 
-    pub(crate) fn done<R: Wait>(
+    fn done<R: Wait>(
         &self,
         rt: &R,
         pass: &mut BoxPass<M, W, A>,
         job: Job,
-    ) -> Result<(), (Job, Spent)>
-        requires board { pass.old.board ≡ self.now.table.shared.table_id }
-        requires job { HasJob pass.old.number job pass.old.seen.order }
-        ensures { MatchResult result (λ _. WasDone M.fits job pass.old pass.new)
-            (λ e. (e.0 ≡ job) × WasSpent pass.old pass.new) }
-    {
+    ) -> Result<(), (Job, Spent)> {
         if pass.left == 0 {
             return Err((job, Spent));
         }
@@ -175,11 +205,8 @@ impl<M: Mail<W>, W, A: Allocator> LockPerBox<M, W, A> {
         Ok(())
     }
 
-    pub(crate) fn abort(&self, pass: &mut BoxPass<M, W, A>, job: Option<Job>, cause: Cause)
-        requires { pass.old.board ≡ self.now.table.shared.table_id }
-        ensures { MadeAbort M.fits
-            (record { by = pass.old.number; cause = cause }) pass.old pass.new }
-    {
+    fn abort<R: Wait>(&self, rt: &R, pass: &mut BoxPass<M, W, A>, job: Option<Job>, cause: Cause) {
+        let _ = rt;
         if let Some(job) = job {
             let Job { take: _ } = job;
         }
@@ -190,22 +217,24 @@ impl<M: Mail<W>, W, A: Allocator> LockPerBox<M, W, A> {
         raise(&self.table.shared, &mut pass.seat, pass.number, cause);
     }
 
-    pub(crate) fn tell(&self, pass: &mut BoxPass<M, W, A>) -> BoxTold<M, W, A>
-        requires { pass.old.board ≡ self.now.table.shared.table_id }
-        ensures same { pass.new ≡ pass.old }
-        ensures told { result ≡ told_by pass.old }
-    {
+    fn tell(&self, pass: &mut BoxPass<M, W, A>) -> BoxTold<M, W, A> {
         BoxTold {
             seat: self.table.shared.split_seat::<TellsSeen>(&mut pass.seat),
         }
     }
 
-    pub(crate) fn learn(&self, pass: &mut BoxPass<M, W, A>, told: BoxTold<M, W, A>)
-        requires { (pass.old.board ≡ self.now.table.shared.table_id)
-            × (told.board ≡ self.now.table.shared.table_id) }
-        ensures { Learned M.fits told pass.old pass.new }
-    {
+    fn learn(&self, pass: &mut BoxPass<M, W, A>, told: BoxTold<M, W, A>) {
         let BoxTold { seat } = told;
         take_in(&self.table.shared, &mut pass.seat, seat);
+    }
+
+    fn into_ledger(self, passes: &mut Vec<BoxPass<M, W, A>, A>) -> Ledger<M, A>
+        requires { AreAll self.table.shared.table_id self.table.shared.key.boxes
+            (map (λ p. p) passes.old.items) }
+        ensures empty { passes.new.items ≡ [] }
+        ensures settles { Settles M.fits self.table.shared.key.boxes (map (λ p. p) passes.old.items)
+            result.histories.items result.closed }
+    {
+        LockPerBox::into_ledger(self, passes)
     }
 }

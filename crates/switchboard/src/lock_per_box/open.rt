@@ -124,31 +124,26 @@ fn deal<W, M: Mail<W>, A: Allocator>(
 }
 
 impl<M: Mail<W>, W, A: Allocator> LockPerBox<M, W, A> {
-    pub(crate) fn open_with_budget(
+    /// The board that begins as this says, and its passes.
+    pub(crate) fn of(
         alloc: A,
         world: &W,
-        boxes: u8,
-        to: u8,
-        first: M,
+        about: Ground<M, W>,
         budget: u64,
     ) -> Result<(Self, Vec<BoxPass<M, W, A>, A>), AllocError>
     where
         A: Clone,
-        requires boxes { (to < boxes) × (boxes ≤ 64) }
+        requires world { about.world.value ≡ world.now }
+        requires boxes { (about.to < about.boxes) × (about.boxes ≤ 64) }
         requires budget { (2 ≤ budget) × (budget ≤ 2 ^ 56) }
-        requires fits { M.fits world.now to first }
-        ensures { IfOk result (λ r. (r.0.table.shared.key.boxes ≡ boxes) × (r.1.items
+        requires fits { M.fits world.now about.to about.first }
+        ensures { IfOk result (λ r. (r.0.table.shared.key.boxes ≡ about.boxes) × (r.1.items
             ≡ fresh_sights r.0.table.shared.table_id budget
-            (opened world.now boxes to first) 0 boxes)) }
+            (opened world.now about.boxes about.to about.first) 0 about.boxes)) }
     {
+        let boxes = about.boxes;
         let room = Vec::with_capacity(alloc.clone()?, usize::from(boxes))?;
         let mut passes = Vec::with_capacity(alloc.clone()?, usize::from(boxes))?;
-        let about = Ground {
-            world: Shown::of(world),
-            boxes,
-            to,
-            first,
-        };
         let (table, seat) = lay(alloc, &about)?;
         deal(&table.shared, seat, &mut passes, world, boxes, budget - 1);
         Ok((LockPerBox { table, room }, passes))

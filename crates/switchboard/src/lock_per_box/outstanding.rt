@@ -1,11 +1,10 @@
 //! The steps on the word of outstanding posts, and the plays of a board with a lock for each mailbox.
 ghost use Rattle.std.specs.Prelude.{◌≡◌, ℕ, ◌<◌, ◌∷◌, [], false};
 ghost use Rattle.ticket_lock.specs.Calls.{IsSameSeat};
-ghost use Rattle.post_ledger.specs.Orders.{own, HasJob};
 ghost use Rattle.switchboard.specs.declared.calls.Abort.{Abort};
 ghost use Rattle.switchboard.specs.declared.lock_per_box.knowing.Own.{Own};
 ghost use Rattle.switchboard.specs.Knowing.{counted_up, counted_down, hand_at, merged};
-ghost use Rattle.switchboard.specs.PerBox.{LookedAtWord, Raised, SeatTookIn};
+ghost use Rattle.switchboard.specs.PerBox.{HasOwnJob, LookedAtWord, Raised, SeatTookIn};
 
 use crate::calls::{Cause, Job};
 use crate::lock_per_box::knowing::{Ground, Knowing};
@@ -81,9 +80,7 @@ fn count_step<J: About, W, M: Mail<W>, A: Allocator>(
     job: &Job,
 )
     requires table { (seat.old.table_id ≡ shared.now.table_id) × (0 < shared.now.table_id.words) }
-    requires job { (o : Own M) × (seat.old.me.0.lanes ≡ o ∷ [])
-        × (own o.number seat.old.me.0.seen.order ≡ o.events)
-        × HasJob o.number J.job seat.old.me.0.seen.order }
+    requires job { HasOwnJob seat.old.me.0 J.job }
     requires budget { 0 < seat.old.me.0.budget }
     ensures { IsSameSeat seat.old seat.new
         × (seat.new.me ≡ (counted_up J.job seat.old.me.0, seat.old.me.1)) }
@@ -99,9 +96,7 @@ pub(crate) fn count_up<W, M: Mail<W>, A: Allocator>(
     job: &Job,
 )
     requires table { (seat.old.table_id ≡ shared.now.table_id) × (0 < shared.now.table_id.words) }
-    requires job { (o : Own M) × (seat.old.me.0.lanes ≡ o ∷ [])
-        × (own o.number seat.old.me.0.seen.order ≡ o.events)
-        × HasJob o.number job.now seat.old.me.0.seen.order }
+    requires job { HasOwnJob seat.old.me.0 job.now }
     requires budget { 0 < seat.old.me.0.budget }
     ensures { IsSameSeat seat.old seat.new
         × (seat.new.me ≡ (counted_up job.now seat.old.me.0, seat.old.me.1)) }

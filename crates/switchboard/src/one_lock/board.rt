@@ -1,9 +1,6 @@
 //! The board behind one lock.
-ghost use Rattle.std.specs.Prelude.{◌≡◌, ◌<◌, ◌≤◌, ◌^◌, map, MatchResult, IfOk, []};
-ghost use Rattle.post_ledger.specs.Orders.{HasJob};
-ghost use Rattle.switchboard.specs.Sights.{opened, fresh_sights, told_by};
-ghost use Rattle.switchboard.specs.Promises.{WasSpent, WasPosted, WasRefused, Took, WasDone};
-ghost use Rattle.switchboard.specs.Promises.{MadeAbort, Learned};
+ghost use Rattle.std.specs.Prelude.{◌≡◌, ◌<◌, ◌≤◌, ◌^◌, map, IfOk, []};
+ghost use Rattle.switchboard.specs.Sights.{opened, fresh_sights};
 ghost use Rattle.switchboard.specs.Promises.{AreAll, Settles};
 
 use crate::board::Board;
@@ -17,7 +14,7 @@ use post_ledger::Ledger;
 use std::alloc::{AllocError, Allocator};
 use std::mem;
 use std::sync::Wait;
-use ticket_lock::{MOST_TICKETS, Spent, TicketLock};
+use ticket_lock::{Spent, TicketLock};
 
 /// All mailboxes, the counts and the abort behind one ticket lock.
 #[derive(Drop)]
@@ -47,143 +44,6 @@ impl<M: Mail<W>, W, A: Allocator> OnePass<M, W, A> {
 }
 
 impl<M: Mail<W>, W, A: Allocator> OneLock<M, W, A> {
-    fn open_with_budget(
-        alloc: A,
-        world: &W,
-        boxes: u8,
-        to: u8,
-        first: M,
-        budget: u64,
-    ) -> Result<(Self, Vec<OnePass<M, W, A>, A>), AllocError>
-    where
-        A: Clone,
-        requires boxes { (to < boxes) × (boxes ≤ 64) }
-        requires budget { (2 ≤ budget) × (budget ≤ 2 ^ 56) }
-        requires fits { M.fits world.now to first }
-        ensures { IfOk result (λ r. (r.0.lock.lanes ≡ boxes)
-            × (r.1.items
-            ≡ fresh_sights r.0.lock.id budget (opened world.now boxes to first) 0 boxes)) }
-    {
-        let book = Book::open(alloc.clone()?, world, boxes, to, first)?;
-        let mut passes = Vec::with_capacity(alloc.clone()?, usize::from(boxes))?;
-        let heap = alloc.clone()?;
-        let Ok((lock, lanes)) = TicketLock::with_budget(alloc, book, boxes, budget) else {
-            return Err(AllocError);
-        };
-        for lane in lanes {
-            passes.push_reserved(OnePass {
-                lane,
-                world: Shown::of(world),
-                boxes,
-                kept: true,
-            });
-        }
-        Ok((OneLock { lock, heap }, passes))
-    }
-
-    fn post<R: Wait>(
-        &self,
-        rt: &R,
-        pass: &mut OnePass<M, W, A>,
-        job: &Job,
-        to: u8,
-        message: M,
-    ) -> Result<(), PostFault<M>>
-        requires board { pass.old.board ≡ self.now.lock.id }
-        requires job { HasJob pass.old.number job.now pass.old.seen.order }
-        requires fits { (to < pass.old.seen.boxes) × M.fits pass.old.seen.world to message }
-        ensures { MatchResult result (λ _. WasPosted M.fits job.now to message pass.old pass.new)
-            (λ f. WasRefused M.fits message f pass.old pass.new) }
-    {
-        if pass.calls() == 0 {
-            return Err(PostFault::Spent(message));
-        }
-        let number = pass.number();
-        let Ok(mut guard) = self.lock.enter(rt, &mut pass.lane) else {
-            unreachable!()
-        };
-        let answer = guard.value().post(number, job, to, message);
-        self.lock.leave(&mut pass.lane, guard);
-        answer
-    }
-
-    fn take<R: Wait>(&self, rt: &R, pass: &mut OnePass<M, W, A>) -> Result<Taken<M>, Spent>
-        requires { pass.old.board ≡ self.now.lock.id }
-        ensures { Took M.fits result pass.old pass.new }
-    {
-        if pass.calls() == 0 {
-            return Err(Spent);
-        }
-        let number = pass.number();
-        let Ok(mut guard) = self.lock.enter(rt, &mut pass.lane) else {
-            unreachable!()
-        };
-        let answer = guard.value().take(number);
-        self.lock.leave(&mut pass.lane, guard);
-        Ok(answer)
-    }
-
-    fn done<R: Wait>(
-        &self,
-        rt: &R,
-        pass: &mut OnePass<M, W, A>,
-        job: Job,
-    ) -> Result<(), (Job, Spent)>
-        requires board { pass.old.board ≡ self.now.lock.id }
-        requires job { HasJob pass.old.number job pass.old.seen.order }
-        ensures { MatchResult result (λ _. WasDone M.fits job pass.old pass.new)
-            (λ e. (e.0 ≡ job) × WasSpent pass.old pass.new) }
-    {
-        if pass.calls() == 0 {
-            return Err((job, Spent));
-        }
-        let number = pass.number();
-        let Ok(mut guard) = self.lock.enter(rt, &mut pass.lane) else {
-            unreachable!()
-        };
-        guard.value().done(number, job);
-        self.lock.leave(&mut pass.lane, guard);
-        Ok(())
-    }
-
-    fn abort<R: Wait>(&self, rt: &R, pass: &mut OnePass<M, W, A>, job: Option<Job>, cause: Cause)
-        requires { pass.old.board ≡ self.now.lock.id }
-        ensures { MadeAbort M.fits
-            (record { by = pass.old.number; cause = cause }) pass.old pass.new }
-    {
-        if let Some(job) = job {
-            let Job { take: _ } = job;
-        }
-        if !pass.kept {
-            return;
-        }
-        let number = pass.number();
-        let Ok(mut guard) = self.lock.enter(rt, &mut pass.lane) else {
-            unreachable!()
-        };
-        pass.kept = false;
-        guard.value().abort(number, cause);
-        self.lock.leave(&mut pass.lane, guard);
-    }
-
-    fn tell(&self, pass: &mut OnePass<M, W, A>) -> OneTold<M, W, A>
-        requires { pass.old.board ≡ self.now.lock.id }
-        ensures same { pass.new ≡ pass.old }
-        ensures told { result ≡ told_by pass.old }
-    {
-        OneTold {
-            note: self.lock.tell(&mut pass.lane),
-        }
-    }
-
-    fn learn(&self, pass: &mut OnePass<M, W, A>, told: OneTold<M, W, A>)
-        requires { (pass.old.board ≡ self.now.lock.id) × (told.board ≡ self.now.lock.id) }
-        ensures { Learned M.fits told pass.old pass.new }
-    {
-        let OneTold { note } = told;
-        self.lock.learn(&mut pass.lane, note);
-    }
-
     fn into_ledger(self, passes: &mut Vec<OnePass<M, W, A>, A>) -> Ledger<M, A>
         requires { AreAll self.lock.id self.lock.lanes passes.old.items }
         ensures empty { passes.new.items ≡ [] }
@@ -212,19 +72,6 @@ impl<M: Mail<W>, W, A: Allocator> Board<M, W, A> for OneLock<M, W, A> {
 
     ghost account = { λ t. t };
 
-    fn open(
-        alloc: A,
-        world: &W,
-        boxes: u8,
-        to: u8,
-        first: M,
-    ) -> Result<(Self, Vec<OnePass<M, W, A>, A>), AllocError>
-    where
-        A: Clone,
-    {
-        OneLock::open_with_budget(alloc, world, boxes, to, first, MOST_TICKETS)
-    }
-
     fn open_with_budget(
         alloc: A,
         world: &W,
@@ -236,7 +83,21 @@ impl<M: Mail<W>, W, A: Allocator> Board<M, W, A> for OneLock<M, W, A> {
     where
         A: Clone,
     {
-        OneLock::open_with_budget(alloc, world, boxes, to, first, budget)
+        let book = Book::open(alloc.clone()?, world, boxes, to, first)?;
+        let mut passes = Vec::with_capacity(alloc.clone()?, usize::from(boxes))?;
+        let heap = alloc.clone()?;
+        let Ok((lock, lanes)) = TicketLock::with_budget(alloc, book, boxes, budget) else {
+            return Err(AllocError);
+        };
+        for lane in lanes {
+            passes.push_reserved(OnePass {
+                lane,
+                world: Shown::of(world),
+                boxes,
+                kept: true,
+            });
+        }
+        Ok((OneLock { lock, heap }, passes))
     }
 
     fn post<R: Wait>(
@@ -247,11 +108,29 @@ impl<M: Mail<W>, W, A: Allocator> Board<M, W, A> for OneLock<M, W, A> {
         to: u8,
         message: M,
     ) -> Result<(), PostFault<M>> {
-        OneLock::post(self, rt, pass, job, to, message)
+        if pass.calls() == 0 {
+            return Err(PostFault::Spent(message));
+        }
+        let number = pass.number();
+        let Ok(mut guard) = self.lock.enter(rt, &mut pass.lane) else {
+            unreachable!()
+        };
+        let answer = guard.value().post(number, job, to, message);
+        self.lock.leave(&mut pass.lane, guard);
+        answer
     }
 
     fn take<R: Wait>(&self, rt: &R, pass: &mut OnePass<M, W, A>) -> Result<Taken<M>, Spent> {
-        OneLock::take(self, rt, pass)
+        if pass.calls() == 0 {
+            return Err(Spent);
+        }
+        let number = pass.number();
+        let Ok(mut guard) = self.lock.enter(rt, &mut pass.lane) else {
+            unreachable!()
+        };
+        let answer = guard.value().take(number);
+        self.lock.leave(&mut pass.lane, guard);
+        Ok(answer)
     }
 
     fn done<R: Wait>(
@@ -260,19 +139,43 @@ impl<M: Mail<W>, W, A: Allocator> Board<M, W, A> for OneLock<M, W, A> {
         pass: &mut OnePass<M, W, A>,
         job: Job,
     ) -> Result<(), (Job, Spent)> {
-        OneLock::done(self, rt, pass, job)
+        if pass.calls() == 0 {
+            return Err((job, Spent));
+        }
+        let number = pass.number();
+        let Ok(mut guard) = self.lock.enter(rt, &mut pass.lane) else {
+            unreachable!()
+        };
+        guard.value().done(number, job);
+        self.lock.leave(&mut pass.lane, guard);
+        Ok(())
     }
 
     fn abort<R: Wait>(&self, rt: &R, pass: &mut OnePass<M, W, A>, job: Option<Job>, cause: Cause) {
-        OneLock::abort(self, rt, pass, job, cause)
+        if let Some(job) = job {
+            let Job { take: _ } = job;
+        }
+        if !pass.kept {
+            return;
+        }
+        let number = pass.number();
+        let Ok(mut guard) = self.lock.enter(rt, &mut pass.lane) else {
+            unreachable!()
+        };
+        pass.kept = false;
+        guard.value().abort(number, cause);
+        self.lock.leave(&mut pass.lane, guard);
     }
 
     fn tell(&self, pass: &mut OnePass<M, W, A>) -> OneTold<M, W, A> {
-        OneLock::tell(self, pass)
+        OneTold {
+            note: self.lock.tell(&mut pass.lane),
+        }
     }
 
     fn learn(&self, pass: &mut OnePass<M, W, A>, told: OneTold<M, W, A>) {
-        OneLock::learn(self, pass, told)
+        let OneTold { note } = told;
+        self.lock.learn(&mut pass.lane, note);
     }
 
     fn into_ledger(self, passes: &mut Vec<OnePass<M, W, A>, A>) -> Ledger<M, A>

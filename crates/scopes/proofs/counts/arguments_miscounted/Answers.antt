@@ -7,7 +7,8 @@ use Rattle.trees.specs.Parts.{passed_by}
 use Rattle.resolved.specs.There.{IsThere}
 use Rattle.resolved.specs.Statements.{statement_of}
 use Rattle.scopes.specs.Faults.{named}
-use Rattle.scopes.proofs.Heads.{head_is, arguments_passed}
+use Rattle.trees.proofs.ByKind.{arguments_passed}
+use Rattle.scopes.proofs.Heads.{head_is}
 use Rattle.scopes.proofs.Found.{moved, compared}
 use Rattle.scopes.proofs.counts.arguments_miscounted.Goals as goal
 

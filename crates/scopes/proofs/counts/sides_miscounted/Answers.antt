@@ -5,7 +5,8 @@ use Rattle.trees.specs.Trees.{name_of, rhs_of}
 use Rattle.trees.specs.Parts.{assigned_by}
 use Rattle.resolved.specs.Statements.{statement_of}
 use Rattle.scopes.specs.Faults.{first_at}
-use Rattle.scopes.proofs.Heads.{head_is, at_is, targets_assigned}
+use Rattle.trees.proofs.ByKind.{targets_assigned}
+use Rattle.scopes.proofs.Heads.{head_is, at_is}
 use Rattle.scopes.proofs.Found.{same, nowhere, compared}
 use Rattle.scopes.proofs.counts.sides_miscounted.Goals as goal
 

@@ -1,19 +1,17 @@
-use Rattle.std.proofs.Common.{arith, ◌+◌, ◌*◌, ◌<◌, ◌++◌, ◌∙◌, ap, refl}
+use Rattle.std.proofs.Common.{arith, ◌++◌, ◌∙◌, ap, refl}
 use Rattle.std.proofs.lemmas.List.{map-append}
 use Rattle.std.proofs.lemmas.Result.{IfOk-weaker}
-use Rattle.trees.specs.Trees.{deed_of, block_of}
+use Rattle.trees.specs.Trees.{deed_of}
 use Rattle.trees.specs.Parts.{first_inside, second_inside}
 use Rattle.resolved.specs.Statements.{lent_statements, statement_of, statements_of, inside}
-use Rattle.language.specs.Sequential.{statements}
-use Rattle.trees.proofs.Held.{held, smaller}
-use Rattle.scopes.proofs.Flat.{one_more, no_more, after_two}
+use Rattle.scopes.proofs.Flat.{less_inside, one_more, no_more, after_two}
 use Rattle.scopes.proofs.statements.+flattening.Goals as goal
 
 pub flatten-flatten_one-requires : goal.flatten-flatten_one-requires
-flatten-flatten_one-requires g t c κs within =
-    let part = smaller c.args.stmts.now c.loop-stmt.stmt-index c.stmt-item.result c.loop-stmt-test.true c.stmt-item.is in
-    let less : 2 * held (deed_of c.stmt-item.result.core) + 2 < 2 * statements (block_of c.args.stmts.now) + 1 = omega (arith, part) in
-    (rw (← c.decreases) less, within)
+flatten-flatten_one-requires g t c κs within = (
+  rw (← c.decreases) (less_inside c.args.stmts.now c.loop-stmt.stmt-index c.stmt-item.result c.loop-stmt-test.true c.stmt-item.is),
+  within,
+)
 
 pub flatten-loop-stmt-preserved : goal.flatten-loop-stmt-preserved
 flatten-loop-stmt-preserved g t c =

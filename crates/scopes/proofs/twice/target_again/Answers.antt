@@ -4,7 +4,7 @@ use Rattle.trees.specs.Trees.{names_of}
 use Rattle.trees.specs.Parts.{assigned_by}
 use Rattle.scopes.specs.Find.{Finds}
 use Rattle.resolved.specs.Statements.{lent, statement_of}
-use Rattle.scopes.proofs.Heads.{head_is, still_repeated, receivers_once}
+use Rattle.scopes.proofs.Heads.{head_is, repeated_assigned}
 use Rattle.scopes.proofs.Found.{same, moved, on_ok}
 use Rattle.scopes.proofs.Pushed.{behind_none}
 use Rattle.scopes.specs.Faults.{Repeated}
@@ -18,6 +18,6 @@ returns g c =
     ∙ (c.targets.ensures ∙ sym (ap assigned_by (head_is c.args.stmt.now)))) in
     on_ok (λ o. Finds (Repeated (lent c.deref.result.now)) o)
     (λ o. Finds (λ n. Repeated (targets_of (statement_of c.args.stmt.now).head) n) o) c.repeated.result
-    (λ o h. same o (still_repeated head) (receivers_once head)
+    (λ o h. same o (λ n. (repeated_assigned head n).1) (λ n. (repeated_assigned head n).0)
     (moved (λ l n. Repeated l n) (lent c.deref.result.now) (assigned_by head) o (sym targets) h))
     c.repeated.ensures

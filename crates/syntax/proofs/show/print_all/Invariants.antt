@@ -7,5 +7,5 @@ use Rattle.syntax.proofs.show.print_all.Given as goal
 -- the text so far, with what is left, is the whole
 abbrev pub invariant-loop-item : goal.invariant-loop-item
 invariant-loop-item g l =
-    string_bytes l.out ++ text_of (joined (map g.T.Show.parts (map g.T.Show.tree (drop l.item-index l.items))))
-    ≡ string_bytes l.initial.out ++ text_of (joined (map g.T.Show.parts (map g.T.Show.tree l.items)))
+    string_bytes l.out ++ text_of (joined (map g.T.Written.parts (map g.T.Written.tree (drop l.item-index l.items))))
+    ≡ string_bytes l.initial.out ++ text_of (joined (map g.T.Written.parts (map g.T.Written.tree l.items)))

@@ -7,5 +7,5 @@ use Rattle.syntax.proofs.show.print_list.Given as goal
 -- the text so far, with what is left, is the whole
 abbrev pub invariant-loop-item : goal.invariant-loop-item
 invariant-loop-item g l =
-    string_bytes l.out ++ text_of (after_commas g.T.Show.parts (map g.T.Show.tree (drop l.item-index l.others)))
-    ≡ string_bytes l.initial.out ++ text_of (after_commas g.T.Show.parts (map g.T.Show.tree l.others))
+    string_bytes l.out ++ text_of (after_commas g.T.Written.parts (map g.T.Written.tree (drop l.item-index l.others)))
+    ≡ string_bytes l.initial.out ++ text_of (after_commas g.T.Written.parts (map g.T.Written.tree l.others))

@@ -12,7 +12,7 @@ use Rattle.syntax.proofs.reader.Reader.list.Goals as goal
 pub loop-rest-init : goal.loop-rest-init
 unfolding list
 loop-rest-init g c = record {
-  whole = first_read g.T.Item.tree (begins kind.Comma) g.T.Item.grammar (take kind.Comma >>= λ _. g.T.Item.grammar)
+  whole = first_read g.T.Written.tree (begins kind.Comma) g.T.Written.grammar (take kind.Comma >>= λ _. g.T.Written.grammar)
       (toks_of c.args.tokens.now) c.in_ok-first.ensures.gives c.in_ok-list.ensures.ok;
   shorter = c.in_ok-first.ensures.shorter;
 }
@@ -20,10 +20,10 @@ loop-rest-init g c = record {
 pub loop-rest-preserved : goal.loop-rest-preserved
 loop-rest-preserved g c = record {
   whole =
-      next_read (begins kind.Comma) (take kind.Comma >>= λ _. g.T.Item.grammar)
+      next_read (begins kind.Comma) (take kind.Comma >>= λ _. g.T.Written.grammar)
       (Strict-behind kind.Comma (Strict-Shrinks c.requires)) c.loop-rest.invariant.whole
       (sym c.begins.ensures ∙ c.loop-rest-test.true)
-      (bind_is (take kind.Comma) (λ _. g.T.Item.grammar) (toks_of c.loop-rest.rest.now)
+      (bind_is (take kind.Comma) (λ _. g.T.Written.grammar) (toks_of c.loop-rest.rest.now)
       (tok_of c.in_ok-others.field-0-0) (toks_of c.in_ok-others.others.now) c.in_ok-others.ensures.gives
       ∙ c.in_ok-next.ensures.gives)
       c.in_ok-put.ensures.ok;
@@ -33,23 +33,23 @@ loop-rest-preserved g c = record {
 pub returns-in_err-first-clause-gives : goal.returns-in_err-first-clause-gives
 unfolding list
 returns-in_err-first-clause-gives g c =
-    refused _ c.from_residual.result _ (g.T.Item.grammar (toks_of c.args.tokens.now)) _ c.from_residual.ensures.1
-    (first_refused (begins kind.Comma) g.T.Item.grammar (take kind.Comma >>= λ _. g.T.Item.grammar)
+    refused _ c.from_residual.result _ (g.T.Written.grammar (toks_of c.args.tokens.now)) _ c.from_residual.ensures.1
+    (first_refused (begins kind.Comma) g.T.Written.grammar (take kind.Comma >>= λ _. g.T.Written.grammar)
     (toks_of c.args.tokens.now)) c.in_err-first.ensures.gives
 
 pub returns-in_err-next-clause-gives : goal.returns-in_err-next-clause-gives
 returns-in_err-next-clause-gives g c =
-    let read = bind_is (take kind.Comma) (λ _. g.T.Item.grammar) (toks_of c.loop-rest.rest.now)
+    let read = bind_is (take kind.Comma) (λ _. g.T.Written.grammar) (toks_of c.loop-rest.rest.now)
     (tok_of c.in_ok-others.field-0-0) (toks_of c.in_ok-others.others.now) c.in_ok-others.ensures.gives in
-    refused _ c.from_residual-in_err-next.result _ (g.T.Item.grammar (toks_of c.in_ok-others.others.now)) _
+    refused _ c.from_residual-in_err-next.result _ (g.T.Written.grammar (toks_of c.in_ok-others.others.now)) _
     c.from_residual-in_err-next.ensures.1
-    (λ none. others_refused (begins kind.Comma) (take kind.Comma >>= λ _. g.T.Item.grammar)
+    (λ none. others_refused (begins kind.Comma) (take kind.Comma >>= λ _. g.T.Written.grammar)
     (Strict-behind kind.Comma (Strict-Shrinks c.requires)) c.loop-rest.invariant.whole
     (sym c.begins.ensures ∙ c.loop-rest-test.true) (read ∙ none))
     c.in_err-next.ensures.gives
 
 pub returns-clause-gives : goal.returns-clause-gives
 returns-clause-gives g c =
-    others_end (begins kind.Comma) (take kind.Comma >>= λ _. g.T.Item.grammar)
+    others_end (begins kind.Comma) (take kind.Comma >>= λ _. g.T.Written.grammar)
     (Strict-behind kind.Comma (Strict-Shrinks c.requires)) c.loop-rest.invariant.whole
     (sym c.begins.ensures ∙ c.loop-rest-test.false)

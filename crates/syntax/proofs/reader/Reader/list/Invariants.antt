@@ -6,7 +6,7 @@ use Rattle.syntax.proofs.reader.Reader.list.Given as goal
 
 abbrev pub invariant-loop-rest : goal.invariant-loop-rest
 invariant-loop-rest g l = record {
-  whole : SoFar g.T.Item.tree (more g.T.Item.grammar) (list g.T.Item.grammar (toks_of l.tokens)) l.list.items
+  whole : SoFar g.T.Written.tree (more g.T.Written.grammar) (list g.T.Written.grammar (toks_of l.tokens)) l.list.items
       (toks_of l.rest);
   shorter : length l.rest < length l.tokens;
 }

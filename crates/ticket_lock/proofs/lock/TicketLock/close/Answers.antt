@@ -1,8 +1,18 @@
 use Rattle.std.proofs.Common.{sym, ◌∙◌, ap, subst, arith, rules}
 use Rattle.std.specs.Iterator.{Yields}
+use Rattle.ticket_lock.specs.Promises.{IsIdle}
 use Rattle.ticket_lock.proofs.LoneSteps.{arrives_allowed, merges_allowed, takes_in_allowed}
 use Rattle.ticket_lock.proofs.Closing.{next_idle, gathers_step, closes_is, keeps_own, comes_last}
+use Rattle.ticket_lock.proofs.lock.TicketLock.close.Given as given
 use Rattle.ticket_lock.proofs.lock.TicketLock.close.Goals as goal
+use Rattle.ticket_lock.proofs.lock.TicketLock.close.Goals.{In-Some}
+
+-- the lane that comes is idle, as all are
+idle_lane : (g : given.Over) (c : In-Some g) → IsIdle c.args.self.id c.in-Some.lane
+idle_lane g c =
+    next_idle g.I.Iterator.next_gives c.args.lanes c.into_iter-lane-iterator.result c.loop-lane.lane-iterator c.next.new.self
+    c.loop-lane.yielded c.in-Some.lane c.args.self.id c.into_iter-lane-iterator.ensures.into_iter_gives c.loop-lane.yielded_by
+    c.in-Some.ensures.steps c.requires.idle
 
 pub load_new_seat-seat-requires : goal.load_new_seat-seat-requires
 load_new_seat-seat-requires g c =
@@ -16,10 +26,7 @@ join_seat-requires g c =
     let key = c.into_board-board.result.shared.key in
     let board = c.into_board-board.ensures in
     let now = c.loop-lane.invariant in
-    let idle =
-    next_idle g.I.Iterator.next_gives c.args.lanes c.into_iter-lane-iterator.result c.loop-lane.lane-iterator c.next.new.self
-    c.loop-lane.yielded c.in-Some.lane c.args.self.id c.into_iter-lane-iterator.ensures.into_iter_gives c.loop-lane.yielded_by
-    c.in-Some.ensures.steps c.requires.idle in
+    let idle = idle_lane g (goal.at.join_seat-requires g c).In-Some in
     let own = c.into_seat-own.ensures in
     let inside = ap (λ z. z.inside) own.1 ∙ idle.2 in (
       now.0 ∙ sym board.1,
@@ -43,10 +50,7 @@ pub loop-lane-preserved : goal.loop-lane-preserved
 loop-lane-preserved g c =
     let L = g.T.LaneLaw in
     let now = c.loop-lane.invariant in
-    let idle =
-    next_idle g.I.Iterator.next_gives c.args.lanes c.into_iter-lane-iterator.result c.loop-lane.lane-iterator c.next.new.self
-    c.loop-lane.yielded c.in-Some.lane c.args.self.id c.into_iter-lane-iterator.ensures.into_iter_gives c.loop-lane.yielded_by
-    c.in-Some.ensures.steps c.requires.idle in
+    let idle = idle_lane g (goal.at.loop-lane-preserved g c).In-Some in
     let own = c.into_seat-own.ensures in
     let r =
     gathers_step L.before L.part c.loop-lane.yielded c.in-Some.lane c.args.self.id c.into_seat-own.result.table_id

@@ -1,26 +1,29 @@
 -- The passes' lanes are all lanes of the lock.
 use Rattle.std.proofs.Common.{◌<◌, ◌∙◌, sym, ap, subst, arith}
+use Rattle.std.specs.Vec.Iter.{into_iter_items}
 use Rattle.ticket_lock.specs.Proved.Facts.{at_inside}
 use Rattle.switchboard.specs.declared.one_lock.lanes.Lanes.{Lanes}
 use Rattle.switchboard.specs.Promises.{AreAll}
 use Rattle.switchboard.proofs.Settling.{settles_is, idle_along, drained_length, all_pairs, Pairs}
+use Rattle.switchboard.proofs.one_lock.board.OneLock.into_ledger.Given as given
 use Rattle.switchboard.proofs.one_lock.board.OneLock.into_ledger.Goals as goal
+
+-- the passes that are drained are all of the board's
+all_of : (g : given.Over) (c : goal.After-into_iter g)
+    → AreAll c.args.self.lock.id c.args.self.lock.lanes (into_iter_items c.into_iter.result)
+all_of g c =
+    subst (AreAll c.args.self.lock.id c.args.self.lock.lanes)
+    (sym (c.into_iter.ensures.rest ∙ ap (λ v. v.items) c.replace-all.ensures.value)) c.requires
 
 pub close-book-requires-clause-idle : goal.close-book-requires-clause-idle
 close-book-requires-clause-idle g c =
-    let all =
-    subst (AreAll c.args.self.lock.id c.args.self.lock.lanes)
-    (sym (c.into_iter.ensures.rest ∙ ap (λ v. v.items) c.replace-all.ensures.value)) c.requires in
     idle_along g.M.Mail.fits
-    (λ (s : Lanes _ _ _). s.passes) c.args.self.lock.id c.args.self.lock.lanes record { passes = c.into_iter.result } all
+    (λ (s : Lanes _ _ _). s.passes) c.args.self.lock.id c.args.self.lock.lanes record { passes = c.into_iter.result } (all_of g c)
 
 pub close-book-requires-clause-all : goal.close-book-requires-clause-all
 close-book-requires-clause-all g c =
-    let all =
-    subst (AreAll c.args.self.lock.id c.args.self.lock.lanes)
-    (sym (c.into_iter.ensures.rest ∙ ap (λ v. v.items) c.replace-all.ensures.value)) c.requires in
     drained_length g.M.Mail.fits
-    (λ (s : Lanes _ _ _). s.passes) c.args.self.lock.id c.args.self.lock.lanes record { passes = c.into_iter.result } all
+    (λ (s : Lanes _ _ _). s.passes) c.args.self.lock.id c.args.self.lock.lanes record { passes = c.into_iter.result } (all_of g c)
 
 pub returns-clause-settles : goal.returns-clause-settles
 returns-clause-settles g c =

@@ -9,7 +9,20 @@ use Rattle.post_ledger.specs.Orders.{part, IsClosed}
 use Rattle.std.proofs.lemmas.Option.{slice_get_within}
 use Rattle.switchboard.proofs.Keeping.{box_at, kept_entry, kept_closed, kept_counts, room_take, none_of, some_of}
 use Rattle.switchboard.proofs.Keeping.{same_again, state_push, answers_message}
+use Rattle.switchboard.proofs.one_lock.book.Book.take.Given as given
 use Rattle.switchboard.proofs.one_lock.book.Book.take.Goals as goal
+use Rattle.switchboard.proofs.one_lock.book.Book.take.Goals.{After-index_mut-mailbox}
+
+-- the mailbox that is taken from is the one of its number, and has its part of the order
+its_box : (g : given.Over) (c : After-index_mut-mailbox g) →
+    let i = c.self.inside in
+    let h = c.index_mut-mailbox.result.now in
+    (slice_get i.mailboxes.items c.from.result ≡ Some h) × (h ≡ part c.args.by i.order.items)
+its_box g c =
+    let i = c.self.inside in
+    let at = box_at i.mailboxes.items c.from.result c.index_mut-mailbox.result.now c.from.ensures (ap (λ s. s.boxes) c.self.view_is)
+    c.requires c.index_mut-mailbox.ensures.value in
+    (at, c.self.invariant.parts c.from.result c.index_mut-mailbox.result.now at ∙ ap (λ k. part k i.order.items) c.from.ensures)
 
 pub returns-then-self : goal.returns-then-self
 returns-then-self g c = let i = c.self.inside in (
@@ -32,9 +45,7 @@ returns-then-is_some g c =
 pub note_take-requires : goal.note_take-requires
 note_take-requires g c =
     let i = c.self.inside in
-    let at = box_at i.mailboxes.items c.from.result c.index_mut-mailbox.result.now c.from.ensures (ap (λ s. s.boxes) c.self.view_is)
-    c.requires c.index_mut-mailbox.ensures.value in
-    let is = c.self.invariant.parts c.from.result c.index_mut-mailbox.result.now at ∙ ap (λ k. part k i.order.items) c.from.ensures in
+    let (at, is) = its_box g (goal.at.note_take-requires g c).After-index_mut-mailbox in
     let oldest =
     subst (λ h. slice_get (posts h) (length (takes h)) ≡ Some (c.in-Some.found.1, c.in-Some.found.2)) is c.in-Some.ensures.some.1 in
     let history = part c.args.by i.order.items in
@@ -48,9 +59,7 @@ note_take-requires g c =
 pub invariant_of-self-in-Some : goal.invariant_of-self-in-Some
 invariant_of-self-in-Some g c =
     let i = c.self.inside in
-    let at = box_at i.mailboxes.items c.from.result c.index_mut-mailbox.result.now c.from.ensures (ap (λ s. s.boxes) c.self.view_is)
-    c.requires c.index_mut-mailbox.ensures.value in
-    let is = c.self.invariant.parts c.from.result c.index_mut-mailbox.result.now at ∙ ap (λ k. part k i.order.items) c.from.ensures in
+    let (at, is) = its_box g (goal.at.invariant_of-self-in-Some g c).After-index_mut-mailbox in
     let oldest =
     subst (λ h. slice_get (posts h) (length (takes h)) ≡ Some (c.in-Some.found.1, c.in-Some.found.2)) is c.in-Some.ensures.some.1 in
     kept_entry i.mailboxes.items i.order.items c.note_take.new.order.items (vec_capacity i.order)
@@ -62,9 +71,7 @@ invariant_of-self-in-Some g c =
 pub returns-in-None : goal.returns-in-None
 returns-in-None g c =
     let i = c.self.inside in
-    let at = box_at i.mailboxes.items c.from.result c.index_mut-mailbox.result.now c.from.ensures (ap (λ s. s.boxes) c.self.view_is)
-    c.requires c.index_mut-mailbox.ensures.value in
-    let is = c.self.invariant.parts c.from.result c.index_mut-mailbox.result.now at ∙ ap (λ k. part k i.order.items) c.from.ensures in
+    let (at, is) = its_box g (goal.at.returns-in-None g c).After-index_mut-mailbox in
     let still =
     same_again i.mailboxes.items c.from.result c.index_mut-mailbox.result.now c.take_from.new.self at c.in-None.ensures.unchanged in (
       (λ k. record { world = i.world.value; boxes = length (still k); order = i.order.items; aborted = i.aborted }) ∙ c.self.view_is,
@@ -80,9 +87,7 @@ returns-in-None g c =
 pub returns-in-Some : goal.returns-in-Some
 returns-in-Some g c =
     let i = c.self.inside in
-    let at = box_at i.mailboxes.items c.from.result c.index_mut-mailbox.result.now c.from.ensures (ap (λ s. s.boxes) c.self.view_is)
-    c.requires c.index_mut-mailbox.ensures.value in
-    let is = c.self.invariant.parts c.from.result c.index_mut-mailbox.result.now at ∙ ap (λ k. part k i.order.items) c.from.ensures in
+    let (at, is) = its_box g (goal.at.returns-in-Some g c).After-index_mut-mailbox in
     let e = c.in-Some.ensures.some in
     let same_order = ap (λ s. s.order) c.self.view_is in
     let is_now = is ∙ ap (part c.args.by) same_order in

@@ -1,0 +1,49 @@
+-- The word says that the board is closed or aborted, or the mailbox has the oldest message.
+use Rattle.std.proofs.Common.{◌∙◌}
+use Rattle.switchboard.proofs.BoxTakes.{looked_on, says_closed, says_aborted, take_asks, takes_on, took_is}
+use Rattle.switchboard.proofs.lock_per_box.board.LockPerBoxBoard.take.Goals as goal
+
+pub invariant_of-pass : goal.invariant_of-pass
+invariant_of-pass g c =
+    looked_on g.M.Mail.fits _ _ _ _ _ _ c.pass.inside.seat.me c.pass.invariant c.if-pass-eq0.false _ c.look-found.new.seat.me
+    c.look-found.ensures.1 _ c.look-found.ensures.0.0
+
+pub returns-then-found-eq0 : goal.returns-then-found-eq0
+returns-then-found-eq0 g c =
+    says_closed g.M.Mail.fits _ _ _ _ _ _ c.pass.inside.seat.me c.pass.invariant c.if-pass-eq0.false _ c.look-found.new.seat.me
+    c.look-found.ensures.1 _ c.look-found.ensures.0.0 c.if-found-eq0.true
+    c.args.pass.now c.pass.view_is
+
+pub invariant_of-pass-then-found-ge-ABORTED : goal.invariant_of-pass-then-found-ge-ABORTED
+invariant_of-pass-then-found-ge-ABORTED g c =
+    looked_on g.M.Mail.fits _ _ _ _ _ _ c.pass.inside.seat.me c.pass.invariant c.if-pass-eq0.false _ c.look-found.new.seat.me
+    c.look-found.ensures.1 _ c.look-found.ensures.0.0
+
+pub returns-then-found-ge-ABORTED : goal.returns-then-found-ge-ABORTED
+returns-then-found-ge-ABORTED g c =
+    says_aborted g.M.Mail.fits _ _ _ _ _ _ c.pass.inside.seat.me c.pass.invariant c.if-pass-eq0.false _ c.look-found.new.seat.me
+    c.look-found.ensures.1 _ c.look-found.ensures.0.0 c.if-found-eq0.false
+    c.if-found-ge-ABORTED.true c.args.pass.now c.pass.view_is
+
+pub leave_box-requires-clause-asks : goal.leave_box-requires-clause-asks
+leave_box-requires-clause-asks g c =
+    take_asks g.M.Mail.fits _ _ _ _ _ _ c.pass.inside.seat.me c.pass.invariant c.if-pass-eq0.false _ c.look-found.new.seat.me
+    c.look-found.ensures.1 c.if-found-eq0.false c.if-found-ge-ABORTED.false _
+    c.enter_box-mailbox.new.seat.me c.enter_box-mailbox.ensures.1 c.take_out-answer.result c.take_out-answer.new.mailbox
+    c.take_out-answer.ensures
+
+pub invariant_of-pass-2 : goal.invariant_of-pass-2
+invariant_of-pass-2 g c =
+    takes_on g.M.Mail.fits _ _ _ _ _ _ c.pass.inside.seat.me c.pass.invariant c.if-pass-eq0.false _ c.look-found.new.seat.me
+    c.look-found.ensures.1 c.if-found-eq0.false c.if-found-ge-ABORTED.false _
+    c.enter_box-mailbox.new.seat.me c.enter_box-mailbox.ensures.1 c.take_out-answer.result c.take_out-answer.new.mailbox
+    c.take_out-answer.ensures c.leave_box.new.seat.me c.leave_box.ensures.1
+    _ (c.leave_box.ensures.0.0 ∙ (c.enter_box-mailbox.ensures.0.0 ∙ c.look-found.ensures.0.0))
+
+pub returns : goal.returns
+returns g c =
+    took_is g.M.Mail.fits _ _ _ _ _ _ c.pass.inside.seat.me c.pass.invariant c.if-pass-eq0.false _ c.look-found.new.seat.me
+    c.look-found.ensures.1 c.if-found-eq0.false c.if-found-ge-ABORTED.false _
+    c.enter_box-mailbox.new.seat.me c.enter_box-mailbox.ensures.1 c.take_out-answer.result c.take_out-answer.new.mailbox
+    c.take_out-answer.ensures c.leave_box.new.seat.me c.leave_box.ensures.1
+    _ (c.leave_box.ensures.0.0 ∙ (c.enter_box-mailbox.ensures.0.0 ∙ c.look-found.ensures.0.0)) c.args.pass.now c.pass.view_is
