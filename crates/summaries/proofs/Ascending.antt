@@ -129,10 +129,13 @@ pair_less x y after apart =
     elim (first_or_rest x.a y.a (ordering_then (nat_cmp y.b x.b) (bool_cmp y.r x.r)) (nat_eq x.b y.b && beq x.r y.r) after apart) [
       | inl a ↦ inl a
       | inr rest ↦
-          inr (rest.0, elim (first_or_rest x.b y.b (bool_cmp y.r x.r) (beq x.r y.r) rest.1 rest.2) [
-            | inl b ↦ inl b
-            | inr last ↦ let (xr, yr) = result_less x.r y.r last.1 last.2 in inr (last.0, xr, yr)
-          ])
+          inr (
+            rest.0,
+            elim (first_or_rest x.b y.b (bool_cmp y.r x.r) (beq x.r y.r) rest.1 rest.2) [
+              | inl b ↦ inl b
+              | inr last ↦ let (xr, yr) = result_less x.r y.r last.1 last.2 in inr (last.0, xr, yr)
+            ],
+          )
     ]
 
 pub pairs_ascend : (xs : List Pair) → IsSorted pair_cmp xs → IsDistinct pair_eq xs → ArePairsAscending xs
