@@ -19,7 +19,7 @@ use Rattle.round_rewrite.proofs.Plain.{PlainAfter}
 use Rattle.round_rewrite.proofs.Leading.{Leads}
 use Rattle.round_rewrite.proofs.Blocks.{put-join, put-again}
 use Rattle.round_rewrite.proofs.Prologue.{stop_leads}
-use Rattle.round_rewrite.proofs.Frames.{Activation, both, awaiting, results, entered, given, source_values, put_values, Fits, Roomy, Both}
+use Rattle.round_rewrite.proofs.Frames.{Activation, both, awaiting, results, entered, given, source_values, put_values, Fits, Roomy, Both, Waits}
 use Rattle.round_rewrite.proofs.Frames.{source, Good, AllGood, GoodStack, put_rest, inner, behind, callers, stack, Setting, put_routine}
 use Rattle.round_rewrite.proofs.Frames.{roomy, top, site}
 use Rattle.round_rewrite.proofs.Frames.{throughout-join, throughout-rest, IfThere, bit_zeros, source_fresh, put_fresh, source_with}
@@ -44,10 +44,12 @@ good_with p last a l tmp d rest rest' h el drawn le fits = record {
   fits = fits;
 }
 
--- an open call that goes on elsewhere in the same procedure
-pub good_rest : (p : Program) (last : ℕ) (a : Activation) (rest rest' : Code) → (h : Good p last (both a rest))
-    → Fits p.routines p.globals a.own (temporaries is_global h.routine.body) rest' → Good p last (both a rest')
-good_rest p last a rest rest' h fits = record {
+-- an open call that waits for this, and then goes on elsewhere in the same procedure
+good_on : (p : Program) (last : ℕ) (b : Both) (awaits : Option Place) (rest' : Code) → (h : Good p last b)
+    → Waits p.globals b.own (temporaries is_global h.routine.body) awaits
+    → Fits p.routines p.globals b.own (temporaries is_global h.routine.body) rest'
+    → Good p last (record b { awaits = awaits; rest = rest' })
+good_on p last b awaits rest' h waits fits = record {
   routine = h.routine;
   there = h.there;
   own_is = h.own_is;
@@ -55,26 +57,21 @@ good_rest p last a rest rest' h fits = record {
   gives = h.gives;
   room = h.room;
   result = h.result;
-  waits = tt;
+  waits = waits;
   fits = fits;
 }
+
+-- an open call that goes on elsewhere in the same procedure
+pub good_rest : (p : Program) (last : ℕ) (a : Activation) (rest rest' : Code) → (h : Good p last (both a rest))
+    → Fits p.routines p.globals a.own (temporaries is_global h.routine.body) rest' → Good p last (both a rest')
+good_rest p last a rest rest' h fits = good_on p last (both a rest) None rest' h tt fits
 
 -- an open call that waits for the value of its call
 pub good_awaiting : (p : Program) (last : ℕ) (a : Activation) (rest : Code) (x : Place) (rest' : Code)
     → (h : Good p last (both a rest)) → PlaceInScope p.globals a.own x
     → takes is_global (Some x) ≤ temporaries is_global h.routine.body
     → Fits p.routines p.globals a.own (temporaries is_global h.routine.body) rest' → Good p last (awaiting a x rest')
-good_awaiting p last a rest x rest' h scope room fits = record {
-  routine = h.routine;
-  there = h.there;
-  own_is = h.own_is;
-  long = h.long;
-  gives = h.gives;
-  room = h.room;
-  result = h.result;
-  waits = (scope, room);
-  fits = fits;
-}
+good_awaiting p last a rest x rest' h scope room fits = good_on p last (both a rest) (Some x) rest' h (scope, room) fits
 
 -- the body of a procedure fits
 pub body_fits : (p : Program) (c : ℕ) (r : Routine) (d : ℕ) → FitsScopes p → slice_get p.routines c ≡ Some r
