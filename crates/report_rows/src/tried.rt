@@ -5,7 +5,7 @@ ghost use Rattle.std.specs.Prelude.{◌≤◌, ◌^◌};
 use crate::program::{Asked, Parts};
 use crate::refusing::{Moment, Refusing};
 use flow_graph::Graphs;
-use gather::{Answer, check_rounds_tried};
+use gather::{Answer, CrewBoard, CrewSet, check_rounds_tried};
 use path_sets::{DiagramEdges, OrderedEdges};
 use std::alloc::{AllocError, Global};
 use std::sync::Wait;
@@ -17,7 +17,31 @@ use ticket_lock::MOST_TICKETS;
 /// A lane that no program has.
 const NO_LANE: u8 = 64;
 
-/// The answer of the workers with these parts, where who hires is the gate as well.
+/// A lock for each mailbox, and one for all.
+type EachLocked = LockPerBox<Due, Graphs<Global>, Global>;
+
+type AllLocked = OneLock<Due, Graphs<Global>, Global>;
+
+/// The answer of the workers over this board with these sets, where who hires is the gate as well.
+fn over<R: Wait + Threads + Sync, B: CrewBoard, S: CrewSet>(
+    rt: &R,
+    heap: B::Heap,
+    alloc: S::Heap,
+    asked: &Asked,
+    limit: EdgeLimit,
+    hire: &Refusing,
+    budget: u64,
+) -> Result<Answer, NoVerdict>
+    requires { (2 ≤ budget) × (budget ≤ 2 ^ 56) }
+{
+    let (program, rounds) = (&asked.program, asked.rounds);
+    let report = check_rounds_tried::<R, B, S, Refusing, Refusing, Global>(
+        rt, heap, alloc, program, rounds, limit, hire, hire, budget,
+    )?;
+    Ok(report.answer)
+}
+
+/// The same over the board and the sets that the parts name.
 fn tried<R: Wait + Threads + Sync>(
     rt: &R,
     alloc: Global,
@@ -29,42 +53,42 @@ fn tried<R: Wait + Threads + Sync>(
 ) -> Result<Answer, NoVerdict>
     requires { (2 ≤ budget) × (budget ≤ 2 ^ 56) }
 {
-    let (program, rounds) = (&asked.program, asked.rounds);
-    let report = match (parts.one_lock, parts.diagrams) {
-        (false, true) => check_rounds_tried::<
-            R,
-            LockPerBox<Due, Graphs<Global>, Global>,
-            DiagramEdges<Global>,
-            Refusing,
-            Refusing,
-            Global,
-        >(rt, alloc, alloc, program, rounds, limit, hire, hire, budget),
-        (false, false) => check_rounds_tried::<
-            R,
-            LockPerBox<Due, Graphs<Global>, Global>,
-            OrderedEdges<Global>,
-            Refusing,
-            Refusing,
-            Global,
-        >(rt, alloc, alloc, program, rounds, limit, hire, hire, budget),
-        (true, true) => check_rounds_tried::<
-            R,
-            OneLock<Due, Graphs<Global>, Global>,
-            DiagramEdges<Global>,
-            Refusing,
-            Refusing,
-            Global,
-        >(rt, alloc, alloc, program, rounds, limit, hire, hire, budget),
-        (true, false) => check_rounds_tried::<
-            R,
-            OneLock<Due, Graphs<Global>, Global>,
-            OrderedEdges<Global>,
-            Refusing,
-            Refusing,
-            Global,
-        >(rt, alloc, alloc, program, rounds, limit, hire, hire, budget),
-    };
-    Ok(report?.answer)
+    match (parts.one_lock, parts.diagrams) {
+        (false, true) => over::<R, EachLocked, DiagramEdges<Global>>(
+            rt, alloc, alloc, asked, limit, hire, budget,
+        ),
+        (false, false) => over::<R, EachLocked, OrderedEdges<Global>>(
+            rt, alloc, alloc, asked, limit, hire, budget,
+        ),
+        (true, true) => over::<R, AllLocked, DiagramEdges<Global>>(
+            rt, alloc, alloc, asked, limit, hire, budget,
+        ),
+        (true, false) => over::<R, AllLocked, OrderedEdges<Global>>(
+            rt, alloc, alloc, asked, limit, hire, budget,
+        ),
+    }
+}
+
+/// The same where no lane is refused.
+fn unrefused<R: Wait + Threads + Sync>(
+    rt: &R,
+    alloc: Global,
+    asked: &Asked,
+    parts: Parts,
+    limit: EdgeLimit,
+    budget: u64,
+) -> Result<Answer, NoVerdict>
+    requires { (2 ≤ budget) × (budget ≤ 2 ^ 56) }
+{
+    tried(
+        rt,
+        alloc,
+        asked,
+        parts,
+        limit,
+        &Refusing::new(NO_LANE, None),
+        budget,
+    )
 }
 
 /// The parts of a number from 0 to 3.
@@ -140,16 +164,7 @@ pub fn with_budget<R: Wait + Threads + Sync>(
         return out.push_str("no such budget");
     }
     for number in 0..4u8 {
-        let hire = Refusing::new(NO_LANE, None);
-        let came = tried(
-            rt,
-            alloc,
-            asked,
-            parts_at(number),
-            asked.limit,
-            &hire,
-            budget,
-        );
+        let came = unrefused(rt, alloc, asked, parts_at(number), asked.limit, budget);
         let mut one = String::new(alloc);
         write_came(&mut one, came)?;
         put(out, one.as_str())?;
@@ -167,16 +182,7 @@ fn is_spent_or<R: Wait + Threads + Sync>(
 ) -> bool {
     for budget in 3..=most.min(1_000) {
         for number in 0..4u8 {
-            let hire = Refusing::new(NO_LANE, None);
-            let came = tried(
-                rt,
-                alloc,
-                asked,
-                parts_at(number),
-                asked.limit,
-                &hire,
-                budget,
-            );
+            let came = unrefused(rt, alloc, asked, parts_at(number), asked.limit, budget);
             if came != Err(NoVerdict::Spent) && came != Ok(answer) {
                 return false;
             }
@@ -195,16 +201,7 @@ pub fn with_budgets<R: Wait + Threads + Sync>(
     most: u64,
 ) -> Result<(), AllocError> {
     with_budget(rt, alloc, out, asked, 2)?;
-    let hire = Refusing::new(NO_LANE, None);
-    let Ok(answer) = tried(
-        rt,
-        alloc,
-        asked,
-        asked.parts,
-        asked.limit,
-        &hire,
-        MOST_TICKETS,
-    ) else {
+    let Ok(answer) = unrefused(rt, alloc, asked, asked.parts, asked.limit, MOST_TICKETS) else {
         return out.push_str(", and no answer");
     };
     if is_spent_or(rt, alloc, asked, most, answer) {
@@ -230,16 +227,7 @@ pub fn with_limits<R: Wait + Threads + Sync>(
             let Some(limit) = EdgeLimit::new(edges) else {
                 continue;
             };
-            let hire = Refusing::new(NO_LANE, None);
-            let came = tried(
-                rt,
-                alloc,
-                asked,
-                parts_at(number),
-                limit,
-                &hire,
-                MOST_TICKETS,
-            );
+            let came = unrefused(rt, alloc, asked, parts_at(number), limit, MOST_TICKETS);
             if last != Some(came) {
                 one.push_str(if last.is_none() { "" } else { ", " })?;
                 write_came(&mut one, came)?;

@@ -294,9 +294,12 @@ module _ {n last : ℕ} (small : last < most_rounds) (now : Moment n last) (own 
       let (us, e1, h) =
       spread_back (expression (places n last own) last e) (value_of (row C q) (l ++ more) e) i hx.0 (expr_is e hr.0)
       (numbers 0 (suc last)) all_below _ ws a in
-      let (vs, hv, pv, ev) = sides_back j xs rs us hx.1 hr.1 h in
-      (value_of (row C q) (l ++ more) e ∷ vs, (refl, hv), pv,
-          e1 ∙ ap (λ z. map (spread i (value_of (row C q) (l ++ more) e)) (numbers 0 (suc last)) ++ z) ev)
+      let (vs, hv, pv, ev) = sides_back j xs rs us hx.1 hr.1 h in (
+        value_of (row C q) (l ++ more) e ∷ vs,
+        (refl, hv),
+        pv,
+        e1 ∙ ap (λ z. map (spread i (value_of (row C q) (l ++ more) e)) (numbers 0 (suc last)) ++ z) ev,
+      )
   sides_back j (local i ∷ xs) (any ∷ rs) [] hx hr a = absurd a
   sides_back j (local i ∷ xs) (any ∷ rs) (w ∷ ws) hx hr a =
       let (vs, hv, pv, ev) = sides_back j xs rs ws hx.1 hr.1 a.1 in

@@ -204,6 +204,12 @@ module _ (setting : Setting) (now : Moment setting.p.globals setting.last) (m : 
         state (row C q)
         (frame q' (fresh (frame_size r) (values_of (row C q) (source_values d.activation) es)) r.body ∷ source d ∷ map source bs)
 
+    -- the same in the rewritten program
+    abbrev called_there : Both → ℕ → List (Expression Place) → Routine → State
+    called_there d q' es r =
+        let vs : List Bool = values_of X (put_values d.activation) (map (expression (places p.globals last d.own) last) es) in
+        state X (frame (suc q') (fresh (frame_size r) vs) r.body ∷ callers p last (d ∷ bs) m)
+
     -- a run through a call
     call_back : (N : ℕ) (a : Activation) (rest : Code) (d : Both) (q' : ℕ) (es : List (Expression Place))
         (o : Option Routine) → slice_get p.routines q' ≡ o → Good p last d → AreInScope p.globals d.own es
@@ -211,13 +217,7 @@ module _ (setting : Setting) (now : Moment setting.p.globals setting.last) (m : 
         → ((u : State) → AtRoutine (slice_get p.routines q') (λ r. called d q' es r ≡ u)
         → StepsTo p (state (row C q) (frame a.c (source_values a) rest ∷ map source bs)) (λ v. v ≡ u))
         → AtRoutine (option_map (put_routine p last) o)
-        (λ r.
-        Later w N
-        (state X
-        (frame (suc q')
-            (fresh (frame_size r) (values_of X (put_values d.activation) (map (expression (places p.globals last d.own) last) es)))
-        r.body
-        ∷ callers p last (d ∷ bs) m)) Q) → Begins N a rest bs
+        (λ r. Later w N (called_there d q' es r) Q) → Begins N a rest bs
     call_back N a rest d q' es None e h scope short steps at = absurd at
     call_back N a rest d q' es (Some r) e h scope short steps at =
         let vs : List Bool = values_of (row C q) (source_values d.activation) es in
@@ -246,24 +246,11 @@ module _ (setting : Setting) (now : Moment setting.p.globals setting.last) (m : 
         → ((u : State) → AtRoutine (slice_get p.routines q') (λ r. called d q' es r ≡ u)
         → StepsTo p (state (row C q) (frame a.c (source_values a) rest ∷ map source bs)) (λ v. v ≡ u))
         → AtRoutine (w.enters (suc q'))
-        (λ r.
-        PlainAfter w n1
-        (state X
-        (frame (suc q')
-            (fresh (frame_size r) (values_of X (put_values d.activation) (map (expression (places p.globals last d.own) last) es)))
-        r.body
-        ∷ callers p last (d ∷ bs) m)) Q) → Begins N a rest bs
+        (λ r. PlainAfter w n1 (called_there d q' es r) Q) → Begins N a rest bs
     call_made_back N n1 a rest d q' es e h scope short steps run =
-        let F : Routine → State =
-        λ r.
-        state X
-        (frame (suc q')
-            (fresh (frame_size r) (values_of X (put_values d.activation) (map (expression (places p.globals last d.own) last) es)))
-        r.body
-        ∷ callers p last (d ∷ bs) m) in
         call_back N a rest d q' es (slice_get p.routines q') refl h scope short steps
-        (at_routine_later N n1 (option_map (put_routine p last) (slice_get p.routines q')) F e
-        (subst (λ o. AtRoutine o (λ r. PlainAfter w n1 (F r) Q)) (isw.enters_is q') run))
+        (at_routine_later N n1 (option_map (put_routine p last) (slice_get p.routines q')) (called_there d q' es) e
+        (subst (λ o. AtRoutine o (λ r. PlainAfter w n1 (called_there d q' es r) Q)) (isw.enters_is q') run))
 
     -- such a run begins with a step of the source, or fails
     pub step_back : (N : ℕ) (a : Activation) (rest : Code) → Good p last (both a rest)
@@ -280,7 +267,7 @@ module _ (setting : Setting) (now : Moment setting.p.globals setting.last) (m : 
     step_back N a (one k (assign xs rs) t) h starts run =
         let scope = h.fits.0.0 in
         let room : draws is_global xs rs ≤ temporaries is_global h.routine.body =
-            draws_room p.routines p.globals a.own (temporaries is_global h.routine.body) xs rs h.fits.0 in
+        draws_room p.routines p.globals a.own (temporaries is_global h.routine.body) xs rs h.fits.0 in
         let (M, vs, tmp', lt, are, drawn, r) =
         assign_back w p.globals last a.own (suc a.c) (callers p last bs m) Q now small a.l a.more a.tmp h.long (never_below bs) N xs rs
         (put_rest p last a.own t) scope.targets scope.sides run in
@@ -350,7 +337,7 @@ module _ (setting : Setting) (now : Moment setting.p.globals setting.last) (m : 
     step_back N a (one k (call_for x q' es) t) h starts run =
         let scope = h.fits.0.0 in
         let room : takes is_global (Some x) ≤ temporaries is_global h.routine.body =
-            takes_room p.routines p.globals a.own (temporaries is_global h.routine.body) x q' es h.fits.0 in
+        takes_room p.routines p.globals a.own (temporaries is_global h.routine.body) x q' es h.fits.0 in
         let (n1, e1, r1) = unstep w Q N _ _ _ (never_below bs) run in
         call_made_back N n1 a (one k (call_for x q' es) t) (awaiting a x t) q' es e1
         (good_awaiting p last a (one k (call_for x q' es) t) x t h scope.targets.0 room h.fits.1) scope.arguments scope.callee

@@ -149,7 +149,7 @@ module _ (w : World) (n last own c : ℕ) (fs : List Frame) (Q : State → Type 
         → PlainAfter w N
         (state (lay C S (bits_of q false b)) (frame c (l ++ tmp) (statement (places n last own) last (assign xs rs) t) ∷ fs)) Q
         → (M : ℕ) × (vs : List Bool) × (tmp' : List Bool) × (M < N) × AreValues (row C q) (l ++ more) rs vs
-            × Redrawn (draws is_global xs rs) tmp tmp'
+        × Redrawn (draws is_global xs rs) tmp tmp'
         × PlainAfter w M (state (turned now (written_globals xs vs (row C q))) (frame c (written_locals xs vs l ++ tmp') t ∷ fs)) Q
     unfolding write_state
     assign_back never N xs rs t hx hr h =

@@ -19,7 +19,7 @@ use Rattle.round_rewrite.proofs.Plain.{PlainAfter}
 use Rattle.round_rewrite.proofs.Leading.{Leads}
 use Rattle.round_rewrite.proofs.Blocks.{put-join, put-again}
 use Rattle.round_rewrite.proofs.Prologue.{stop_leads}
-use Rattle.round_rewrite.proofs.Frames.{Activation, both, awaiting, results, entered, given, source_values, put_values, Fits, Roomy, Both}
+use Rattle.round_rewrite.proofs.Frames.{Activation, both, awaiting, results, entered, given, source_values, put_values, Fits, Roomy, Both, Waits}
 use Rattle.round_rewrite.proofs.Frames.{source, Good, AllGood, GoodStack, put_rest, inner, behind, callers, stack, Setting, put_routine}
 use Rattle.round_rewrite.proofs.Frames.{roomy, top, site}
 use Rattle.round_rewrite.proofs.Frames.{throughout-join, throughout-rest, IfThere, bit_zeros, source_fresh, put_fresh, source_with}
@@ -44,10 +44,12 @@ good_with p last a l tmp d rest rest' h el drawn le fits = record {
   fits = fits;
 }
 
--- an open call that goes on elsewhere in the same procedure
-pub good_rest : (p : Program) (last : ℕ) (a : Activation) (rest rest' : Code) → (h : Good p last (both a rest))
-    → Fits p.routines p.globals a.own (temporaries is_global h.routine.body) rest' → Good p last (both a rest')
-good_rest p last a rest rest' h fits = record {
+-- an open call that waits for this, and then goes on elsewhere in the same procedure
+good_on : (p : Program) (last : ℕ) (b : Both) (awaits : Option Place) (rest' : Code) → (h : Good p last b)
+    → Waits p.globals b.own (temporaries is_global h.routine.body) awaits
+    → Fits p.routines p.globals b.own (temporaries is_global h.routine.body) rest'
+    → Good p last (record b { awaits = awaits; rest = rest' })
+good_on p last b awaits rest' h waits fits = record {
   routine = h.routine;
   there = h.there;
   own_is = h.own_is;
@@ -55,26 +57,21 @@ good_rest p last a rest rest' h fits = record {
   gives = h.gives;
   room = h.room;
   result = h.result;
-  waits = tt;
+  waits = waits;
   fits = fits;
 }
+
+-- an open call that goes on elsewhere in the same procedure
+pub good_rest : (p : Program) (last : ℕ) (a : Activation) (rest rest' : Code) → (h : Good p last (both a rest))
+    → Fits p.routines p.globals a.own (temporaries is_global h.routine.body) rest' → Good p last (both a rest')
+good_rest p last a rest rest' h fits = good_on p last (both a rest) None rest' h tt fits
 
 -- an open call that waits for the value of its call
 pub good_awaiting : (p : Program) (last : ℕ) (a : Activation) (rest : Code) (x : Place) (rest' : Code)
     → (h : Good p last (both a rest)) → PlaceInScope p.globals a.own x
     → takes is_global (Some x) ≤ temporaries is_global h.routine.body
     → Fits p.routines p.globals a.own (temporaries is_global h.routine.body) rest' → Good p last (awaiting a x rest')
-good_awaiting p last a rest x rest' h scope room fits = record {
-  routine = h.routine;
-  there = h.there;
-  own_is = h.own_is;
-  long = h.long;
-  gives = h.gives;
-  room = h.room;
-  result = h.result;
-  waits = (scope, room);
-  fits = fits;
-}
+good_awaiting p last a rest x rest' h scope room fits = good_on p last (both a rest) (Some x) rest' h (scope, room) fits
 
 -- the body of a procedure fits
 pub body_fits : (p : Program) (c : ℕ) (r : Routine) (d : ℕ) → FitsScopes p → slice_get p.routines c ≡ Some r
@@ -165,7 +162,7 @@ module _ (setting : Setting) (now : Moment setting.p.globals setting.last) (m : 
     pub pop_leads : (a : Activation) → Good p last (both a done) → (d : Both) → Good p last d → (bs : List Both)
         → Leads w
         (state X
-            (top p last (given (bit a.more 0) d.awaits d.activation) (behind p last d.own d.awaits (put_rest p last d.own d.rest)) bs m))
+        (top p last (given (bit a.more 0) d.awaits d.activation) (behind p last d.own d.awaits (put_rest p last d.own d.rest)) bs m))
         Q
         → Leads w (state X (top p last a done (d ∷ bs) m)) Q
     pop_leads a h d hd bs k =
@@ -283,7 +280,7 @@ module _ (setting : Setting) (now : Moment setting.p.globals setting.last) (m : 
         step_leads a (one k (assign xs rs) t) h starts s =
             let scope = h.fits.0.0 in
             let room : draws is_global xs rs ≤ temporaries is_global h.routine.body =
-                draws_room p.routines p.globals a.own (temporaries is_global h.routine.body) xs rs h.fits.0 in
+            draws_room p.routines p.globals a.own (temporaries is_global h.routine.body) xs rs h.fits.0 in
             assign_leads w p.globals last a.own (suc a.c) (callers p last bs m) Q now small a.l a.more a.tmp h.long xs rs s.0
             (put_rest p last a.own t) s.1 scope.targets scope.sides
             (let r : length a.tmp ≡ temporaries is_global h.routine.body + length a.more = h.room in omega arith)
@@ -309,10 +306,10 @@ module _ (setting : Setting) (now : Moment setting.p.globals setting.last) (m : 
             (suc z.0, (subst (λ T. T) (sym (side_at a h.long r h.fits.0.0.test true)) s.0, z.1))
         step_leads a (one k (goto x) t) h starts s =
             let found : AtRest (rest_from x h.routine.body done)
-                (λ u. R (state (row C q) (frame a.c (source_values a) u ∷ map source bs))) =
+            (λ u. R (state (row C q) (frame a.c (source_values a) u ∷ map source bs))) =
             subst
-                (λ o. AtRest (rest_from x (body_of o) done) (λ u. R (state (row C q) (frame a.c (source_values a) u ∷ map source bs))))
-                h.there s in
+            (λ o. AtRest (rest_from x (body_of o) done) (λ u. R (state (row C q) (frame a.c (source_values a) u ∷ map source bs))))
+            h.there s in
             let z = jump_leads a (one k (goto x) t) x (rest_from x h.routine.body done) h refl found in
             let where_to : w.jumps (suc a.c) x ≡ option_map (put_rest p last a.own) (rest_from x h.routine.body done) =
             isw.jumps_is a.c h.routine x h.there
@@ -349,7 +346,7 @@ module _ (setting : Setting) (now : Moment setting.p.globals setting.last) (m : 
         step_leads a (one k (call_for x q' es) t) h starts s =
             let scope = h.fits.0.0 in
             let room : takes is_global (Some x) ≤ temporaries is_global h.routine.body =
-                takes_room p.routines p.globals a.own (temporaries is_global h.routine.body) x q' es h.fits.0 in
+            takes_room p.routines p.globals a.own (temporaries is_global h.routine.body) x q' es h.fits.0 in
             let z =
             call_made (awaiting a x t) q' es
             (good_awaiting p last a (one k (call_for x q' es) t) x t h scope.targets.0 room h.fits.1) scope.arguments scope.callee s in
@@ -359,10 +356,12 @@ module _ (setting : Setting) (now : Moment setting.p.globals setting.last) (m : 
             λ z f. good_rest p last a (choose k r x y t) z h f in
             let branch : Leads w
             (state X (top p last a (put_rest p last a.own (cond v (join x t) (join y t))) bs m)) Q =
-            same_globals next (both a (cond v (join x t) (join y t)) ∷ bs)
-            (refl,
-                S' (cond v (join x t) (join y t))
-                (branch_fits p a.own (temporaries is_global h.routine.body) v x y t h.fits.1 h.fits.2 h.fits.3), good) s in (
+            same_globals next (both a (cond v (join x t) (join y t)) ∷ bs) (
+              refl,
+              S' (cond v (join x t) (join y t))
+                  (branch_fits p a.own (temporaries is_global h.routine.body) v x y t h.fits.1 h.fits.2 h.fits.3),
+              good,
+            ) s in (
               suc branch.0,
               (
                 v,

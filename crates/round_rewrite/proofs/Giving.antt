@@ -18,7 +18,7 @@ gives-join : {V P L : Type 0} (a b : Block V P L) → gives_value (join a b) ≡
 gives-join done b = refl
 gives-join (one m s t) b =
     ap (λ z. parts.gives (parts.plain s) || z) (gives-join t b)
-        ∙ sym (or_assoc (parts.gives (parts.plain s)) (gives_value t) (gives_value b))
+    ∙ sym (or_assoc (parts.gives (parts.plain s)) (gives_value t) (gives_value b))
 gives-join (choose m r x y t) b =
     ap (λ z. gives_value x || (gives_value y || z)) (gives-join t b)
     ∙ (ap (λ z. gives_value x || z) (sym (or_assoc (gives_value y) (gives_value t) (gives_value b)))

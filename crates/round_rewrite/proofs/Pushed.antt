@@ -25,6 +25,13 @@ pushed view f old items item k e i =
     ∙ ap (map f) (ap (λ n. numbers 0 k ++ n ∷ []) (let z : k ≡ 0 + k = omega arith in z) ∙ (sym (numbers_last 0 k)
     ∙ ap (numbers 0) (let s : suc k ≡ k + 1 = omega arith in s))))))
 
+-- one more is pushed, which is seen of something that is known
+pub pushed_as : {A B D : Type 0} (view : A → B) (f : D → ℕ → B) (d d' : D) (old : List B) (items now : List A) (item : A) (k : ℕ)
+    → map view items ≡ old ++ map (f d) (numbers 0 k) → now ≡ items ++ item ∷ [] → view item ≡ f d' k → d' ≡ d
+    → map view now ≡ old ++ map (f d) (numbers 0 (k + 1))
+pushed_as view f d d' old items now item k e is seen same =
+    ap (map view) is ∙ pushed view (f d) old items item k e (seen ∙ ap (λ x. f x k) same)
+
 -- all rounds are done
 pub over_rounds : {B : Type 0} (f : ℕ → B) (old now : List B) (k n last : ℕ) → now ≡ old ++ map f (numbers 0 k) → n ≤ k
     → k ≤ n

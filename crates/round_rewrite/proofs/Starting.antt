@@ -159,6 +159,22 @@ module _ (setting : Setting) (S : List (List Bool)) (saves : AreRows setting.p.g
         )
 
   module _ (Q : State → Type 0) (t : Code) where
+    -- the first thread runs, and then what comes behind it
+    first_leads : (c : ℕ) (T : List ℕ) → EachThread p.routines (c ∷ T) → (g : List Bool) (G : List (List Bool))
+        → AreRows p.globals (suc last) (g ∷ G) → (x : List Bool) (H : List (List Bool)) (s' : List Frame)
+        → Turns p (g ∷ G) (starting_stack p.routines c) (x ∷ H) s' → (b : Bool)
+        → (AreRows p.globals (suc last) (x ∷ H) → (q : ℕ) (s : Bool)
+        → Leads w (main_at (lay (x ∷ H) S (bits_of q s b)) (starts naming last T t)) Q) → (q : ℕ) (s : Bool)
+        → Leads w (main_at (lay (g ∷ G) S (bits_of q s b)) (starts naming last (c ∷ T) t)) Q
+    first_leads c T there g G are x H s' ts b on q s =
+        let (r, e) = there_is (slice_get p.routines c) there.0 in
+        let seat : Seat p.globals last S G = first_seat g G are in
+        let after : Code = starts naming last T t in
+        let k = turns_keep p p.globals (g ∷ G) (starting_stack p.routines c) (x ∷ H) s' are.0 ts in
+        start_leads Q after (g ∷ G) (moment seat b).shape q s b c r e
+        (turns_on setting S after Q b G seat 0 (omega arith) (entered c r [] ∷ []) (starter_good c r e) x H s'
+        (subst (λ y. Turns p (g ∷ G) y (x ∷ H) s') (sym (starter_is c r e)) ts) (on (k.0, k.1 ∙ are.1)))
+
     -- the threads run, and none fails
     pub starts_lead : (T : List ℕ) → EachThread p.routines T → (G : List (List Bool)) → AreRows p.globals (suc last) G
         → (G' : List (List Bool)) (ss' : List (List Frame)) → Threads p G (map (starting_stack p.routines) T) G' ss' → (b : Bool)
@@ -170,14 +186,7 @@ module _ (setting : Setting) (S : List (List Bool)) (saves : AreRows setting.p.g
     starts_lead (c ∷ T) there [] are G' (s' ∷ ss') h b out q s = absurd (let e : 0 ≡ suc last = are.1 in omega arith)
     starts_lead (c ∷ T) there (g ∷ G) are G' (s' ∷ ss') ([], ts, more) b out q s = absurd ts
     starts_lead (c ∷ T) there (g ∷ G) are G' (s' ∷ ss') (x ∷ H, ts, more) b out q s =
-        let (r, e) = there_is (slice_get p.routines c) there.0 in
-        let seat : Seat p.globals last S G = first_seat g G are in
-        let after : Code = starts naming last T t in
-        let k = turns_keep p p.globals (g ∷ G) (starting_stack p.routines c) (x ∷ H) s' are.0 ts in
-        start_leads Q after (g ∷ G) (moment seat b).shape q s b c r e
-        (turns_on setting S after Q b G seat 0 (omega arith) (entered c r [] ∷ []) (starter_good c r e) x H s'
-        (subst (λ y. Turns p (g ∷ G) y (x ∷ H) s') (sym (starter_is c r e)) ts)
-        (starts_lead T there.1 (x ∷ H) (k.0, k.1 ∙ are.1) G' ss' more b out))
+        first_leads c T there g G are x H s' ts b (λ rows. starts_lead T there.1 (x ∷ H) rows G' ss' more b out) q s
 
     -- the threads run, and one fails
     pub fails_lead : (T : List ℕ) → EachThread p.routines T → (G : List (List Bool)) → AreRows p.globals (suc last) G
@@ -199,14 +208,7 @@ module _ (setting : Setting) (S : List (List Bool)) (saves : AreRows setting.p.g
         (starts_lead T there.1 (x ∷ H) (k.0, k.1 ∙ are.1) G' ss' more true out))
     fails_lead (c ∷ T) there (g ∷ G) are G' (inr ([], s', ts, more)) out b q s = absurd ts
     fails_lead (c ∷ T) there (g ∷ G) are G' (inr (x ∷ H, s', ts, more)) out b q s =
-        let (r, e) = there_is (slice_get p.routines c) there.0 in
-        let seat : Seat p.globals last S G = first_seat g G are in
-        let after : Code = starts naming last T t in
-        let k = turns_keep p p.globals (g ∷ G) (starting_stack p.routines c) (x ∷ H) s' are.0 ts in
-        start_leads Q after (g ∷ G) (moment seat b).shape q s b c r e
-        (turns_on setting S after Q b G seat 0 (omega arith) (entered c r [] ∷ []) (starter_good c r e) x H s'
-        (subst (λ y. Turns p (g ∷ G) y (x ∷ H) s') (sym (starter_is c r e)) ts)
-        (fails_lead T there.1 (x ∷ H) (k.0, k.1 ∙ are.1) G' more out b))
+        first_leads c T there g G are x H s' ts b (λ rows. fails_lead T there.1 (x ∷ H) rows G' more out b) q s
 
   -- a run through the start of one thread
   start_back : (G : List (List Bool)) → Shape p.globals last G S → (q : ℕ) (s b : Bool) (c : ℕ) (r : Routine)

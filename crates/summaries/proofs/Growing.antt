@@ -7,7 +7,7 @@ use Rattle.std.proofs.Common.{Err, length, if◌then◌else◌, arith, length-ap
 use Rattle.std.proofs.Common.{◌<◌, take, get_or}
 use Rattle.std.proofs.Math.Seq.{take-length}
 use Rattle.summaries.proofs.Firsts.{take_more}
-use Rattle.summaries.proofs.Eaches.{each_left, each_last, each_or_last}
+use Rattle.summaries.proofs.Eaches.{each_left, each_last, each_or_last, each_at, each_until}
 use Rattle.std.proofs.lemmas.Option.{same_Some}
 use Rattle.language.specs.Lists.{Member}
 use Rattle.language.proofs.Members.{member_left, member_right, member_append}
@@ -133,6 +133,14 @@ module _ {G : Type 0} (flow : Flow G) (e : Edge) where
   next_so_far k t (inl (i, less, at)) = (i, omega (arith, less), at)
   next_so_far k t (inr at) = (k, omega arith, at)
 
+  -- what one choice more leads to grows on what those before it lead to
+  pub one_choice_more : (k : ℕ) (next : Option (ℕ × ℕ)) (old mid new : List Triple) (before between after : List Edge) →
+      Grows (IsNextBefore k flow e) old mid before between → next ≡ next_of flow e.values k → Grows (IsAt e next) mid new between after →
+      Grows (IsNextBefore (k + 1) flow e) old new before after
+  one_choice_more k next old mid new before between after first is second =
+      both (IsNextBefore k flow e) (IsAt e (next_of flow e.values k)) (IsNextBefore (k + 1) flow e) old mid new before between after first
+      (subst (λ n. Grows (IsAt e n) mid new between after) is second) (next_more k) (next_so_far k)
+
   -- the choices to the last are all
   pub next_all : (k : ℕ) → last_of flow ≤ k → k ≤ last_of flow → (t : Triple) → IsNextBefore (k + 1) flow e t → IsNext flow e t
   next_all k least most t (i, less, at) = (i, omega (arith, less, most), at)
@@ -170,6 +178,18 @@ module _ {X : Type 0} (W : X → Triple → Type 0) (xs : List X) (i : ℕ) (old
   each_next d within new after next =
       subst (λ l. Grows (OfSome W l) old new before after) (sym (take_more xs i d within))
       (each_more W (take i xs) (get_or xs i d) old now new before at after first next)
+
+  -- at which the adding fails
+  pub each_failed : {T U : Type 0} {inner : Result T TableFault} {answer : Result U TableFault} {most : ℕ} (d : X) → i < length xs →
+      (new : List Triple) (after : List Edge) → Adds (W (get_or xs i d)) inner most now new at after →
+      OnOk answer (Grows (OfSome W xs) old new before after) → (answer ≡ Err EdgeLimit → inner ≡ Err EdgeLimit) →
+      Adds (OfSome W xs) answer most old new before after
+  each_failed d within new after failed none told = record {
+    ok = none;
+    only = λ t m. each_until W xs i d within t (failed.only t m) (first.only t);
+    within = failed.within;
+    limit = λ is. let (t, w, out, full) = failed.limit (told is) in (t, each_at W xs i d within t w, out, full);
+  }
 
   -- all of them
   pub each_done : {u : Unit {0}} (most : ℕ) → i ≡ length xs → length now ≤ most → Adds (OfSome W xs) (Ok u) most old now before at

@@ -28,15 +28,7 @@ use Rattle.summaries.proofs.Telling.{gives_kept}
 module _ {A G : Type 0} (graph : Graph G) (q : ℕ) (f g : Found A) where
   -- what is found, with other exits, pairs and messages given
   abbrev pub left_to : Found A
-  left_to = record {
-    entries = f.entries;
-    summaries = f.summaries;
-    sites = f.sites;
-    exits = g.exits;
-    pairs = g.pairs;
-    given = g.given;
-    pending = f.pending;
-  }
+  left_to = record f { exits = g.exits; pairs = g.pairs; given = g.given }
 
   -- the messages taken are the same
   pub taken_left : (k : NumberedMessage) → TookMessage f k → TookMessage left_to k

@@ -233,15 +233,7 @@ module _ {A G : Type 0} (graph : Graph G) (q : ℕ) (f g : Found A) (es : List T
     (pended : g.pending.items ≡ f.pending.items) where
   -- what is found, with these
   abbrev pub same_to : Found A
-  same_to = record {
-    entries = f.entries;
-    summaries = f.summaries;
-    sites = f.sites;
-    exits = f.exits;
-    pairs = g.pairs;
-    given = g.given;
-    pending = g.pending;
-  }
+  same_to = record f { pairs = g.pairs; given = g.given; pending = g.pending }
 
   -- nothing changes
   pub same_step : Step graph q f same_to es es
@@ -271,15 +263,7 @@ module _ {A G : Type 0} (graph : Graph G) (q : ℕ) (f : Found A) (es : List Tri
     (popped : f.pending.items ≡ pending.items ++ e ∷ []) where
   -- what is found, with the last edge no longer pending
   abbrev pub popped_to : Found A
-  popped_to = record {
-    entries = f.entries;
-    summaries = f.summaries;
-    sites = f.sites;
-    exits = f.exits;
-    pairs = f.pairs;
-    given = f.given;
-    pending = pending;
-  }
+  popped_to = record f { pending = pending }
 
   taken_there : (k : NumberedMessage) → TookMessage f k → TookMessage popped_to k
   taken_there = taken_as f popped_to (λ a. refl) (λ c. refl)

@@ -9,39 +9,6 @@ use Rattle.flow_graph.proofs.Calls.{argument_step, entry_fits}
 use Rattle.flow_graph.proofs.Stacks.{byte_worth}
 use Rattle.flow_graph.proofs.call.Call.entry.Goals as goal
 
-pub overflow_add-entry : goal.overflow_add-entry
-overflow_add-entry g c =
-    let bit : c.loop-argument.bit < most_places =
-    omega (
-      arith,
-      c.loop-argument.invariant.2,
-      c.loop-argument-test.true,
-      c.as_slice-argument-items.ensures.len,
-      c.args.self.now.fits,
-    ) in
-    let fits = entry_fits _ c.loop-argument.entry c.loop-argument.bit _
-    (byte_worth c.value.result) c.loop-argument.invariant.1 bit in
-    omega (arith, fits)
-
-pub loop-argument-preserved : goal.loop-argument-preserved
-loop-argument-preserved g c =
-    let xs = c.as_slice-argument-items.result.now in
-    let i = c.loop-argument.argument-index in
-    let next = drop_more xs i c.argument-item.result c.loop-argument-test.true ∙ ap (λ x. x ∷ drop (i + 1) xs) (sym c.argument-item.is) in
-    let bit : c.loop-argument.bit < most_places =
-    omega (
-      arith,
-      c.loop-argument.invariant.2,
-      c.loop-argument-test.true,
-      c.as_slice-argument-items.ensures.len,
-      c.args.self.now.fits,
-    ) in
-    let (whole, below) =
-    argument_step (λ f. says f c.args.values) (drop i xs)
-    (drop (i + 1) xs) c.argument-item.result c.loop-argument.entry c.loop-argument.bit _ _
-    c.loop-argument.invariant.0 next (byte_worth c.value.result ∙ ap worth_of c.value.ensures) c.loop-argument.invariant.1 bit in
-    (whole, below, omega (arith, c.loop-argument.invariant.2))
-
 pub overflow_shl-entry : goal.overflow_shl-entry
 overflow_shl-entry g c =
     omega (
@@ -51,6 +18,25 @@ overflow_shl-entry g c =
       c.as_slice-argument-items.ensures.len,
       c.args.self.now.fits,
     )
+
+pub overflow_add-entry : goal.overflow_add-entry
+overflow_add-entry g c =
+    let bit : c.loop-argument.bit < most_places = overflow_shl-entry g c in
+    let fits = entry_fits _ c.loop-argument.entry c.loop-argument.bit _
+    (byte_worth c.value.result) c.loop-argument.invariant.1 bit in
+    omega (arith, fits)
+
+pub loop-argument-preserved : goal.loop-argument-preserved
+loop-argument-preserved g c =
+    let xs = c.as_slice-argument-items.result.now in
+    let i = c.loop-argument.argument-index in
+    let next = drop_more xs i c.argument-item.result c.loop-argument-test.true ∙ ap (λ x. x ∷ drop (i + 1) xs) (sym c.argument-item.is) in
+    let bit : c.loop-argument.bit < most_places = overflow_shl-entry g c in
+    let (whole, below) =
+    argument_step (λ f. says f c.args.values) (drop i xs)
+    (drop (i + 1) xs) c.argument-item.result c.loop-argument.entry c.loop-argument.bit _ _
+    c.loop-argument.invariant.0 next (byte_worth c.value.result ∙ ap worth_of c.value.ensures) c.loop-argument.invariant.1 bit in
+    (whole, below, omega (arith, c.loop-argument.invariant.2))
 
 pub returns : goal.returns
 returns g c =

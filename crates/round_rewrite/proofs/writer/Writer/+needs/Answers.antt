@@ -12,8 +12,7 @@ use Rattle.round_rewrite.proofs.writer.Writer.+needs.Goals as goal
 pub needs-needs_of-requires : goal.needs-needs_of-requires
 needs-needs_of-requires g t c κs within =
     let part = smaller c.args.stmts.now c.loop-stmt.stmt-index c.stmt-item.result c.loop-stmt-test.true c.stmt-item.is in
-    let less : 2 * held (deed_of c.stmt-item.result.core) + 2 < 2 * statements (block_of c.args.stmts.now) + 1 = omega (arith, part) in
-    (rw (← c.decreases) less, within)
+    (rw (← c.decreases) (omega (arith, part)), within)
 
 pub needs-loop-stmt-preserved : goal.needs-loop-stmt-preserved
 needs-loop-stmt-preserved g t c =

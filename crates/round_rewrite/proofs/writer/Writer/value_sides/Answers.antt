@@ -1,8 +1,7 @@
-use Rattle.std.proofs.Common.{◌∙◌, ap}
 use Rattle.trees.specs.Trees.{name_of, rhs_of, expr_of, rhss_of}
 use Rattle.round_rewrite.specs.Table.{written, expression}
 use Rattle.round_rewrite.specs.Writing.{naming_of}
-use Rattle.round_rewrite.proofs.Pushed.{pushed, over_rounds}
+use Rattle.round_rewrite.proofs.Pushed.{pushed_as, over_rounds}
 use Rattle.round_rewrite.proofs.writer.Writer.value_sides.Goals as goal
 
 pub returns : goal.returns
@@ -15,11 +14,5 @@ returns g c =
 
 pub loop-round-preserved : goal.loop-round-preserved
 loop-round-preserved g c =
-    let w = naming_of c.args.self.now in
-    let last = c.args.self.now.rounds.last in
-    let x = name_of c.args.x.now in
-    ap rhss_of c.in_ok-push.ensures.items
-    ∙ pushed rhs_of (written w last (expression (naming_of c.args.self.now) c.args.self.now.rounds.last (expr_of c.args.e.now)) x)
-    (rhss_of c.args.into.now.items) c.loop-round.into.items _
-    c.loop-round.round c.loop-round.invariant
-    (c.in_ok-written.ensures ∙ ap (λ d. written w last d x c.loop-round.round) c.in_ok-value.ensures)
+    pushed_as rhs_of (λ d. written (naming_of c.args.self.now) c.args.self.now.rounds.last d (name_of c.args.x.now)) _ _ _ _ _ _ _
+    c.loop-round.invariant c.in_ok-push.ensures.items c.in_ok-written.ensures c.in_ok-value.ensures

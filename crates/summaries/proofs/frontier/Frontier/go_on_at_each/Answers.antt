@@ -1,29 +1,16 @@
 use Rattle.std.proofs.Common.{Err, refl, sym, ap, arith, rules}
 use Rattle.summaries.specs.Found.{site}
 use Rattle.summaries.specs.Grows.{IsBehind}
-use Rattle.summaries.proofs.Growing.{each_next, each_done, fault_of}
+use Rattle.summaries.proofs.Growing.{each_next, each_failed, each_done, fault_of}
 use Rattle.summaries.proofs.Reaching.{still_within, reaches_on, stays_on}
-use Rattle.summaries.proofs.Eaches.{each_at, each_until}
 use Rattle.summaries.proofs.frontier.Frontier.go_on_at_each.Goals as goal
 
 pub returns-in_err-reach_behind : goal.returns-in_err-reach_behind
 returns-in_err-reach_behind g c =
-    let xs = c.args.sites.now in
-    let i = c.loop-site.site-index in
-    let failed = c.in_err-reach_behind.ensures.adds in
-    reaches_on g.S.PathSet.members c.loop-site.invariant.2 c.in_err-reach_behind.ensures.stays (record {
-      ok = search rules;
-      only = λ t there. each_until (λ site. IsBehind c.args.graph.now site c.args.left) xs i (site 0 0 0) c.loop-site-test.true t
-          (failed.only t there) (c.loop-site.invariant.0.only t);
-      within = failed.within;
-      limit = λ e.
-          let (t, is, new, full) = failed.limit (ap Err (sym (fault_of _ _ _ c.from_residual.ensures.1 e))) in (
-            t,
-            each_at (λ site. IsBehind c.args.graph.now site c.args.left) xs i (site 0 0 0) c.loop-site-test.true t is,
-            new,
-            full,
-          );
-    })
+    reaches_on g.S.PathSet.members c.loop-site.invariant.2 c.in_err-reach_behind.ensures.stays
+    (each_failed (λ site. IsBehind c.args.graph.now site c.args.left) c.args.sites.now c.loop-site.site-index _ _ _ _
+    c.loop-site.invariant.0 (site 0 0 0) c.loop-site-test.true _ _ c.in_err-reach_behind.ensures.adds (search rules)
+    (λ e. ap Err (sym (fault_of _ _ _ c.from_residual.ensures.1 e))))
 
 pub loop-site-preserved : goal.loop-site-preserved
 loop-site-preserved g c = (

@@ -2,9 +2,9 @@ use Rattle.std.proofs.Common.{◌≡◌, ◌≤◌, ◌<◌, ◌+◌, ◌↔◌,
 use Rattle.std.proofs.Common.{true≢false, arith, rules}
 use Rattle.std.specs.Bool.{IsTrue}
 use Rattle.std.proofs.lemmas.Bool.{ltb-true, ltb-false}
-use Rattle.flow_graph.specs.Flows.{last_of, next_of}
-use Rattle.summaries.specs.Grows.{Grows, IsAt, IsNextBefore, IsNext}
-use Rattle.summaries.proofs.Growing.{ok_err, fault_of, both, grows_as, next_more, next_so_far, next_all, all_next, some_next}
+use Rattle.flow_graph.specs.Flows.{last_of}
+use Rattle.summaries.specs.Grows.{IsAt, IsNextBefore, IsNext}
+use Rattle.summaries.proofs.Growing.{ok_err, fault_of, grows_as, one_choice_more, next_all, all_next, some_next}
 use Rattle.summaries.proofs.Reaching.{still_within, reaches_on, stays_on}
 use Rattle.summaries.proofs.frontier.Frontier.lead.Goals as goal
 
@@ -36,22 +36,13 @@ returns-in_err-reach_next g c =
     })
 
 pub choices-preserved : goal.choices-preserved
-choices-preserved g c =
-    let flow = c.args.flow.now in
-    let from = c.args.from in
-    let k = c.choices.choice in (
-      both (IsNextBefore k flow from) (IsAt from (next_of flow from.values k))
-          (IsNextBefore (k + 1) flow from) _ _ _ _ _ _ c.choices.invariant.0
-          (subst
-          (λ next.
-          Grows (IsAt from next) (g.S.PathSet.members c.choices.self.edges.now)
-          (g.S.PathSet.members c.reach_next.new.self.edges.now) c.choices.self.pending.now.items c.reach_next.new.self.pending.now.items)
-          c.choose-next.ensures.next c.in_ok-reach_next.ensures.adds.ok)
-          (next_more flow from k) (next_so_far flow from k),
-      still_within g.S.PathSet.members c.in_ok-reach_next.ensures,
-      stays_on c.choices.invariant.2 c.in_ok-reach_next.ensures.stays,
-      omega (arith, c.choose-next.ensures.more.0 c.if-not-more.false),
-    )
+choices-preserved g c = (
+  one_choice_more c.args.flow.now c.args.from c.choices.choice _ _ _ _ _ _ _ c.choices.invariant.0 c.choose-next.ensures.next
+      c.in_ok-reach_next.ensures.adds.ok,
+  still_within g.S.PathSet.members c.in_ok-reach_next.ensures,
+  stays_on c.choices.invariant.2 c.in_ok-reach_next.ensures.stays,
+  omega (arith, c.choose-next.ensures.more.0 c.if-not-more.false),
+)
 
 pub returns-then-not-more : goal.returns-then-not-more
 returns-then-not-more g c =
@@ -62,14 +53,7 @@ returns-then-not-more g c =
     let least = is_last k (last_of flow) c.choose-next.result.1 c.choose-next.ensures.more c.if-not-more.true in
     let grown = grows_as (IsNextBefore (k + 1) flow from) (IsNext flow from) _ _ _ _ (next_all flow from k least most)
     (all_next flow from k least most)
-    (both (IsNextBefore k flow from) (IsAt from (next_of flow from.values k))
-    (IsNextBefore (k + 1) flow from) _ _ _ _ _ _ c.choices.invariant.0
-    (subst
-    (λ next.
-    Grows (IsAt from next) (g.S.PathSet.members c.choices.self.edges.now)
-    (g.S.PathSet.members c.reach_next.new.self.edges.now) c.choices.self.pending.now.items c.reach_next.new.self.pending.now.items)
-    c.choose-next.ensures.next c.in_ok-reach_next.ensures.adds.ok)
-    (next_more flow from k) (next_so_far flow from k)) in
+    (one_choice_more flow from k _ _ _ _ _ _ _ c.choices.invariant.0 c.choose-next.ensures.next c.in_ok-reach_next.ensures.adds.ok) in
     reaches_on g.S.PathSet.members c.choices.invariant.2 c.in_ok-reach_next.ensures.stays (record {
       ok = grown;
       only = grown.only;

@@ -3,9 +3,9 @@ use Rattle.language.specs.Lists.{Member, NoneTwice}
 use Rattle.path_sets.specs.Triples.{triple}
 use Rattle.summaries.specs.Found.{TookDue}
 use Rattle.summaries.specs.Under.{under}
-use Rattle.summaries.specs.Grows.{AddsMails, OfSome, IsSummaryTold}
+use Rattle.summaries.specs.Grows.{Grows, AddsMails, OfSome, IsSummaryTold}
 use Rattle.summaries.proofs.Entering.{entered_also, enter_only, enter_step, start_reached, none_told}
-use Rattle.summaries.proofs.Growing.{ok_err, grows_as, fault_of}
+use Rattle.summaries.proofs.Growing.{ok_err, fault_of}
 use Rattle.summaries.proofs.Mails.{caller_known, caller_new, answers_still}
 use Rattle.summaries.proofs.Stepping.{grown_to, still_holds, all_reached, taken_as, has_more}
 use Rattle.summaries.proofs.Worked.{failed_worked, refused_worked}
@@ -89,11 +89,9 @@ returns-in_err-reach-clause-worked g c =
 pub returns-in_err-tell_exits-clause-worked : goal.returns-in_err-tell_exits-clause-worked
 returns-in_err-tell_exits-clause-worked g c =
     let self = c.args.self.now in
-    let pending = c.reach.new.self.pending.now in
-    let f = self.found in
     let a = c.args.a in
     refused_worked g.S.PathSet.members (λ t. ⊥) _ self _
-    (enter_only self.graph.now self.procedure f c.add.new.self c.tell_exits.new.given pending a
+    (enter_only self.graph.now self.procedure self.found c.add.new.self c.tell_exits.new.given c.reach.new.self.pending.now a
     c.args.caller c.in_ok-add.ensures.added c.in_ok-add.ensures.others
     (g.S.PathSet.members self.edges) (g.S.PathSet.members c.reach.new.self.edges.now) c.requires.holds.0
     (λ t m. elim (c.in_ok-reach.ensures.adds.only t m) [ inl is ↦ inl (is ∙ ap (λ n. triple a n a) c.start.ensures) | inr was ↦ inr was ]))
@@ -109,10 +107,7 @@ returns-clause-worked g c =
     let es = g.S.PathSet.members self.edges in
     let ds = g.S.PathSet.members c.reach.new.self.edges.now in
     let grown =
-    grows_as (λ t. t ≡ triple a c.start.result a)
-    (λ t. t ≡ triple a self.graph.now.start a) es ds f.pending.items pending.items
-    (λ t is. is ∙ ap (λ n. triple a n a) c.start.ensures)
-    (λ t is. is ∙ ap (λ n. triple a n a) (sym c.start.ensures)) c.in_ok-reach.ensures.adds.ok in
+    subst (λ n. Grows (λ t. t ≡ triple a n a) es ds f.pending.items pending.items) c.start.ensures c.in_ok-reach.ensures.adds.ok in
     let gave = subst
     (λ bs. AddsMails
     (OfSome (λ b. IsSummaryTold self.procedure a b c.args.caller) bs) f.given.mails.items
@@ -123,9 +118,7 @@ returns-clause-worked g c =
       holds =
           still_holds self.graph.now self.procedure f _ es ds step (λ t. ⊥) c.requires.holds;
       edges = enter_only self.graph.now self.procedure f c.add.new.self c.tell_exits.new.given pending a
-          c.args.caller c.in_ok-add.ensures.added c.in_ok-add.ensures.others es ds c.requires.holds.0
-          (λ t m. elim (c.in_ok-reach.ensures.adds.only t m)
-          [ inl is ↦ inl (is ∙ ap (λ n. triple a n a) c.start.ensures) | inr was ↦ inr was ]);
+          c.args.caller c.in_ok-add.ensures.added c.in_ok-add.ensures.others es ds c.requires.holds.0 grown.only;
       within = c.in_ok-reach.ensures.adds.within;
       many = λ is. absurd (ok_err is);
       answers = answers_still f.given.mails.items c.tell_exits.new.given.mails.items f.given.answered

@@ -1,9 +1,9 @@
-use Rattle.std.proofs.Common.{◌≡◌, ◌∷◌, [], nat_eq, true, inl, refl, sym, subst}
+use Rattle.std.proofs.Common.{◌≡◌, ◌∷◌, [], nat_eq, true, false, inl, refl, sym, subst}
+use Rattle.std.specs.List.{list_any}
 use Rattle.language.specs.Lists.{Member, NoneTwice}
 use Rattle.language.proofs.Members.{member_right}
 use Rattle.path_sets.specs.Triples.{triple}
 use Rattle.summaries.proofs.Keys.{found_is_in}
-use Rattle.summaries.specs.declared.found.Found.{Found}
 use Rattle.summaries.specs.Under.{under}
 use Rattle.summaries.specs.Found.{pair, pair_eq}
 use Rattle.summaries.specs.Grows.{AddsMails, OfSome, IsSummaryTold, triple_of}
@@ -24,6 +24,15 @@ is_new g c =
     (pair c.args.edge.entry c.left-left.result) c.args.self.now.found.pairs.keys c.insert.new.self.keys
     c.in_ok-insert.field-0 c.in_ok-insert.ensures.added c.in_ok-insert.ensures.keys laws-law.refl
 
+-- the pair is known
+is_known : (g : Over) (c : In_ok-insert g) → c.in_ok-insert.field-0 ≡ false →
+    (c.insert.new.self.keys ≡ c.args.self.now.found.pairs.keys)
+    × (list_any (pair_eq (pair c.args.edge.entry c.left-left.result)) c.args.self.now.found.pairs.keys ≡ true)
+is_known g c =
+    inserted_known pair_eq
+    (pair c.args.edge.entry c.left-left.result) c.args.self.now.found.pairs.keys c.insert.new.self.keys
+    c.in_ok-insert.field-0 c.in_ok-insert.ensures.added c.in_ok-insert.ensures.keys
+
 pub tell_all-requires : goal.tell_all-requires
 tell_all-requires g c =
     let self = c.args.self.now in
@@ -42,15 +51,7 @@ returns-in_ok-tell_all-clause-ok g c =
     let e = c.args.edge in
     let b = c.left-left.result in
     let es = g.S.PathSet.members self.edges in
-    let h : Found g.row.A.Denot = record {
-      entries = f.entries;
-      summaries = f.summaries;
-      sites = f.sites;
-      exits = c.add.new.self;
-      pairs = c.insert.new.self;
-      given = c.tell_all.new.given;
-      pending = f.pending;
-    } in
+    let h = record f { exits = c.add.new.self; pairs = c.insert.new.self; given = c.tell_all.new.given } in
     let there = subst (λ n. Member (triple e.entry n e.values) es) c.if-edge-ne-EXIT.false c.requires.edge in
     let keys = inserted_new pair_eq (pair e.entry b) f.pairs.keys c.insert.new.self.keys
     c.in_ok-insert.field-0 c.in_ok-insert.ensures.added c.in_ok-insert.ensures.keys c.if-branch.true in
@@ -64,12 +65,11 @@ returns-in_ok-tell_all-clause-ok g c =
 
 pub returns-in_ok-tell_all-clause-left : goal.returns-in_ok-tell_all-clause-left
 returns-in_ok-tell_all-clause-left g c = λ _.
-    let self = c.args.self.now in
-    let f = self.found in
-    let e = c.args.edge in
+    let entry = c.args.edge.entry in
     let b = c.left-left.result in
-    subst (λ y. Member y (under nat_eq c.add.new.self.by_key e.entry)) c.left-left.ensures.number
-    (subst (Member b) (sym c.in_ok-add.ensures.added) (member_right b (under nat_eq f.exits.by_key e.entry) (b ∷ []) (inl refl)))
+    subst (λ y. Member y (under nat_eq c.add.new.self.by_key entry)) c.left-left.ensures.number
+    (subst (Member b) (sym c.in_ok-add.ensures.added)
+    (member_right b (under nat_eq c.args.self.now.found.exits.by_key entry) (b ∷ []) (inl refl)))
 
 pub returns-in_ok-tell_all-clause-answers : goal.returns-in_ok-tell_all-clause-answers
 returns-in_ok-tell_all-clause-answers g c =
@@ -83,26 +83,16 @@ returns-else-branch-clause-ok g c =
     let f = self.found in
     let e = c.args.edge in
     let es = g.S.PathSet.members self.edges in
-    let h : Found g.row.A.Denot = record {
-      entries = f.entries;
-      summaries = f.summaries;
-      sites = f.sites;
-      exits = f.exits;
-      pairs = c.insert.new.self;
-      given = f.given;
-      pending = f.pending;
-    } in
-    let known = inserted_known pair_eq (pair e.entry c.left-left.result) f.pairs.keys c.insert.new.self.keys
-    c.in_ok-insert.field-0 c.in_ok-insert.ensures.added c.in_ok-insert.ensures.keys c.if-branch.false in
+    let h = record f { pairs = c.insert.new.self } in
+    let known = is_known g (goal.at.returns-else-branch-clause-ok g c).In_ok-insert c.if-branch.false in
     let step = same_step self.graph.now self.procedure f h es known.0 refl refl in
     still_holds self.graph.now self.procedure f h es es step (λ t. t ≡ triple_of e) c.requires.holds
 
 pub returns-else-branch-clause-left : goal.returns-else-branch-clause-left
 returns-else-branch-clause-left g c = λ _.
-    let self = c.args.self.now in
-    let f = self.found in
-    let e = c.args.edge in
-    let known = inserted_known pair_eq (pair e.entry c.left-left.result) f.pairs.keys c.insert.new.self.keys
-    c.in_ok-insert.field-0 c.in_ok-insert.ensures.added c.in_ok-insert.ensures.keys c.if-branch.false in
-    subst (λ b. Member b (under nat_eq f.exits.by_key e.entry)) c.left-left.ensures.number
-    ((c.requires.holds.1.pairs e.entry c.left-left.result).0 (found_is_in pair_eq same_pair (pair e.entry c.left-left.result) f.pairs.keys known.1))
+    let f = c.args.self.now.found in
+    let entry = c.args.edge.entry in
+    let both = pair entry c.left-left.result in
+    let known = is_known g (goal.at.returns-else-branch-clause-left g c).In_ok-insert c.if-branch.false in
+    subst (λ b. Member b (under nat_eq f.exits.by_key entry)) c.left-left.ensures.number
+    ((c.requires.holds.1.pairs entry c.left-left.result).0 (found_is_in pair_eq same_pair both f.pairs.keys known.1))

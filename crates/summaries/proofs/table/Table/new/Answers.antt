@@ -26,11 +26,6 @@ returns-clause-new g c =
 
 pub returns-clause-quiet : goal.returns-clause-quiet
 returns-clause-quiet g c =
-    let graph = c.graph.result.now in
-    let found = c.new.result in
-    let es = g.S.PathSet.members c.empty.result in
-    let none = c.empty.ensures in
-    let empty = c.new.ensures in
-    quiet_table g.S.PathSet.members _ (empty_grounded graph c.args.procedure found es empty none)
-    (empty_complete graph c.args.procedure found es empty none) empty.pending
-    (answers_none found.given.mails.items found.given.answered empty.given ∙ sym empty.given)
+    let new = returns-clause-new g c in
+    let held = new.table.holds refl in
+    quiet_table g.S.PathSet.members _ held.0 held.1 c.new.ensures.pending (new.answered ∙ sym c.new.ensures.given)
