@@ -9,8 +9,7 @@ use Rattle.flow_graph.proofs.sizes.+sizes.Goals as goal
 pub size-size_of-requires : goal.size-size_of-requires
 size-size_of-requires g t c κs within =
     let part = smaller c.args.stmts.now c.loop-stmt.stmt-index c.stmt-item.result c.loop-stmt-test.true c.stmt-item.is in
-    let less : 2 * held (deed_of c.stmt-item.result.core) + 2 < 2 * statements (block_of c.args.stmts.now) + 1 = omega (arith, part) in
-    (rw (← c.decreases) less, within)
+    (rw (← c.decreases) (omega (arith, part)), within)
 
 pub size-loop-stmt-preserved : goal.size-loop-stmt-preserved
 size-loop-stmt-preserved g t c most =

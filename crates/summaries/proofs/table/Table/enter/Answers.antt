@@ -66,13 +66,11 @@ returns-in_err-add-clause-worked g c =
 pub returns-in_err-reach-clause-worked : goal.returns-in_err-reach-clause-worked
 returns-in_err-reach-clause-worked g c =
     let self = c.args.self.now in
-    let pending = c.reach.new.self.pending.now in
-    let f = self.found in
     let a = c.args.a in
     let es = g.S.PathSet.members self.edges in
     let ds = g.S.PathSet.members c.reach.new.self.edges.now in
-    let edges = enter_only self.graph.now self.procedure f c.add.new.self f.given pending a c.args.caller
-    c.in_ok-add.ensures.added c.in_ok-add.ensures.others es ds c.requires.holds.0
+    let edges = enter_only self.graph.now self.procedure self.found c.add.new.self self.found.given c.reach.new.self.pending.now a
+    c.args.caller c.in_ok-add.ensures.added c.in_ok-add.ensures.others es ds c.requires.holds.0
     (λ t m. elim (c.in_err-reach.ensures.adds.only t m)
     [ inl is ↦ inl (is ∙ ap (λ n. triple a n a) c.start.ensures) | inr was ↦ inr was ]) in
     failed_worked g.S.PathSet.members (λ t. ⊥) _ self _ edges c.in_err-reach.ensures.adds.within
@@ -81,8 +79,8 @@ returns-in_err-reach-clause-worked g c =
     let (t, is_start, new, full) =
     c.in_err-reach.ensures.adds.limit (ap Err (sym (fault_of _ _ _ c.from_residual-in_err-reach.ensures.1 is))) in
     has_more (most_of self.limit) ds _ (g.met.S.PathSet.none_twice c.reach.new.self.edges.now) edges t
-    (start_reached self.graph.now self.procedure f c.add.new.self f.given pending a c.args.caller
-    c.in_ok-add.ensures.added c.in_ok-add.ensures.others es ds c.requires.holds.0
+    (start_reached self.graph.now self.procedure self.found c.add.new.self self.found.given c.reach.new.self.pending.now a
+    c.args.caller c.in_ok-add.ensures.added c.in_ok-add.ensures.others es ds c.requires.holds.0
     t (is_start ∙ ap (λ n. triple a n a) c.start.ensures))
     new full)
 
