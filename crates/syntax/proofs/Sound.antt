@@ -1,10 +1,12 @@
 -- The function that reads statements is sound and complete for the grammar of statements.
 use Rattle.std.proofs.Common.{◌≡◌, Bool, true, false, cond, ◌&&◌, List, [], ◌∷◌, Option, Some, None, refl, ◌⊎◌, inl, inr}
-use Rattle.language.specs.Tree.{Name, RightSide, Simple, skip, assign, assert, assume, goto, leave, leave_with, call, call_for, Mark, Block, done}
+use Rattle.language.specs.Tree.{Name, RightSide, Simple, skip, assign, assert, assume, goto, leave, leave_with, call, call_for, Mark, Block}
+use Rattle.language.specs.Tree.{done}
 use Rattle.tokens.specs.declared.vocabulary.Kind.TheVariants as kind
 use Rattle.tokens.specs.Token.{Tok, same_kind}
 use Rattle.syntax.specs.Parser.{Parser, give, refuse, ◌>>=◌, begins, take}
-use Rattle.syntax.specs.Grammar.{Takes, takes, InParens, IsRight, name_at, IsMarked, bare, labelled, IsSimple, is_skip, is_return, is_give, is_goto, is_assert}
+use Rattle.syntax.specs.Grammar.{Takes, takes, InParens, IsRight, name_at, IsMarked, bare, labelled, IsSimple, is_skip, is_return, is_give}
+use Rattle.syntax.specs.Grammar.{is_goto, is_assert}
 use Rattle.syntax.specs.Grammar.{is_assume, is_assign, is_call, is_call_for, IsSome, Statements, nothing_more, statement, if_statement}
 use Rattle.syntax.specs.Grammar.{while_statement}
 use Rattle.trees.specs.Trees.{Deed, simple, branch, repeat, Item, before, marked_before}
