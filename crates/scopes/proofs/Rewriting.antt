@@ -95,7 +95,8 @@ expression_declared s (two o a b) h =
 expressions_declared : (s : Scope) (es : List (Expression Name)) → Each (Declared s) (variables_of_all es) → ExpressionsDeclared s es
 expressions_declared s [] h = tt
 expressions_declared s (e ∷ es) h =
-    let parts = apart (Declared s) (variables_of e) (variables_of_all es) h in (expression_declared s e parts.0, expressions_declared s es parts.1)
+    let parts = apart (Declared s) (variables_of e) (variables_of_all es) h in
+    (expression_declared s e parts.0, expressions_declared s es parts.1)
 
 side_declared : (s : Scope) (r : RightSide Name) → Each (Declared s) (variables_of_side r) → SideDeclared s r
 side_declared s any h = tt

@@ -242,7 +242,8 @@ block_fits (choose m r a b k) ok level more apart =
     put _ (line_of level (label_parts m.label ++ test_parts kind.If r kind.Then) ++ from_yes)
     (six (line_of level (label_parts m.label ++ test_parts kind.If r kind.Then)) (block_parts (suc level) a)
     (line_of level (fixed kind.Else ∷ [])) (block_parts (suc level) b) (line_of level (fixed kind.Fi ∷ [])) (block_parts level k) more)
-    (first_line_fits level m.label ok.0 (test_parts kind.If r kind.Then) from_yes (test_fits kind.If kind.Then (inl (reserved refl)) (inl (reserved refl)) r ok.1 from_yes h5))
+    (first_line_fits level m.label ok.0 (test_parts kind.If r kind.Then) from_yes
+    (test_fits kind.If kind.Then (inl (reserved refl)) (inl (reserved refl)) r ok.1 from_yes h5))
 block_fits (loop m r a k) ok level more apart =
     let rest : List Part = block_parts level k ++ more in
     let from_od : List Part = line_of level (fixed kind.Od ∷ []) ++ rest in
@@ -253,7 +254,8 @@ block_fits (loop m r a k) ok level more apart =
     put _ (line_of level (label_parts m.label ++ test_parts kind.While r kind.Do) ++ from_body)
     (four (line_of level (label_parts m.label ++ test_parts kind.While r kind.Do)) (block_parts (suc level) a)
     (line_of level (fixed kind.Od ∷ [])) (block_parts level k) more)
-    (first_line_fits level m.label ok.0 (test_parts kind.While r kind.Do) from_body (test_fits kind.While kind.Do (inl (reserved refl)) (inl (reserved refl)) r ok.1 from_body h3))
+    (first_line_fits level m.label ok.0 (test_parts kind.While r kind.Do) from_body
+    (test_fits kind.While kind.Do (inl (reserved refl)) (inl (reserved refl)) r ok.1 from_body h3))
 
 declaration_fits : (ns : List Name) → AreIds ns → (level : ℕ) (more : List Part) → AreApart more
     → AreApart (declaration_parts level ns ++ more)

@@ -1,10 +1,12 @@
 -- The function that reads statements is sound and complete for the grammar of statements.
 use Rattle.std.proofs.Common.{◌≡◌, Bool, true, false, cond, ◌&&◌, List, [], ◌∷◌, Option, Some, None, refl, ◌⊎◌, inl, inr}
-use Rattle.language.specs.Tree.{Name, RightSide, Simple, skip, assign, assert, assume, goto, leave, leave_with, call, call_for, Mark, Block, done}
+use Rattle.language.specs.Tree.{Name, RightSide, Simple, skip, assign, assert, assume, goto, leave, leave_with, call, call_for, Mark, Block}
+use Rattle.language.specs.Tree.{done}
 use Rattle.tokens.specs.declared.vocabulary.Kind.TheVariants as kind
 use Rattle.tokens.specs.Token.{Tok, same_kind}
 use Rattle.syntax.specs.Parser.{Parser, give, refuse, ◌>>=◌, begins, take}
-use Rattle.syntax.specs.Grammar.{Takes, takes, InParens, IsRight, name_at, IsMarked, bare, labelled, IsSimple, is_skip, is_return, is_give, is_goto, is_assert}
+use Rattle.syntax.specs.Grammar.{Takes, takes, InParens, IsRight, name_at, IsMarked, bare, labelled, IsSimple, is_skip, is_return, is_give}
+use Rattle.syntax.specs.Grammar.{is_goto, is_assert}
 use Rattle.syntax.specs.Grammar.{is_assume, is_assign, is_call, is_call_for, IsSome, Statements, nothing_more, statement, if_statement}
 use Rattle.syntax.specs.Grammar.{while_statement}
 use Rattle.trees.specs.Trees.{Deed, simple, branch, repeat, Item, before, marked_before}
@@ -42,14 +44,22 @@ abbrev FindsDeed : Parser Deed → List Tok → Type 0
 FindsDeed p ts = (d : Deed) (rest : List Tok) → p ts ≡ Some (d, rest) → (us : List Tok) (m : Mark Name) → IsMarked us m ts
     → (k : Block Name Name Name) (vs : List Tok) → Statements rest k vs → Statements us (marked_before m d k) vs
 
-plain_found : (ts : List Tok) (s : Simple Name Name Name) (rest : List Tok) → IsSimple ts s rest → (d : Deed) (vs : List Tok)
-    → ◌≡◌ {A = Option (Deed × List Tok)} (Some (simple s, rest)) (Some (d, vs)) → (us : List Tok) (m : Mark Name) → IsMarked us m ts
-    → (k : Block Name Name Name) (ws : List Tok) → Statements vs k ws → Statements us (marked_before m d k) ws
-plain_found ts s rest h d vs e =
+-- a deed that is found is the one that reading gave
+deed_found : (ts : List Tok) (found : Deed) (rest : List Tok) (d : Deed) (vs : List Tok)
+    → ◌≡◌ {A = Option (Deed × List Tok)} (Some (found, rest)) (Some (d, vs))
+    → ((us : List Tok) (m : Mark Name) → IsMarked us m ts → (k : Block Name Name Name) (ws : List Tok) → Statements rest k ws
+    → Statements us (marked_before m found k) ws)
+    → (us : List Tok) (m : Mark Name) → IsMarked us m ts → (k : Block Name Name Name) (ws : List Tok) → Statements vs k ws
+    → Statements us (marked_before m d k) ws
+deed_found ts found rest d vs e =
     carried
     (λ d vs. (us : List Tok) (m : Mark Name) → IsMarked us m ts → (k : Block Name Name Name) (ws : List Tok) → Statements vs k ws
     → Statements us (marked_before m d k) ws) e
-    (λ us m marks k ws more. statement marks h more)
+
+plain_found : (ts : List Tok) (s : Simple Name Name Name) (rest : List Tok) → IsSimple ts s rest → (d : Deed) (vs : List Tok)
+    → ◌≡◌ {A = Option (Deed × List Tok)} (Some (simple s, rest)) (Some (d, vs)) → (us : List Tok) (m : Mark Name) → IsMarked us m ts
+    → (k : Block Name Name Name) (ws : List Tok) → Statements vs k ws → Statements us (marked_before m d k) ws
+plain_found ts s rest h d vs e = deed_found ts (simple s) rest d vs e (λ us m marks k ws more. statement marks h more)
 
 assignment_finds : (ts : List Tok) → FindsDeed assignment ts
 unfolding assignment
@@ -182,9 +192,7 @@ module _ (f : Unit {0} → Parser (Block Name Name Name)) (sound : Finds Found f
       let c6 = between (take kind.Fi) (λ _. give (branch c1.x c3.x c5.x)) c5.us d rest c5.second in
       let a = sound tt c2.us c3.x c3.us c3.first in
       let b = sound tt c4.us c5.x c5.us c5.first in
-      carried
-      (λ d vs. (us : List Tok) (m : Mark Name) → IsMarked us m (t ∷ ts) → (k : Block Name Name Name) (ws : List Tok)
-      → Statements vs k ws → Statements us (marked_before m d k) ws) c6.second
+      deed_found (t ∷ ts) (branch c1.x c3.x c5.x) c6.us d rest c6.second
       (λ us m marks k ws more.
       if_statement marks (takes is) (exactly_test.finds ts c1.x c1.us c1.first)
       (take_finds kind.Then c1.us c2.x c2.us c2.first).0 a.0 a.1
@@ -197,9 +205,7 @@ module _ (f : Unit {0} → Parser (Block Name Name Name)) (sound : Finds Found f
       let c3 = between (f tt) (λ a. take kind.Od >>= λ _. give (repeat c1.x a)) c2.us d rest c2.second in
       let c4 = between (take kind.Od) (λ _. give (repeat c1.x c3.x)) c3.us d rest c3.second in
       let a = sound tt c2.us c3.x c3.us c3.first in
-      carried
-      (λ d vs. (us : List Tok) (m : Mark Name) → IsMarked us m (t ∷ ts) → (k : Block Name Name Name) (ws : List Tok)
-      → Statements vs k ws → Statements us (marked_before m d k) ws) c4.second
+      deed_found (t ∷ ts) (repeat c1.x c3.x) c4.us d rest c4.second
       (λ us m marks k ws more.
       while_statement marks (takes is) (exactly_test.finds ts c1.x c1.us c1.first)
       (take_finds kind.Do c1.us c2.x c2.us c2.first).0 a.0 a.1

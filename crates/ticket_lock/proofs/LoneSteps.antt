@@ -109,12 +109,12 @@ module _ {T Part : Type 0} (before : T → T → Type 0) (part : ℕ → T → P
       ]) in
       record {
         log = r.log;
-        kept = record {
-          room = r.kept.room;
-          core =
-              subst (λ l. Core (get_or s.words 0 0) (get_or s.words 1 0) r.log (get_elem? s.homes 0) l)
-              (sym (map-snoc (hand_of 0) vs b ∙ ap (λ l. l ++ b.hand ∷ []) (map-set (hand_of 0) s.views id a))) c;
-        };
+        kept =
+            subst (λ l. Kept 0 0 r.log s.words s.homes l)
+            (sym (map-snoc (hand_of 0) vs b ∙ ap (λ l. l ++ b.hand ∷ []) (map-set (hand_of 0) s.views id a))) record {
+              room = r.kept.room;
+              core = c;
+            };
         begun = r.begun;
         rising = r.rising;
         each_view = λ j u e. elim (at_snoc vs b u j e) [
@@ -266,12 +266,9 @@ module _ {T Part : Type 0} (before : T → T → Type 0) (part : ℕ → T → P
         w,
         record {
           log = r.log;
-          kept = record {
-            room = r.kept.room;
-            core =
-                subst (λ l. Core (get_or s.words 0 0) (get_or s.words 1 0) r.log (get_elem? s.homes 0) l)
-                (sym (map-snoc (hand_of 0) s.views w)) c;
-          };
+          kept =
+              subst (λ l. Kept 0 0 r.log s.words s.homes l)
+              (sym (map-snoc (hand_of 0) s.views w)) record { room = r.kept.room; core = c };
           begun = r.begun;
           rising = r.rising;
           each_view =
@@ -352,10 +349,12 @@ module _ {T Part : Type 0} (before : T → T → Type 0) (part : ℕ → T → P
         saw at.1,
       ) in
       let known : Known r.log (set vs other z) = dite (ℕ_discrete r.known.0 id)
-      (λ (e : r.known.0 ≡ id). taken v (some-injective r.known.1 v (sym r.known.2 ∙ (ap (get_elem? s.views) e ∙ is_at))) (omega (arith, len))
+      (λ (e : r.known.0 ≡ id).
+      taken v (some-injective r.known.1 v (sym r.known.2 ∙ (ap (get_elem? s.views) e ∙ is_at))) (omega (arith, len))
       (λ q. elim q [ inl q ↦ inl q | inr q ↦ absurd (not_told s r v.told none_v q) ]))
       (λ (ne : r.known.0 ≢ id). dite (ℕ_discrete r.known.0 other)
-      (λ (e : r.known.0 ≡ other). taken w (some-injective r.known.1 w (sym r.known.2 ∙ (ap (get_elem? s.views) e ∙ is_w))) (omega (arith, len))
+      (λ (e : r.known.0 ≡ other).
+      taken w (some-injective r.known.1 w (sym r.known.2 ∙ (ap (get_elem? s.views) e ∙ is_w))) (omega (arith, len))
       (λ q. elim q [ inl q ↦ inr q | inr q ↦ absurd (not_told s r w.told none_w q) ]))
       (λ (no : r.known.0 ≢ other). (
         r.known.0,
@@ -366,12 +365,12 @@ module _ {T Part : Type 0} (before : T → T → Type 0) (part : ℕ → T → P
       ))) in
       record {
         log = r.log;
-        kept = record {
-          room = r.kept.room;
-          core =
-              subst (λ l. Core serving (get_or s.words 1 0) r.log (get_elem? s.homes 0) l)
-              (sym (map-set (hand_of 0) vs other z ∙ ap (λ l. set l other z.hand) (map-set (hand_of 0) s.views id b))) c;
-        };
+        kept =
+            subst (λ l. Kept 0 0 r.log s.words s.homes l)
+            (sym (map-set (hand_of 0) vs other z ∙ ap (λ l. set l other z.hand) (map-set (hand_of 0) s.views id b))) record {
+              room = r.kept.room;
+              core = c;
+            };
         begun = r.begun;
         rising = r.rising;
         each_view = λ j u e. elim (at_set vs other j z u e) [
