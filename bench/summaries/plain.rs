@@ -2,6 +2,7 @@
 //! `bebopk sequential` prints and says how many path edges all procedures have, the nanoseconds that tabulating took, the kilobytes
 //! that the process held at most before and after, and whether an assertion fails. Path edges are kept as `masks`, a word of 64 points
 //! for each entry, valuation and block in an open table, or as `trees`, an ordered set of valuations for each entry and point.
+//! It reads programs without values: no `x := p();` and no `return e;`.
 
 use std::collections::{BTreeSet, HashMap};
 use std::hash::{BuildHasherDefault, Hasher};
