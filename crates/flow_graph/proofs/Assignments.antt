@@ -167,7 +167,8 @@ agree_dropped b v ts m bs h agree k free =
     let other = not_it b k ts h free in
     agree k (still b k ts other free) ∙ sym (get_or-set_other bs b k v false (λ e. other (sym e)))
 
-pub agree_kept : (b : ℕ) (v w : Bool) (ts : List (Option ℕ)) (m : ℕ) (bs : List Bool) → v ≡ w → b < length bs → Agree (Some b ∷ ts) m bs
+pub agree_kept : (b : ℕ) (v w : Bool) (ts : List (Option ℕ)) (m : ℕ) (bs : List Bool) → v ≡ w → b < length bs
+    → Agree (Some b ∷ ts) m bs
     → Agree ts (masked m (2 ^ b) w) (with_bit bs b v)
 agree_kept b v w ts m bs same inside agree k free = go (b == k) refl
   where

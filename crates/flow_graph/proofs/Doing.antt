@@ -175,7 +175,8 @@ one_choice (suc zero) (suc zero) a b ne le lj e = refl
 one_choice (suc (suc i)) j a b ne le lj e = absurd (omega (arith, le))
 one_choice i (suc (suc j)) a b ne le lj e = absurd (omega (arith, lj))
 
-pub does_tests : {A : Type 0} (sd : Side A) (r : RightSide Name) (s : Scope) (gives : Bool) (j k : ℕ) → (j ≡ k → ⊥) → SaysSide sd s r →
+pub does_tests : {A : Type 0} (sd : Side A) (r : RightSide Name) (s : Scope) (gives : Bool) (j k : ℕ) → (j ≡ k → ⊥)
+    → SaysSide sd s r →
     Does (Test sd j k) (tests (resolve_side s r) j k) (widths_of s gives)
 does_tests side.Any any s gives j k ne d = record {
   leads = λ v n w wide. (

@@ -62,7 +62,8 @@ rests_led n s m (repeat r a) t k =
 pub nodes_split : {A : Type 0} (routine : Routine) (n j : ℕ) (s : Scope) (x : Stmt A) (l : List (Stmt A)) (k : Code)
     → j ≡ n + statements (block_of (x ∷ [])) →
     map (node_of routine) (rests (numbered n (resolve_block s (block_of (x ∷ l)))) k)
-    ≡ map (node_of routine) (rests (numbered n (resolve_block s (block_of (x ∷ [])))) (join (numbered j (resolve_block s (block_of l))) k))
+    ≡ map (node_of routine)
+    (rests (numbered n (resolve_block s (block_of (x ∷ [])))) (join (numbered j (resolve_block s (block_of l))) k))
     ++ map (node_of routine) (rests (numbered j (resolve_block s (block_of l))) k)
 nodes_split routine n j s x l k e =
     ap (map (node_of routine)) (rests_led n s (item_of x).mark (item_of x).deed (block_of l) k)
@@ -124,13 +125,15 @@ pub nodes_simple : (routine : Routine) (n : ℕ) (s : Scope) (m : Mark tree.Name
     (k : Code) → d ≡ simple c →
     map (node_of routine) (rests (led n s m d done) k) ≡ node_of routine (join (led n s m d done) k) ∷ []
 nodes_simple routine n s m d c k is =
-    ap (λ z. map (node_of routine) (rests (led n s m z done) k)) is ∙ ap (λ z. node_of routine (join (led n s m z done) k) ∷ []) (sym is)
+    ap (λ z. map (node_of routine) (rests (led n s m z done) k)) is
+    ∙ ap (λ z. node_of routine (join (led n s m z done) k) ∷ []) (sym is)
 
-pub nodes_branch : (routine : Routine) (n i j : ℕ) (s : Scope) (m : Mark tree.Name) (d : Deed) (r : tree.RightSide tree.Name) (a b : Names)
-    (k : Code) → d ≡ branch r a b → i ≡ suc n → j ≡ suc n + statements a →
+pub nodes_branch : (routine : Routine) (n i j : ℕ) (s : Scope) (m : Mark tree.Name) (d : Deed)
+    (r : tree.RightSide tree.Name) (a b : Names) (k : Code) → d ≡ branch r a b → i ≡ suc n → j ≡ suc n + statements a →
     map (node_of routine) (rests (led n s m d done) k)
     ≡ node_of routine (join (led n s m d done) k)
-    ∷ (map (node_of routine) (rests (numbered i (resolve_block s a)) k) ++ map (node_of routine) (rests (numbered j (resolve_block s b)) k))
+    ∷ (map (node_of routine) (rests (numbered i (resolve_block s a)) k)
+    ++ map (node_of routine) (rests (numbered j (resolve_block s b)) k))
 nodes_branch routine n i j s m d r a b k is at_i at_j =
     ap (λ z. map (node_of routine) (rests (led n s m z done) k)) is
     ∙ ap (λ l. head ∷ l)
@@ -160,7 +163,8 @@ nodes_repeat routine n i s m d r a k is at_i =
     ∙ ap (λ l. node_of routine (join (led n s m (repeat r a) done) k) ∷ map (node_of routine) l)
     (append-nil (rests (numbered (suc n) (resolve_block s a)) again))
     ∙ (λ t.
-    node_of routine (join (led n s m (sym is t) done) k) ∷ map (node_of routine) (rests (numbered (sym at_i t) (resolve_block s a)) again))
+    node_of routine (join (led n s m (sym is t) done) k)
+    ∷ map (node_of routine) (rests (numbered (sym at_i t) (resolve_block s a)) again))
   where
     again : Code
     again = loop (marked n (resolve_mark m)) (resolve_side s r) (numbered (suc n) (resolve_block s a)) k

@@ -1,5 +1,6 @@
 -- Nodes lead where flows lead.
-use Rattle.std.proofs.Common.{◌≡◌, ℕ, Bool, true, false, List, [], ◌∷◌, Option, Some, None, slice_get, refl, sym, ◌∙◌, ap, subst}
+use Rattle.std.proofs.Common.{◌≡◌, ℕ, Bool, true, false, List, [], ◌∷◌, Option, Some, None, slice_get, refl, sym, ◌∙◌}
+use Rattle.std.proofs.Common.{ap, subst}
 use Rattle.std.proofs.lemmas.Bool.{true≢false}
 use Rattle.language.specs.Tree.{Expression, value, skip, assign, assert, assume, goto, leave, call, leave_with, call_for, done, one, choose}
 use Rattle.language.specs.Tree.{loop}
@@ -27,7 +28,8 @@ abbrev FlowsOn : Program → ℕ → Valuation → Code → ℕ → Valuation �
 FlowsOn p q v r n v' = (r' : Code) × Flow p q v r v' r' × (n ≡ point_at r')
 
 -- one expression has one value
-pub only_value : (g l : List Bool) (e : Expression Place) (vs : List Bool) → AreValues g l (value e ∷ []) vs → vs ≡ value_of g l e ∷ []
+pub only_value : (g l : List Bool) (e : Expression Place) (vs : List Bool) → AreValues g l (value e ∷ []) vs
+    → vs ≡ value_of g l e ∷ []
 only_value g l e [] are = absurd are
 only_value g l e (b ∷ []) are = ap (λ c. c ∷ []) are.0
 only_value g l e (b ∷ c ∷ bs) are = absurd are.1

@@ -229,7 +229,8 @@ module _ {A : Type 0} (p : Program) (q : ℕ) (graph : Graph A) (is : IsGraph p 
       begun from a (entry c x) had e = (x, x, body, by_messages.starts c x had, ap entry_of e, is.start, ap entry_of e)
       begun from a (summary s x b) had e = absurd (let z : 0 ≡ 1 = ap kind_of e in omega (arith, z))
 
-      resumed_after : (a : ℕ) (x y e : Valuation) (r : Code) (v s w n k : ℕ) (b : Left) (m : Message) → Reached p q M x y r → a ≡ code x
+      resumed_after : (a : ℕ) (x y e : Valuation) (r : Code) (v s w n k : ℕ) (b : Left) (m : Message) → Reached p q M x y r
+          → a ≡ code x
           → v ≡ code y → Calls p y.globals y.places r s e → w ≡ code e → n ≡ point_at (after_first r) →
           ((z : Exit) → length z.globals ≡ length y.globals
           → resumed_at graph k (code y) (exit_code z) ≡ code (resumed_with (target_of r) y z))

@@ -39,6 +39,6 @@ HasTarget places (Some (local i)) = i < places
 -- a call leaves, `after` is the number of the valuation with which a caller goes on that called for the target.
 abbrev pub IsResumed : {A : Type 0} → Call A → ℕ → Left → ℕ → Type 0
 IsResumed call values left after =
-    (v : Valuation) (e : Exit) (target : Option Place) → length v.globals ≡ call.globals → length e.globals ≡ call.globals →
-    HasTarget (length v.places) target → call.target ≡ target_mask call.globals target → values ≡ code v → left ≡ exit_code e →
-    after ≡ code (resumed_with target v e)
+    (v : Valuation) (e : Exit) (target : Option Place) → length v.globals ≡ call.globals → length e.globals ≡ call.globals
+    → HasTarget (length v.places) target → call.target ≡ target_mask call.globals target
+    → values ≡ code v → left ≡ exit_code e → after ≡ code (resumed_with target v e)

@@ -100,7 +100,8 @@ start_held p M opened = of_routine (slice_get p.routines 0) refl
     of_routine None e = (record { globals = []; places = [] }, tt)
     of_routine (Some routine) e =
         let z : Valuation = record { globals = zeros p.globals; places = zeros (frame_size routine) } in
-        let begins = subst (λ o. AtRoutine o (λ r. z ≡ record { globals = zeros p.globals; places = zeros (frame_size r) })) (sym e) refl in
+        let begins =
+        subst (λ o. AtRoutine o (λ r. z ≡ record { globals = zeros p.globals; places = zeros (frame_size r) })) (sym e) refl in
         (z, whole_held p M 0 z routine e (alone_held p M 0 z starter (opened z begins)))
 
 -- in a sequential run the top frame has been reached

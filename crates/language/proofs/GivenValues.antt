@@ -107,7 +107,8 @@ looking_step _ _ (starts x y) P (vs, are, f) = (
   _,
   looks x,
   one_value (x ∷ y ∷ []) [] true
-      (λ ws. P (state (written_globals (global 1 ∷ []) ws (x ∷ y ∷ [])) (frame 2 (written_locals (global 1 ∷ []) ws []) b1 ∷ []))) vs
+      (λ ws.
+      P (state (written_globals (global 1 ∷ []) ws (x ∷ y ∷ [])) (frame 2 (written_locals (global 1 ∷ []) ws []) b1 ∷ []))) vs
       are f,
 )
 looking_step _ _ (looks true) P f = grind (arith, f.0)

@@ -1,5 +1,6 @@
 -- Which procedures give a value: those in whose body one is returned, also by places, and by numbers.
-use Rattle.std.proofs.Common.{◌≡◌, ℕ, suc, ◌+◌, ◌||◌, ◌++◌, Bool, true, false, inl, inr, refl, sym, ◌∙◌, ap, ap₂}
+use Rattle.std.proofs.Common.{◌≡◌, ℕ, suc, ◌+◌, ◌||◌, ◌++◌, Bool, true, false, inl, inr, refl, sym, ◌∙◌, ap}
+use Rattle.std.proofs.Common.{ap₂}
 use Rattle.std.proofs.lemmas.Bool.{false≢true}
 use Rattle.language.specs.Tree.{Name, Simple, skip, assign, assert, assume, goto, leave, call, leave_with, call_for, Block, done, one}
 use Rattle.language.specs.Tree.{choose}

@@ -1,5 +1,6 @@
 -- How many values are written, entered with, and given by expressions.
-use Rattle.std.proofs.Common.{◌≡◌, ℕ, zero, suc, ◌+◌, ◌-◌, ◌≤◌, List, [], ◌∷◌, Bool, Option, Some, None, cond, refl, ◌∙◌, ap, arith, length}
+use Rattle.std.proofs.Common.{◌≡◌, ℕ, zero, suc, ◌+◌, ◌-◌, ◌≤◌, List, [], ◌∷◌, Bool, Option, Some, None, cond}
+use Rattle.std.proofs.Common.{refl, ◌∙◌, ap, arith, length}
 use Rattle.std.proofs.lemmas.List.{length-append, length-set}
 use Rattle.language.specs.Tree.{Expression}
 use Rattle.language.specs.Value.{Place, global, local, values_of, with_bit, written_globals, written_locals}

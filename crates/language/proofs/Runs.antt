@@ -28,7 +28,8 @@ steps_map p (state g (frame c l (one m (goto x) t) ∷ fs)) P Q f h =
     (λ u. Q (state g (frame c l u ∷ fs))) (λ u. f (state g (frame c l u ∷ fs))) h
 steps_map p (state g (frame c l (one m leave t) ∷ fs)) P Q f h = f _ h
 steps_map p (state g (frame c l (one m (call q es) t) ∷ fs)) P Q f h =
-    at_routine_map (slice_get p.routines q) (λ r. P (state g (frame q (fresh (frame_size r) (values_of g l es)) r.body ∷ frame c l t ∷ fs)))
+    at_routine_map (slice_get p.routines q)
+    (λ r. P (state g (frame q (fresh (frame_size r) (values_of g l es)) r.body ∷ frame c l t ∷ fs)))
     (λ r. Q (state g (frame q (fresh (frame_size r) (values_of g l es)) r.body ∷ frame c l t ∷ fs)))
     (λ r. f (state g (frame q (fresh (frame_size r) (values_of g l es)) r.body ∷ frame c l t ∷ fs))) h
 steps_map p (state g (frame c l (one m (leave_with e) t) ∷ fs)) P Q f h = f _ h

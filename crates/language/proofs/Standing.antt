@@ -121,7 +121,8 @@ start_stands : (p : Program) (n : ℕ) → AllStand p (starting_stack p.routines
 start_stands p n = of_routine (slice_get p.routines n) refl
   where
     of_routine : (o : Option Routine) → slice_get p.routines n ≡ o
-        → AllStand p (elim o as (λ x. List Frame) [ None ↦ [] | Some routine ↦ frame n (zeros (frame_size routine)) routine.body ∷ [] ])
+        → AllStand p
+        (elim o as (λ x. List Frame) [ None ↦ [] | Some routine ↦ frame n (zeros (frame_size routine)) routine.body ∷ [] ])
     of_routine None e = tt
     of_routine (Some routine) e = (subst (λ b. IsRestOf b routine.body) (sym (ap body_of e)) (whole_stands routine.body), tt)
 

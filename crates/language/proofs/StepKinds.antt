@@ -1,5 +1,6 @@
 -- Each step is a flow of the top frame, a return or an entering.
-use Rattle.std.proofs.Common.{◌≡◌, ◌↔◌, ◌⊎◌, ℕ, cond, List, [], ◌∷◌, Option, Some, None, slice_get, inl, inr, refl, sym, subst}
+use Rattle.std.proofs.Common.{◌≡◌, ◌↔◌, ◌⊎◌, ℕ, cond, List, [], ◌∷◌, Option, Some, None, slice_get, inl, inr}
+use Rattle.std.proofs.Common.{refl, sym, subst}
 use Rattle.language.specs.Tree.{skip, assign, assert, assume, goto, leave, call, leave_with, call_for, done, one, choose}
 use Rattle.language.specs.Tree.{Expression, loop}
 use Rattle.language.specs.Value.{Place, value_of, values_of, written_globals, written_locals}

@@ -16,7 +16,8 @@ both true b h = (refl, h)
 both false b h = absurd (true≢false (sym h))
 
 -- three numbers that compare as equal, each with its own, are the same, and the same compare as equal
-pub same_three : (a a' b b' c c' : ℕ) → (nat_eq a a' && (nat_eq b b' && nat_eq c c')) ≡ true → (a ≡ a') × (b ≡ b') × (c ≡ c')
+pub same_three : (a a' b b' c c' : ℕ) → (nat_eq a a' && (nat_eq b b' && nat_eq c c')) ≡ true
+    → (a ≡ a') × (b ≡ b') × (c ≡ c')
 same_three a a' b b' c c' h =
     let (first, rest) = both (nat_eq a a') (nat_eq b b' && nat_eq c c') h in
     let (second, third) = both (nat_eq b b') (nat_eq c c') rest in

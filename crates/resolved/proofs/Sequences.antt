@@ -52,7 +52,8 @@ module _ (S : Simple Place ℕ Label → Type 0) (R : RightSide Place → Type 0
       ]
 
 -- a complete call is of a procedure that is there, with a place for each argument
-call_fits : (rs : List Routine) (globals : ℕ) (own : Routine) (r : Code) (n : ℕ) (es : List (Expression Place)) → called_by r ≡ Some (n, es)
+call_fits : (rs : List Routine) (globals : ℕ) (own : Routine) (r : Code) (n : ℕ) (es : List (Expression Place))
+    → called_by r ≡ Some (n, es)
     → Heads (SimpleComplete rs globals own) (SideInScope globals own.places) r
     → AtRoutine (slice_get rs n) (λ z. length es ≤ z.places)
 call_fits rs globals own done n es e h = absurd (none-some (n, es) e)
@@ -63,11 +64,13 @@ call_fits rs globals own (one m (assume c) t) n es e h = absurd (none-some (n, e
 call_fits rs globals own (one m (goto x) t) n es e h = absurd (none-some (n, es) e)
 call_fits rs globals own (one m leave t) n es e h = absurd (none-some (n, es) e)
 call_fits rs globals own (one m (call k ks) t) n es e h =
-    subst (λ (c : ℕ × List (Expression Place)). AtRoutine (slice_get rs c.0) (λ z. length c.1 ≤ z.places)) (same_Some (k, ks) (n, es) e)
+    subst (λ (c : ℕ × List (Expression Place)). AtRoutine (slice_get rs c.0) (λ z. length c.1 ≤ z.places))
+    (same_Some (k, ks) (n, es) e)
     h.scope.callee
 call_fits rs globals own (one m (leave_with v) t) n es e h = absurd (none-some (n, es) e)
 call_fits rs globals own (one m (call_for x k ks) t) n es e h =
-    subst (λ (c : ℕ × List (Expression Place)). AtRoutine (slice_get rs c.0) (λ z. length c.1 ≤ z.places)) (same_Some (k, ks) (n, es) e)
+    subst (λ (c : ℕ × List (Expression Place)). AtRoutine (slice_get rs c.0) (λ z. length c.1 ≤ z.places))
+    (same_Some (k, ks) (n, es) e)
     h.scope.callee
 call_fits rs globals own (choose m c a b t) n es e h = absurd (none-some (n, es) e)
 call_fits rs globals own (loop m c a t) n es e h = absurd (none-some (n, es) e)

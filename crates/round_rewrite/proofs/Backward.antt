@@ -192,7 +192,8 @@ module _ (setting : Setting) (now : Moment setting.p.globals setting.last) (m : 
         let goal : State = state (row C q) (frame a.c (source_values a) found ∷ map source bs) in
         let step : AtRest (rest_from x (body_of (slice_get p.routines a.c)) done)
         (λ u. state (row C q) (frame a.c (source_values a) u ∷ map source bs) ≡ goal) =
-        subst (λ r. AtRest (rest_from x (body_of r) done) (λ u. state (row C q) (frame a.c (source_values a) u ∷ map source bs) ≡ goal))
+        subst
+        (λ r. AtRest (rest_from x (body_of r) done) (λ u. state (row C q) (frame a.c (source_values a) u ∷ map source bs) ≡ goal))
         (sym h.there)
         (subst (λ o. AtRest o (λ u. state (row C q) (frame a.c (source_values a) u ∷ map source bs) ≡ goal)) (sym e) refl) in
         moved_here N a (one k (goto x) t) bs (both a found ∷ bs)

@@ -1,5 +1,6 @@
 -- A rewritten block gives a value where the block does.
-use Rattle.std.proofs.Common.{◌≡◌, ℕ, zero, suc, Bool, true, false, ◌||◌, cond, List, [], ◌∷◌, map, refl, sym, ◌∙◌, ap, ap₂}
+use Rattle.std.proofs.Common.{◌≡◌, ℕ, zero, suc, Bool, true, false, ◌||◌, cond, List, [], ◌∷◌, map, refl, sym, ◌∙◌}
+use Rattle.std.proofs.Common.{ap, ap₂}
 use Rattle.language.specs.Tree.{Simple, skip, assign, assert, assume, goto, leave, call, leave_with, call_for, Block, done, one, choose}
 use Rattle.language.specs.Tree.{loop}
 use Rattle.language.specs.Parts as parts
@@ -27,7 +28,8 @@ gives-join (loop m r x t) b =
     ap (λ z. gives_value x || z) (gives-join t b) ∙ sym (or_assoc (gives_value x) (gives_value t) (gives_value b))
 
 -- either of two blocks that give alike
-gives-cond : {V P L : Type 0} (c : Bool) (a b : Block V P L) → gives_value a ≡ gives_value b → gives_value (cond c a b) ≡ gives_value b
+gives-cond : {V P L : Type 0} (c : Bool) (a b : Block V P L) → gives_value a ≡ gives_value b
+    → gives_value (cond c a b) ≡ gives_value b
 gives-cond true a b e = e
 gives-cond false a b e = refl
 

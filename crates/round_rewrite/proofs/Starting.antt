@@ -148,7 +148,8 @@ module _ (setting : Setting) (S : List (List Bool)) (saves : AreRows setting.p.g
         subst (λ l. PlainAfter w k (state Y (frame (suc c) l (put_rest p last r.places r.body) ∷ frame 0 [] t ∷ [])) Q)
         (sym (fresh_now r)) h in
         let h2 : PlainAfter w (suc k) (main_at Y (one plain (call (suc c) []) t)) Q =
-        subst (λ o. AtRoutine o (λ z. PlainAfter w k (state Y (frame (suc c) (fresh (frame_size z) []) z.body ∷ frame 0 [] t ∷ [])) Q))
+        subst
+        (λ o. AtRoutine o (λ z. PlainAfter w k (state Y (frame (suc c) (fresh (frame_size z) []) z.body ∷ frame 0 [] t ∷ [])) Q))
         (sym (enters_now c r e)) h1 in (
           suc (suc k),
           (

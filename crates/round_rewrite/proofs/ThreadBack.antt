@@ -1,6 +1,8 @@
 -- A run of a rewritten thread down to the first procedure is the thread's turns, or turns that fail.
-use Rattle.std.proofs.Common.{◌≡◌, ℕ, zero, suc, ◌+◌, ◌<◌, ◌≤◌, Bool, true, false, List, [], ◌∷◌, ◌++◌, Option, Some, None}
-use Rattle.std.proofs.Common.{slice_get, length, map, refl, sym, ◌∙◌, ap, subst, arith, append_assoc, length-append, ◌⊎◌, inl, inr}
+use Rattle.std.proofs.Common.{◌≡◌, ℕ, zero, suc, ◌+◌, ◌<◌, ◌≤◌, Bool, true, false, List, [], ◌∷◌, ◌++◌}
+use Rattle.std.proofs.Common.{Option, Some, None}
+use Rattle.std.proofs.Common.{slice_get, length, map, refl, sym, ◌∙◌, ap, subst, arith, append_assoc, length-append, ◌⊎◌, inl}
+use Rattle.std.proofs.Common.{inr}
 use Rattle.std.proofs.lemmas.List.{get_or-set_same, length-set}
 use Rattle.language.specs.Tree.{done, one, choose, loop}
 use Rattle.language.specs.Value.{Place, global, local, bit, with_bit}
@@ -302,7 +304,8 @@ module _ (setting : Setting) (S : List (List Bool)) (m : Code) (Q : State → Ty
         -- its going, in the source
         given_step : (d : Both) → Good p last d
             → given_back (result_of (slice_get p.routines a.c) (source_values a)) (row now.C now.q) (map source (d ∷ bs))
-            ≡ state (given_globals result d.awaits (row now.C now.q)) (map source (both (given result d.awaits d.activation) d.rest ∷ bs))
+            ≡ state (given_globals result d.awaits (row now.C now.q))
+            (map source (both (given result d.awaits d.activation) d.rest ∷ bs))
         given_step d hd =
             ap (λ v. given_back v (row now.C now.q) (map source (d ∷ bs))) (source_result p last (both a done) h)
             ∙ source_given p last result (row now.C now.q) d.activation d.awaits p.globals (temporaries is_global hd.routine.body) d.rest
@@ -332,7 +335,8 @@ module _ (setting : Setting) (S : List (List Bool)) (m : Code) (Q : State → Ty
             (given_step (awaiting d (global i) t) hd) (
               M',
               lt',
-              subst (λ v. PlainAfter w M' (state (turned now (with_bit (row now.C now.q) i v)) (stack p last (both d' t ∷ bs) m)) Q) there
+              subst
+                  (λ v. PlainAfter w M' (state (turned now (with_bit (row now.C now.q) i v)) (stack p last (both d' t ∷ bs) m)) Q) there
                   run',
             )))
         landing_exited d i t hd (stopped (M, lt, run)) =

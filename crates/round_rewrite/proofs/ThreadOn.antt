@@ -1,5 +1,6 @@
 -- A thread's turns, or turns that fail, are a run of the rewritten thread down to the first procedure.
-use Rattle.std.proofs.Common.{◌≡◌, ℕ, zero, suc, ◌+◌, ◌-◌, ◌≤◌, Bool, true, false, List, [], ◌∷◌, ◌++◌, Option, Some, None}
+use Rattle.std.proofs.Common.{◌≡◌, ℕ, zero, suc, ◌+◌, ◌-◌, ◌≤◌, Bool, true, false, List, [], ◌∷◌, ◌++◌}
+use Rattle.std.proofs.Common.{Option, Some, None}
 use Rattle.std.proofs.Common.{slice_get, length, map, refl, sym, ◌∙◌, ap, ap₂, subst, arith, append_assoc, inl, inr}
 use Rattle.std.proofs.lemmas.List.{get_or-set_same, length-set}
 use Rattle.language.specs.Tree.{skip, assign, assert, assume, goto, leave, call, leave_with, call_for, done, one, choose, loop}
@@ -187,7 +188,8 @@ module _ (setting : Setting) (S : List (List Bool)) (m : Code) (Q : State → Ty
           -- a finished frame leaves, its caller gets the result, and then the k steps
           given_on : (d : Activation) (o : Option Place) (t : Code)
               → Good p last (record { activation = d; awaits = o; rest = t })
-              → AfterSteps p k (state (given_globals result o g) (map source (both (given result o d) t ∷ bs))) (λ u. u ≡ state h' mid)
+              → AfterSteps p k (state (given_globals result o g) (map source (both (given result o d) t ∷ bs)))
+              (λ u. u ≡ state h' mid)
               → At (rows g) q false b (top p last (given result o d) (behind p last d.own o (put_rest p last d.own t)) bs m)
           given_on d None t hd steps =
               rec g eg q le (both (given result None d) t ∷ bs) (refl, given_good p last result (both d t) hd, goods) steps
@@ -351,7 +353,8 @@ module _ (setting : Setting) (S : List (List Bool)) (m : Code) (Q : State → Ty
 
     -- turns that fail are a run down to the first procedure that sets bad
     pub fails_on : (post : List (List Bool)) (r : Seat p.globals last S post) (q : ℕ) → q ≤ length r.pre → (bs : List Both)
-        → GoodStack p last bs → (g' : List Bool) (post' : List (List Bool)) → FailTurns p (r.g ∷ post) (map source bs) (g' ∷ post')
+        → GoodStack p last bs → (g' : List Bool) (post' : List (List Bool))
+        → FailTurns p (r.g ∷ post) (map source bs) (g' ∷ post')
         → ((q' : ℕ) (s : Bool) → At (r.pre ++ g' ∷ post') q' s true (frame 0 [] m ∷ []))
         → At (r.pre ++ r.g ∷ post) q false b (stack p last bs m)
     fails_on post r q le bs goods g' post' (inl (mid, (k, run), f, e)) out =

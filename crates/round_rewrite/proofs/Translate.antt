@@ -120,7 +120,8 @@ module _ {n last : ℕ} (small : last < most_rounds) (now : Moment n last) (own 
   expressions_are l tmp more eL el (e ∷ es) h =
       ap₂ (λ x xs. x ∷ xs) (expression_is l tmp more eL el e h.0) (expressions_are l tmp more eL el es h.1)
 
-  pub side_is : (l tmp more : List Bool) → L ≡ l ++ tmp → length l ≡ own → (r : RightSide Place) → SideInScope n own r → (v : Bool)
+  pub side_is : (l tmp more : List Bool) → L ≡ l ++ tmp → length l ≡ own → (r : RightSide Place) → SideInScope n own r
+      → (v : Bool)
       → IsValue globals_now L (side (places n last own) last r) v ≡ IsValue (row C q) (l ++ more) r v
   side_is l tmp more eL el any h v = refl
   side_is l tmp more eL el (value e) h v = ap (λ z. v ≡ z) (expression_is l tmp more eL el e h)

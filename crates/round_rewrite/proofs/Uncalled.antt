@@ -178,7 +178,8 @@ module _ (p : Program) (bodies : (c : ℕ) → RoutineAway (slice_get p.routines
       (λ u hu. (hu, h.1)) a
   step_away (state g (frame c l (one m leave t) ∷ fs)) P h a = (_, a, (tt, h.1))
   step_away (state g (frame c l (one m (call q es) t) ∷ fs)) P h a =
-      routine_away (slice_get p.routines q) (λ r. state g (frame q (fresh (frame_size r) (values_of g l es)) r.body ∷ frame c l t ∷ fs)) P
+      routine_away (slice_get p.routines q)
+      (λ r. state g (frame q (fresh (frame_size r) (values_of g l es)) r.body ∷ frame c l t ∷ fs)) P
       (bodies q) (λ r hr. (hr, (h.0.1, h.1))) a
   step_away (state g (frame c l (one m (leave_with e) t) ∷ fs)) P h a = (_, a, (tt, h.1))
   step_away (state g (frame c l (one m (call_for x q es) t) ∷ fs)) P h a =

@@ -160,7 +160,8 @@ module _ (own : List Name) (last d : ℕ) (D S : Name → Type 0) (held : Held o
       (variables_of (in_round (names own) last k) ++ (copy_name k x ∷ []))
       (each_both D (variables_of (in_round (names own) last k)) (variables_of e) (at_uses k) g) (copy_uses x h hidden k le)
 
-  pub row_uses : (e : Expression Name) → Each D (variables_of e) → (x : Name) → S x → is_declared x.text own ≡ false → (j m : ℕ)
+  pub row_uses : (e : Expression Name) → Each D (variables_of e) → (x : Name) → S x → is_declared x.text own ≡ false
+      → (j m : ℕ)
       → j + m ≤ suc last → Each D (variables_of_sides (map (written (names own) last e x) (numbers j m)))
   row_uses e g x h hidden j zero le = tt
   row_uses e g x h hidden j (suc m) le =

@@ -107,7 +107,8 @@ first_or_rest m n behind same after apart = by (nat_cmp n m) refl after (nat_eq 
     equal : (i j : ℕ) → i ≡ j → nat_eq j i ≡ true
     equal i j e = grind (arith, nat_tests)
 
-    by : (r : Ordering) → nat_cmp n m ≡ r → is_lt (ordering_then r behind) ≡ false → (b : Bool) → nat_eq m n ≡ b → (b && same) ≡ false
+    by : (r : Ordering) → nat_cmp n m ≡ r → is_lt (ordering_then r behind) ≡ false → (b : Bool) → nat_eq m n ≡ b
+        → (b && same) ≡ false
         → (m < n) ⊎ ((m ≡ n) × (is_lt behind ≡ false) × (same ≡ false))
     by Less e h b f k = absurd (true≢false h)
     by Equal e h true f k = inr (exact_unsigned_eq m n f, h, k)

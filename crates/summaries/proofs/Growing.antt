@@ -135,7 +135,8 @@ module _ {G : Type 0} (flow : Flow G) (e : Edge) where
 
   -- what one choice more leads to grows on what those before it lead to
   pub one_choice_more : (k : ℕ) (next : Option (ℕ × ℕ)) (old mid new : List Triple) (before between after : List Edge) →
-      Grows (IsNextBefore k flow e) old mid before between → next ≡ next_of flow e.values k → Grows (IsAt e next) mid new between after →
+      Grows (IsNextBefore k flow e) old mid before between → next ≡ next_of flow e.values k
+      → Grows (IsAt e next) mid new between after →
       Grows (IsNextBefore (k + 1) flow e) old new before after
   one_choice_more k next old mid new before between after first is second =
       both (IsNextBefore k flow e) (IsAt e (next_of flow e.values k)) (IsNextBefore (k + 1) flow e) old mid new before between after first

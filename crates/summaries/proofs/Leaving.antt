@@ -48,7 +48,8 @@ module _ {A G : Type 0} (graph : Graph G) (q : ℕ) (f g : Found A) where
     reached : GraphReaches graph M a 0 v
     reached = reaches_more graph (TookMessage f) M taken_left a 0 v (sound.edge a 0 v there)
 
-    exit_or : (x : ℕ) (y : Left) → Member y (under nat_eq g.exits.by_key x) → Member y (under nat_eq f.exits.by_key x) ⊎ ((a ≡ x) × (b ≡ y))
+    exit_or : (x : ℕ) (y : Left) → Member y (under nat_eq g.exits.by_key x)
+        → Member y (under nat_eq f.exits.by_key x) ⊎ ((a ≡ x) × (b ≡ y))
     exit_or = added_or nat_eq exact_unsigned_eq (under nat_eq f.exits.by_key) (under nat_eq g.exits.by_key) a b added others
 
     exit_keeps : (x : ℕ) (y : Left) → Member y (under nat_eq f.exits.by_key x) → Member y (under nat_eq g.exits.by_key x)

@@ -90,7 +90,8 @@ rights_no_call (listed (is_any (takes e)) m) c = rw e refl
 rights_no_call (listed (is_value r) no_more) c = names_no_call r (begins_other kind.Open c refl)
 rights_no_call (listed (is_value r) (one_more (behind d h) m)) c = names_no_call r (begins_other kind.Open d refl)
 
-next_asks_no : (ts us vs : List Tok) → (ts ≡ us) ⊎ (begins kind.Comma ts ≡ true) → Takes kind.Assign us vs → names_call vs ≡ false
+next_asks_no : (ts us vs : List Tok) → (ts ≡ us) ⊎ (begins kind.Comma ts ≡ true) → Takes kind.Assign us vs
+    → names_call vs ≡ false
     → asks_behind ts ≡ false
 unfolding same_kind asks_behind
 next_asks_no ts us vs (inl e) (takes is) h = rw (e, is, h) refl

@@ -1,5 +1,6 @@
 -- Texts of what statements do, as they grow.
-use Rattle.std.proofs.Common.{◌≡◌, ℕ, ◌+◌, cond, List, [], ◌∷◌, ◌++◌, refl, sym, ◌∙◌, ap, append_assoc, suc, add-one, codes}
+use Rattle.std.proofs.Common.{◌≡◌, ℕ, ◌+◌, cond, List, [], ◌∷◌, ◌++◌, refl, sym, ◌∙◌, ap, append_assoc, suc}
+use Rattle.std.proofs.Common.{add-one, codes}
 use Rattle.std.specs.Prelude.{Result, IfOk, is_ok}
 use Rattle.std.specs.declared.vec.Vec.{Vec}
 use Rattle.language.specs.Tree as tree
@@ -35,7 +36,8 @@ call_for_text : (level : ℕ) (x p : tree.Name) (es : List (Expression tree.Name
     ≡ text_of (name_parts x) ++ (codes " := " ++ text_of (deed_parts level (simple (call p es))))
 call_for_text level x p es = simp (text_of-append, append_assoc)
 
-value_text : (e : Expression tree.Name) → text_of (ended (expression_parts e) ++ (line ∷ [])) ≡ text_of (expression_parts e) ++ codes ";\n"
+value_text : (e : Expression tree.Name)
+    → text_of (ended (expression_parts e) ++ (line ∷ [])) ≡ text_of (expression_parts e) ++ codes ";\n"
 value_text e = simp (text_of-append, append_assoc)
 
 give_text : (level : ℕ) (e : Expression tree.Name) → text_of (deed_parts level (simple (leave_with e)))

@@ -16,7 +16,8 @@ use Rattle.syntax.proofs.Exactly.{chosen}
 use Rattle.syntax.proofs.Parts.{strict_name, strict_names, strict_rights, strict_arguments, strict_expression, strict_test}
 
 -- what is read last, and a semicolon behind it
-shrinks_ended : {X : Type 0} {p : Parser X} (deed : X → Deed) → Strict p → Shrinks (p >>= λ x. take kind.Semicolon >>= λ _. give (deed x))
+shrinks_ended : {X : Type 0} {p : Parser X} (deed : X → Deed) → Strict p
+    → Shrinks (p >>= λ x. take kind.Semicolon >>= λ _. give (deed x))
 shrinks_ended deed strict =
     Shrinks-bind (Strict-Shrinks strict)
     (λ x. Shrinks-bind (Strict-Shrinks (Strict-take kind.Semicolon)) (λ _. Shrinks-give (deed x)))
@@ -62,7 +63,8 @@ unfolding named
 shrinks_named t = record { by = λ ts d rest e. by_tests ts d rest (begins kind.Open ts) (asks_behind ts) e }
   where
     by_tests : (ts : List Tok) (d : Deed) (rest : List Tok) (b c : Bool)
-        → cond {A = Option (Deed × List Tok)} b (calling (t ∷ ts)) (cond c (asking (t ∷ ts)) (assignment (t ∷ ts))) ≡ Some (d, rest)
+        → cond {A = Option (Deed × List Tok)} b (calling (t ∷ ts)) (cond c (asking (t ∷ ts)) (assignment (t ∷ ts)))
+        ≡ Some (d, rest)
         → length rest ≤ length ts
     by_tests ts d rest true c e = let j : length rest < length (t ∷ ts) = strict_calling.by (t ∷ ts) d rest e in omega arith
     by_tests ts d rest false true e = let j : length rest < length (t ∷ ts) = strict_asking.by (t ∷ ts) d rest e in omega arith

@@ -57,7 +57,8 @@ deed_found ts found rest d vs e =
     → Statements us (marked_before m d k) ws) e
 
 plain_found : (ts : List Tok) (s : Simple Name Name Name) (rest : List Tok) → IsSimple ts s rest → (d : Deed) (vs : List Tok)
-    → ◌≡◌ {A = Option (Deed × List Tok)} (Some (simple s, rest)) (Some (d, vs)) → (us : List Tok) (m : Mark Name) → IsMarked us m ts
+    → ◌≡◌ {A = Option (Deed × List Tok)} (Some (simple s, rest)) (Some (d, vs)) → (us : List Tok) (m : Mark Name)
+    → IsMarked us m ts
     → (k : Block Name Name Name) (ws : List Tok) → Statements vs k ws → Statements us (marked_before m d k) ws
 plain_found ts s rest h d vs e = deed_found ts (simple s) rest d vs e (λ us m marks k ws more. statement marks h more)
 
@@ -114,8 +115,10 @@ unfolding named
 named_finds t ts d rest e = by_tests (begins kind.Open ts) (asks_behind ts) e
   where
     by_tests : (b c : Bool)
-        → cond {A = Option (Deed × List Tok)} b (calling (t ∷ ts)) (cond c (asking (t ∷ ts)) (assignment (t ∷ ts))) ≡ Some (d, rest)
-        → (us : List Tok) (m : Mark Name) → IsMarked us m (t ∷ ts) → (k : Block Name Name Name) (vs : List Tok) → Statements rest k vs
+        → cond {A = Option (Deed × List Tok)} b (calling (t ∷ ts)) (cond c (asking (t ∷ ts)) (assignment (t ∷ ts)))
+        ≡ Some (d, rest)
+        → (us : List Tok) (m : Mark Name) → IsMarked us m (t ∷ ts) → (k : Block Name Name Name) (vs : List Tok)
+        → Statements rest k vs
         → Statements us (marked_before m d k) vs
     by_tests true c e = calling_finds (t ∷ ts) d rest e
     by_tests false true e = asking_finds (t ∷ ts) d rest e
@@ -160,7 +163,8 @@ module _ (f : Unit {0} → Parser (Block Name Name Name)) (sound : Finds Found f
       (is_goto (takes is) (exactly_name.finds ts b.x b.us b.first) (take_finds kind.Semicolon b.us c.x c.us c.first).0) d rest c.second
 
   test_finds : (s : RightSide Name → Simple Name Name Name)
-      → ((us rest : List Tok) (r : RightSide Name) → InParens IsRight ts r us → Takes kind.Semicolon us rest → IsSimple (t ∷ ts) (s r) rest)
+      → ((us rest : List Tok) (r : RightSide Name) → InParens IsRight ts r us → Takes kind.Semicolon us rest
+      → IsSimple (t ∷ ts) (s r) rest)
       → FindsDeed (λ us. (condition >>= λ r. take kind.Semicolon >>= λ _. give (simple (s r))) ts) (t ∷ ts)
   test_finds s is d rest e =
       let b = between condition (λ r. take kind.Semicolon >>= λ _. give (simple (s r))) ts d rest e in

@@ -109,7 +109,8 @@ pub data IsMarked : List Tok → Mark Name → List Tok → Type 0 where
 pub data IsSimple : List Tok → Simple Name Name Name → List Tok → Type 0 where
   is_skip : {ts us rest : List Tok} → Takes kind.Skip ts us → Takes kind.Semicolon us rest → IsSimple ts skip rest
   is_return : {ts us rest : List Tok} → Takes kind.Return ts us → Takes kind.Semicolon us rest → IsSimple ts leave rest
-  is_give : {ts us vs rest : List Tok} {e : Expression Name} → Takes kind.Return ts us → IsExpression us e vs → Takes kind.Semicolon vs rest
+  is_give : {ts us vs rest : List Tok} {e : Expression Name} → Takes kind.Return ts us → IsExpression us e vs
+      → Takes kind.Semicolon vs rest
       → IsSimple ts (leave_with e) rest
   is_goto : {ts us vs rest : List Tok} {l : Name} → Takes kind.Goto ts us → IsName us l vs → Takes kind.Semicolon vs rest
       → IsSimple ts (goto l) rest
@@ -122,7 +123,8 @@ pub data IsSimple : List Tok → Simple Name Name Name → List Tok → Type 0 w
   is_call : {ts us vs rest : List Tok} {p : Name} {es : List (Expression Name)} → IsName ts p us → InParens (Perhaps IsExpression) us es vs
       → Takes kind.Semicolon vs rest → IsSimple ts (call p es) rest
   is_call_for : {ts us vs ws xs rest : List Tok} {x p : Name} {es : List (Expression Name)} → IsName ts x us → Takes kind.Assign us vs
-      → IsName vs p ws → InParens (Perhaps IsExpression) ws es xs → Takes kind.Semicolon xs rest → IsSimple ts (call_for x p es) rest
+      → IsName vs p ws → InParens (Perhaps IsExpression) ws es xs → Takes kind.Semicolon xs rest
+      → IsSimple ts (call_for x p es) rest
 
 -- There is a statement.
 abbrev pub IsSome : Block Name Name Name → Type 0

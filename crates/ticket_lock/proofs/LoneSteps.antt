@@ -339,9 +339,11 @@ module _ {T Part : Type 0} (before : T → T → Type 0) (part : ℕ → T → P
       } in
       -- the view that knew the log is in the one that took both
       let taken : (u : View T) → r.known.1 ≡ u → length u.own ≤ length b.own
-      → ((u.hand.seen ≡ r.log) ⊎ (u.told ≡ r.log) → (b.hand.seen ≡ r.log) ⊎ (b.told ≡ r.log)) → Known r.log (set vs other z) =
+      → ((u.hand.seen ≡ r.log) ⊎ (u.told ≡ r.log) → (b.hand.seen ≡ r.log) ⊎ (b.told ≡ r.log))
+      → Known r.log (set vs other z) =
       λ u is more saw.
-      let at = subst (λ (u : View T). (0 < length u.own) × ((u.hand.seen ≡ r.log) ⊎ (u.told ≡ r.log))) is (r.known.3, r.known.4) in (
+      let at =
+      subst (λ (u : View T). (0 < length u.own) × ((u.hand.seen ≡ r.log) ⊎ (u.told ≡ r.log))) is (r.known.3, r.known.4) in (
         id,
         b,
         set_else vs other id z (λ i. apart (sym i)) ∙ set_here s.views id b (at_inside s.views id v is_at),

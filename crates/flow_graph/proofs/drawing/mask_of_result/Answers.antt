@@ -42,4 +42,5 @@ returns-then-give_value g c =
       p.formals.ok.0,
       p.locals.ok.0,
     ) in
-    one_bit _ (omega (arith, overflow_shl-result g c)) ∙ ap {B = ℕ} (λ n. 2 ^ n) same ∙ ap {B = ℕ} (λ b. cond b (2 ^ bit) 0) (sym gives)
+    one_bit _ (omega (arith, overflow_shl-result g c)) ∙ ap {B = ℕ} (λ n. 2 ^ n) same
+    ∙ ap {B = ℕ} (λ b. cond b (2 ^ bit) 0) (sym gives)

@@ -35,7 +35,8 @@ pub returns-in_err-summaries-clause-limit : goal.returns-in_err-summaries-clause
 returns-in_err-summaries-clause-limit g c = λ p drawn is.
     let a = (goal.at.returns-in_err-summaries-clause-limit g c).After-back-2-1 in
     let e = err_from_is_err_and c.from_residual-in_err-summaries.result c.from_residual-in_err-summaries.ensures.1 in
-    let of = of_board _ _ _ _ _ _ (ended g a) _ (c.in_ok-board.ensures.0 ∙ c.len-boxes.ensures) _ _ c.into_ledger-ledger.ensures.settles in
+    let of =
+    of_board _ _ _ _ _ _ (ended g a) _ (c.in_ok-board.ensures.0 ∙ c.len-boxes.ensures) _ _ c.into_ledger-ledger.ensures.settles in
     limit_passed g.S.PathSet.members c.args.graphs.now c.args.limit (g.B-Board.identity c.in_ok-board.board)
     (map g.B-Board.sight c.in_ok-back.back.items) c.in_ok-back.outcomes.items (ended g a) c.in_err-summaries.field-0.0
     (c.in_err-summaries.ensures c.into_ledger-ledger.result.histories.items c.into_ledger-ledger.result.closed of).1
@@ -45,7 +46,8 @@ pub returns-in_err-summaries-clause-cause : goal.returns-in_err-summaries-clause
 returns-in_err-summaries-clause-cause g c =
     let a = (goal.at.returns-in_err-summaries-clause-cause g c).After-back-2-1 in
     let e = err_from_is_err_and c.from_residual-in_err-summaries.result c.from_residual-in_err-summaries.ensures.1 in
-    let of = of_board _ _ _ _ _ _ (ended g a) _ (c.in_ok-board.ensures.0 ∙ c.len-boxes.ensures) _ _ c.into_ledger-ledger.ensures.settles in
+    let of =
+    of_board _ _ _ _ _ _ (ended g a) _ (c.in_ok-board.ensures.0 ∙ c.len-boxes.ensures) _ _ c.into_ledger-ledger.ensures.settles in
     rw (e.1, e.2) (not_wide (ends_of c.in_ok-back.outcomes.items) c.in_err-summaries.field-0.0
     (c.in_err-summaries.ensures c.into_ledger-ledger.result.histories.items c.into_ledger-ledger.result.closed of).1)
 
@@ -67,11 +69,13 @@ returns-clause-found g c = λ p drawn.
 pub returns-clause-closed : goal.returns-clause-closed
 returns-clause-closed g c =
     let a = (goal.at.returns-clause-closed g c).After-back-2-1 in
-    let of = of_board _ _ _ _ _ _ (ended g a) _ (c.in_ok-board.ensures.0 ∙ c.len-boxes.ensures) _ _ c.into_ledger-ledger.ensures.settles in
+    let of =
+    of_board _ _ _ _ _ _ (ended g a) _ (c.in_ok-board.ensures.0 ∙ c.len-boxes.ensures) _ _ c.into_ledger-ledger.ensures.settles in
     (c.in_ok-summaries.ensures c.into_ledger-ledger.result.histories.items c.into_ledger-ledger.result.closed of).0.shut
 
 pub returns-clause-bad : goal.returns-clause-bad
 returns-clause-bad g c = λ p drawn.
     let a = (goal.at.returns-clause-bad g c).After-back-2-1 in
-    let of = of_board _ _ _ _ _ _ (ended g a) _ (c.in_ok-board.ensures.0 ∙ c.len-boxes.ensures) _ _ c.into_ledger-ledger.ensures.settles in
+    let of =
+    of_board _ _ _ _ _ _ (ended g a) _ (c.in_ok-board.ensures.0 ∙ c.len-boxes.ensures) _ _ c.into_ledger-ledger.ensures.settles in
     (c.in_ok-summaries.ensures c.into_ledger-ledger.result.histories.items c.into_ledger-ledger.result.closed of).0.bad p drawn

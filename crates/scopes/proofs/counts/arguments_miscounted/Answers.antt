@@ -18,7 +18,8 @@ returns g c =
     let callee = c.in_ok-callee.callee.now in
     let formals = c.in_ok-proc.proc.now.formals.items in
     let callee_is = ap callee_of (head_is c.args.stmt.now) ∙ sym c.in_ok-callee.ensures in
-    let arguments = arguments_passed head (name_of callee) callee_is ∙ ap passed_by (head_is c.args.stmt.now) ∙ sym c.arguments.ensures in
+    let arguments = arguments_passed head (name_of callee) callee_is ∙ ap passed_by (head_is c.args.stmt.now)
+    ∙ sym c.arguments.ensures in
     moved (λ (o : Option Name) n. IsThere o (λ q. (q.at ≡ n)
     × IsThere (named q.text (procs_of c.args.procs.now)) (λ (p : Procedure). length p.formals ≢ length (arguments_of head))))
     (Some (name_of callee)) _ _ callee_is

@@ -37,7 +37,8 @@ returns-in_err-tell-clause-only g c = λ x there.
 pub returns-clause-only : goal.returns-clause-only
 returns-clause-only g c = λ x there.
     elim (c.loop-left.invariant.0.only x there) [
-      | inl first ↦ inl (each_first (λ b. IsSummaryTold c.args.p c.args.a b c.args.caller) c.args.exits.now c.loop-left.left-index x first)
+      | inl first ↦
+          inl (each_first (λ b. IsSummaryTold c.args.p c.args.a b c.args.caller) c.args.exits.now c.loop-left.left-index x first)
       | inr was ↦ inr was
     ]
 

@@ -1,5 +1,6 @@
 -- The pair that is found has the bit; where none is found, no pair of the first procedure has it.
-use Rattle.std.proofs.Common.{◌≡◌, ◌≤◌, true, false, Some, slice_get, get_or, inl, inr, refl, sym, ap, ◌∙◌, subst, arith, true≢false}
+use Rattle.std.proofs.Common.{◌≡◌, ◌≤◌, true, false, Some, slice_get, get_or, inl, inr, refl, sym, ap, ◌∙◌, subst, arith}
+use Rattle.std.proofs.Common.{true≢false}
 use Rattle.std.proofs.Math.Nat.{eq-or-lt_of_le}
 use Rattle.std.proofs.lemmas.Option.{slice_get-get_or, get_or_from_slice_get, same_Some}
 use Rattle.language.specs.Lists.{Member}

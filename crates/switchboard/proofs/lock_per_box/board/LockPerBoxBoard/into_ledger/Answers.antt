@@ -10,5 +10,6 @@ into_ledger-requires g c =
 
 pub returns-clause-settles : goal.returns-clause-settles
 returns-clause-settles g c =
-    subst (λ l. Settles g.M.Mail.fits c.args.self.table.shared.key.boxes l c.into_ledger.result.histories.items c.into_ledger.result.closed)
+    subst
+    (λ l. Settles g.M.Mail.fits c.args.self.table.shared.key.boxes l c.into_ledger.result.histories.items c.into_ledger.result.closed)
     (sym (map_same c.args.passes.now.items)) c.into_ledger.ensures.settles

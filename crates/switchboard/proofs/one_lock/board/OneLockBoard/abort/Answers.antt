@@ -26,7 +26,8 @@ leave-requires-clause-value g c =
     let y = c.abort.new.self in
     let h = inside F c.pass.invariant c.in-Ok.ensures c.pass.view_is c.number-number.ensures c.value.ensures.value in
     let q : Abort = record { by = i.lane.number; cause = c.args.cause } in
-    let is = to_lane F h (λ n x. y ≡ record x { aborted = abort_of x.aborted (record { by = n; cause = c.args.cause }) }) c.abort.ensures in
+    let is =
+    to_lane F h (λ n x. y ≡ record x { aborted = abort_of x.aborted (record { by = n; cause = c.args.cause }) }) c.abort.ensures in
     may_leave F c.in-Ok.guard i.lane c.enter.new.lane y c.in-Ok.ensures (aborting F h q refl is)
 
 pub invariant_of-pass : goal.invariant_of-pass

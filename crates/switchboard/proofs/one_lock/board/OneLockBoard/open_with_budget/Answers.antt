@@ -1,5 +1,6 @@
 -- Each new lane has its pass.
-use Rattle.std.proofs.Common.{◌≡◌, ◌<◌, ◌+◌, ◌∷◌, ◌++◌, [], true, length, suc, sym, ap, ◌∙◌, subst, arith, append_assoc, length-append}
+use Rattle.std.proofs.Common.{◌≡◌, ◌<◌, ◌+◌, ◌∷◌, ◌++◌, [], true, length, suc, sym, ap, ◌∙◌, subst, arith}
+use Rattle.std.proofs.Common.{append_assoc, length-append}
 use Rattle.std.proofs.lemmas.List.{length_push}
 use Rattle.std.specs.Vec.Iter.{into_iter_items}
 use Rattle.ticket_lock.specs.Lanes.{fresh_lane, fresh_lanes}
@@ -50,7 +51,8 @@ loop-lane-preserved g c =
       append_assoc c.loop-lane.yielded (c.in-Some.lane ∷ []) (into_iter_items c.next.new.self) ∙ r.0,
       c.push_reserved.ensures.items
           ∙ ((λ i. c.loop-lane.invariant.1 i ++ shown i ∷ [])
-          ∙ (sym (sights_push lock.id c.args.budget lock.opening 0 n) ∙ ap (fresh_sights lock.id c.args.budget lock.opening 0) (sym long))),
+          ∙ (sym (sights_push lock.id c.args.budget lock.opening 0 n)
+          ∙ ap (fresh_sights lock.id c.args.budget lock.opening 0) (sym long))),
       omega (arith, c.loop-lane.invariant.2, c.push_reserved.ensures.capacity),
     )
 
