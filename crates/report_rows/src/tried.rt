@@ -5,7 +5,7 @@ ghost use Rattle.std.specs.Prelude.{◌≤◌, ◌^◌};
 use crate::program::{Asked, Parts};
 use crate::refusing::{Moment, Refusing};
 use flow_graph::Graphs;
-use gather::{Answer, CrewBoard, CrewSet, check_rounds_tried};
+use gather::{Answer, check_rounds_tried};
 use path_sets::{DiagramEdges, OrderedEdges};
 use std::alloc::{AllocError, Global};
 use std::sync::Wait;
@@ -17,31 +17,7 @@ use ticket_lock::MOST_TICKETS;
 /// A lane that no program has.
 const NO_LANE: u8 = 64;
 
-/// A lock for each mailbox, and one for all.
-type EachLocked = LockPerBox<Due, Graphs<Global>, Global>;
-
-type AllLocked = OneLock<Due, Graphs<Global>, Global>;
-
-/// The answer of the workers over this board with these sets, where who hires is the gate as well.
-fn over<R: Wait + Threads + Sync, B: CrewBoard, S: CrewSet>(
-    rt: &R,
-    heap: B::Heap,
-    alloc: S::Heap,
-    asked: &Asked,
-    limit: EdgeLimit,
-    hire: &Refusing,
-    budget: u64,
-) -> Result<Answer, NoVerdict>
-    requires { (2 ≤ budget) × (budget ≤ 2 ^ 56) }
-{
-    let (program, rounds) = (&asked.program, asked.rounds);
-    let report = check_rounds_tried::<R, B, S, Refusing, Refusing, Global>(
-        rt, heap, alloc, program, rounds, limit, hire, hire, budget,
-    )?;
-    Ok(report.answer)
-}
-
-/// The same over the board and the sets that the parts name.
+/// The answer of the workers with these parts, where who hires is the gate as well.
 fn tried<R: Wait + Threads + Sync>(
     rt: &R,
     alloc: Global,
@@ -53,20 +29,42 @@ fn tried<R: Wait + Threads + Sync>(
 ) -> Result<Answer, NoVerdict>
     requires { (2 ≤ budget) × (budget ≤ 2 ^ 56) }
 {
-    match (parts.one_lock, parts.diagrams) {
-        (false, true) => over::<R, EachLocked, DiagramEdges<Global>>(
-            rt, alloc, alloc, asked, limit, hire, budget,
-        ),
-        (false, false) => over::<R, EachLocked, OrderedEdges<Global>>(
-            rt, alloc, alloc, asked, limit, hire, budget,
-        ),
-        (true, true) => over::<R, AllLocked, DiagramEdges<Global>>(
-            rt, alloc, alloc, asked, limit, hire, budget,
-        ),
-        (true, false) => over::<R, AllLocked, OrderedEdges<Global>>(
-            rt, alloc, alloc, asked, limit, hire, budget,
-        ),
-    }
+    let (program, rounds) = (&asked.program, asked.rounds);
+    let report = match (parts.one_lock, parts.diagrams) {
+        (false, true) => check_rounds_tried::<
+            R,
+            LockPerBox<Due, Graphs<Global>, Global>,
+            DiagramEdges<Global>,
+            Refusing,
+            Refusing,
+            Global,
+        >(rt, alloc, alloc, program, rounds, limit, hire, hire, budget),
+        (false, false) => check_rounds_tried::<
+            R,
+            LockPerBox<Due, Graphs<Global>, Global>,
+            OrderedEdges<Global>,
+            Refusing,
+            Refusing,
+            Global,
+        >(rt, alloc, alloc, program, rounds, limit, hire, hire, budget),
+        (true, true) => check_rounds_tried::<
+            R,
+            OneLock<Due, Graphs<Global>, Global>,
+            DiagramEdges<Global>,
+            Refusing,
+            Refusing,
+            Global,
+        >(rt, alloc, alloc, program, rounds, limit, hire, hire, budget),
+        (true, false) => check_rounds_tried::<
+            R,
+            OneLock<Due, Graphs<Global>, Global>,
+            OrderedEdges<Global>,
+            Refusing,
+            Refusing,
+            Global,
+        >(rt, alloc, alloc, program, rounds, limit, hire, hire, budget),
+    };
+    Ok(report?.answer)
 }
 
 /// The same where no lane is refused.
