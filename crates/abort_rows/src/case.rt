@@ -6,7 +6,6 @@ use crate::calls::{Act, Name};
 use crate::ends::{settle, write_counts};
 use crate::row::{open, play};
 use std::alloc::{AllocError, Global};
-use std::io;
 use std::sync::Wait;
 use switchboard::{LockPerBox, OneLock};
 
@@ -24,20 +23,13 @@ pub(crate) struct Case {
     ghost in_range: { (2 ≤ budget) × (budget ≤ 1000) },
 }
 
-/// Prints a line, and what comes of it; of a heading nothing does.
-pub(crate) fn print<R: Print + AllocGlobal + Wait>(rt: &R, line: &str) -> io::Result<()> {
-    println!(rt; "{line}")?;
-    let mut out = String::new(rt.alloc());
-    let answered = answer(rt, rt.alloc(), &mut out, line);
-    match out.as_str() {
-        _ if answered.is_err() => println!(rt; "no memory"),
-        "" => Ok(()),
-        text => println!(rt; "{text}"),
-    }
-}
-
 /// Writes what comes of a line.
-fn answer<R: Wait>(rt: &R, alloc: Global, out: &mut String, line: &str) -> Result<(), AllocError> {
+pub fn answer<R: Wait>(
+    rt: &R,
+    alloc: Global,
+    out: &mut String,
+    line: &str,
+) -> Result<(), AllocError> {
     let (board, words) = line.split_once(", ").unwrap_or((line, ""));
     match (board, case_of(words)) {
         ("one lock", Some(case)) => {

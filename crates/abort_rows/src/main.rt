@@ -31,12 +31,12 @@ mod ends;
 mod one_call;
 mod row;
 
-use std::io::{self, BufRead, BufReader};
+use cases::each_case;
+use std::io;
 
 fn main(rt: HostRuntime) -> io::Result<()> {
-    let input = BufReader::new(rt.alloc(), rt.reader())?;
-    for line in input.lines(rt.alloc()) {
-        case::print(&rt, line?.as_str())?;
-    }
-    Ok(())
+    each_case(
+        &rt,
+        |line: &str, out: &mut String| case::answer(&rt, rt.alloc(), out, line),
+    )
 }

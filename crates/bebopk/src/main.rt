@@ -6,11 +6,6 @@ use std::fs;
 use std::process::ExitCode;
 
 fn main(rt: HostRuntime) -> ExitCode {
-    ended(
-        &rt,
-        || words(&rt),
-        |path: &str| fs::open(&rt, path),
-        &mut rt.stdout(),
-        &mut rt.stderr(),
-    )
+    let open = |path: &str| fs::open(&rt, path);
+    ended(&rt, || words(&rt), open, &mut rt.stdout(), &mut rt.stderr())
 }

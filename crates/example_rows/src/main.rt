@@ -6,7 +6,6 @@
 #![tactic(auto)]
 
 mod row;
-mod words;
 
 use std::io::{self, BufRead, BufReader};
 

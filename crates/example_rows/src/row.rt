@@ -1,7 +1,7 @@
 //! One line.
 
-use crate::words::asked;
-use cli::{Reply, answer};
+use cases::words_behind;
+use cli::{Reply, answer, order};
 use std::alloc::{AllocError, Allocator};
 use std::io::{self, Write};
 use std::sync::Wait;
@@ -17,8 +17,9 @@ pub fn taken<R: Print + AllocGlobal + Wait + Threads + Sync>(
         text.clear();
         return Ok(());
     }
-    if line.starts_with("$ ") {
-        return answered(rt, line, text.as_slice());
+    if let Some(words) = line.strip_prefix("$ bebopk ") {
+        println!(rt; "{line}")?;
+        return answered(rt, words, text.as_slice());
     }
     Ok(put(text, line)?)
 }
@@ -29,14 +30,14 @@ fn put(text: &mut Vec<u8>, line: &str) -> Result<(), AllocError> {
     Ok(text.push(b'\n')?)
 }
 
-/// Prints a line that asks, and under it the reply and the status.
+/// Prints the reply to words, and the status.
 fn answered<R: Print + AllocGlobal + Wait + Threads + Sync>(
     rt: &R,
-    line: &str,
+    words: &str,
     text: &[u8],
 ) -> io::Result<()> {
-    println!(rt; "{line}")?;
-    match asked(rt.alloc(), line) {
+    let words = words_behind(rt.alloc(), "bebopk", words)?;
+    match order(rt.alloc(), words.as_slice()) {
         Ok((order, _file)) => print_reply(rt, &answer(rt, text, order)),
         Err(_) => rt.print("no order\n"),
     }

@@ -7,21 +7,8 @@ use crate::tried::{parts_at, with_budget, with_budgets, with_limits, without_lan
 use crate::{report, scarcity};
 use procedure_worker::{Gate, Open};
 use std::alloc::{AllocError, Global};
-use std::io;
 use std::sync::Wait;
 use std::thread::Threads;
-
-/// Prints a line, and what comes of it; of a heading nothing does.
-pub fn print<R: Print + AllocGlobal + Wait + Threads + Sync>(rt: &R, line: &str) -> io::Result<()> {
-    println!(rt; "{line}")?;
-    let mut out = String::new(rt.alloc());
-    let answered = answer(rt, rt.alloc(), &mut out, line);
-    match out.as_str() {
-        _ if answered.is_err() => println!(rt; "no memory"),
-        "" => Ok(()),
-        text => println!(rt; "{text}"),
-    }
-}
 
 /// The parts that a case begins with, and how it goes on.
 fn parts_of(how: &str) -> (Parts, &str) {
@@ -37,7 +24,7 @@ fn parts_of(how: &str) -> (Parts, &str) {
 }
 
 /// Writes what comes of a line.
-fn answer<R: Wait + Threads + Sync>(
+pub fn answer<R: Wait + Threads + Sync>(
     rt: &R,
     alloc: Global,
     out: &mut String,

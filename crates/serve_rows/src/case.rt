@@ -4,6 +4,7 @@ use crate::broken::count;
 use crate::memory::served;
 use crate::refused::in_turn;
 use crate::streams::{Manner, SOUND, Sink, Source};
+use cases::words_behind;
 use cli::{Order, ended, order, serve};
 use std::alloc::{AllocError, Global};
 use std::fs;
@@ -42,7 +43,7 @@ pub fn answered<R: Files + Print + AllocGlobal + Wait + Threads + Sync>(
         return Ok(());
     };
     let (line, text) = rest.split_once(" | ").unwrap_or((rest, ""));
-    let words = split(rt.alloc(), line);
+    let words = words_behind(rt.alloc(), "bebopk", line);
     match how {
         "program" => print_run(rt, words, |path: &str| fs::open(rt, path)),
         "file" => {
@@ -65,16 +66,6 @@ fn opened<'a>(text: &'a [u8], path: &str) -> io::Result<&'a [u8]> {
     }
 }
 
-/// The words of a line, the program's name first.
-fn split(alloc: Global, line: &str) -> io::Result<Vec<String>> {
-    let mut words = Vec::new(alloc);
-    words.push(String::from_str(alloc, "bebopk")?)?;
-    for word in line.split_whitespace() {
-        words.push(String::from_str(alloc, word)?)?;
-    }
-    Ok(words)
-}
-
 /// The number of an exit status.
 fn number_of(status: ExitCode) -> u8 {
     (0..u8::MAX)
@@ -83,7 +74,7 @@ fn number_of(status: ExitCode) -> u8 {
 }
 
 /// Prints what the program does for words: its status, and what the standard output and the standard error took.
-fn print_run<R, F, O>(rt: &R, words: io::Result<Vec<String>>, opener: O) -> io::Result<()>
+fn print_run<R, F, O>(rt: &R, words: Result<Vec<String>, AllocError>, opener: O) -> io::Result<()>
 where
     R: Print + AllocGlobal + Wait + Threads + Sync,
     F: Read + Drop,
@@ -92,7 +83,7 @@ where
 {
     let mut written = Vec::new(rt.alloc());
     let mut log = Vec::new(rt.alloc());
-    let status = ended(rt, || words, opener, &mut written, &mut log);
+    let status = ended(rt, || Ok(words?), opener, &mut written, &mut log);
     print_reply(rt, number_of(status), written.as_slice())?;
     if log.is_empty() {
         return rt.print("standard error: nothing\n");

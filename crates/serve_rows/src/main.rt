@@ -28,15 +28,10 @@ mod memory;
 mod refused;
 mod streams;
 
-use std::io::{self, BufRead, BufReader};
+use cases::each_line;
+use std::io;
 
 fn main(rt: HostRuntime) -> io::Result<()> {
     case::write_long(&rt)?;
-    let input = BufReader::new(rt.alloc(), rt.reader())?;
-    for line in input.lines(rt.alloc()) {
-        let line = line?;
-        println!(rt; "{line}")?;
-        case::answered(&rt, line.as_str())?;
-    }
-    Ok(())
+    each_line(&rt, |line: &str| case::answered(&rt, line))
 }

@@ -1,27 +1,14 @@
 //! One case.
 
-use crate::fields::first_word;
 use crate::many::{agree, takes_each};
 use crate::nodes::counts;
 use crate::refused_nodes::refused_counts;
 use crate::sets::{keeps_each, steps};
+use cases::first_word;
 use std::alloc::{AllocError, Global};
-use std::io;
-
-/// Prints a line, and what comes of it; of a heading nothing does.
-pub fn print<R: Print + AllocGlobal>(rt: &R, line: &str) -> io::Result<()> {
-    println!(rt; "{line}")?;
-    let mut out = String::new(rt.alloc());
-    let answered = answer(rt.alloc(), &mut out, line);
-    match out.as_str().trim_end() {
-        _ if answered.is_err() => println!(rt; "no memory"),
-        "" => Ok(()),
-        text => println!(rt; "{text}"),
-    }
-}
 
 /// Writes what comes of a line.
-fn answer(alloc: Global, out: &mut String, line: &str) -> Result<(), AllocError> {
+pub fn answer(alloc: Global, out: &mut String, line: &str) -> Result<(), AllocError> {
     match line.split_once(": ") {
         Some(("each allocation", line)) => refused(alloc, out, line),
         _ => plain(alloc, out, line),

@@ -25,18 +25,17 @@
 #![tactic(auto)]
 
 mod case;
-mod fields;
 mod many;
 mod nodes;
 mod refused_nodes;
 mod sets;
 
-use std::io::{self, BufRead, BufReader};
+use cases::each_case;
+use std::io;
 
 fn main(rt: HostRuntime) -> io::Result<()> {
-    let input = BufReader::new(rt.alloc(), rt.reader())?;
-    for line in input.lines(rt.alloc()) {
-        case::print(&rt, line?.as_str())?;
-    }
-    Ok(())
+    each_case(
+        &rt,
+        |line: &str, out: &mut String| case::answer(rt.alloc(), out, line),
+    )
 }

@@ -1,7 +1,7 @@
 //! Many path edges in both kinds of sets: so many that those of diagrams put what they gather into them.
 
-use crate::fields::first_word;
 use crate::sets::{contains, insert};
+use cases::first_word;
 use path_sets::{DiagramEdges, OrderedEdges, PathSet};
 use scarce::Scarce;
 use std::alloc::{AllocError, Allocator, Global};

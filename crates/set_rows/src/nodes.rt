@@ -1,7 +1,7 @@
 //! Inner nodes of the diagrams of a set.
 
-use crate::fields::first;
 use crate::sets::{insert, step};
+use cases::first;
 use path_sets::{DiagramEdges, PathSet};
 use std::alloc::{AllocError, Allocator, Global};
 

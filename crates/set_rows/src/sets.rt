@@ -1,6 +1,6 @@
 //! Sets of path edges.
 
-use crate::fields::first;
+use cases::first;
 use path_sets::{DiagramEdges, OrderedEdges, PathSet};
 use scarce::Scarce;
 use std::alloc::{AllocError, Allocator, Global};

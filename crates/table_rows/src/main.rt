@@ -13,18 +13,17 @@
 #![tactic(auto)]
 
 mod case;
-mod fields;
 mod graphed;
 mod refused_table;
 mod tables;
 mod whole;
 
-use std::io::{self, BufRead, BufReader};
+use cases::each_case;
+use std::io;
 
 fn main(rt: HostRuntime) -> io::Result<()> {
-    let input = BufReader::new(rt.alloc(), rt.reader())?;
-    for line in input.lines(rt.alloc()) {
-        case::print(&rt, line?.as_str())?;
-    }
-    Ok(())
+    each_case(
+        &rt,
+        |line: &str, out: &mut String| case::answer(rt.alloc(), out, line),
+    )
 }

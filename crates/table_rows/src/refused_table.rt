@@ -4,9 +4,9 @@ ghost use Rattle.std.specs.Prelude.{◌<◌, length};
 ghost use Rattle.flow_graph.specs.Drawn.{graphs_of};
 ghost use Rattle.summaries.specs.Tables.{IsTable};
 
-use crate::fields::{first, first_word};
 use crate::graphed::rewritten;
 use crate::tables::{message_of, take};
+use cases::{first, first_word};
 use flow_graph::{Graphs, graphs};
 use path_sets::{DiagramEdges, OrderedEdges, PathSet};
 use scarce::Scarce;

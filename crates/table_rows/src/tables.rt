@@ -3,12 +3,18 @@
 ghost use Rattle.std.specs.Prelude.{◌≡◌};
 ghost use Rattle.summaries.specs.Tables.{IsTable};
 
-use crate::fields::{first, first_word, procedure};
 use crate::graphed::rewritten;
+use cases::{first, first_word};
 use flow_graph::{Graphs, graphs};
 use path_sets::{OrderedEdges, PathSet};
 use std::alloc::{AllocError, Allocator, Global};
 use summaries::{Caller, Due, EdgeLimit, Table, TableFault};
+
+/// A procedure's number in front of a point, and what stands behind it; 255 where there is none.
+fn procedure(text: &str) -> (u8, &str) {
+    let (number, others) = text.split_once('.').unwrap_or((text, ""));
+    (number.parse::<u8>().unwrap_or(255), others)
+}
 
 /// The message that a word stands for.
 pub fn message_of(word: &str) -> Due {

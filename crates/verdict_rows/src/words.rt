@@ -1,25 +1,16 @@
 //! Words of the command line.
 
+use cases::words_behind;
 use cli::{LineFault, Order, order};
-use std::alloc::{AllocError, Global};
+use std::alloc::Global;
 use std::io;
 
 /// The order and the file of a line of words behind the program's name, or why there are none.
 pub fn asked(alloc: Global, line: &str) -> Result<(Order, String), LineFault> {
-    match split(alloc, line) {
+    match words_behind(alloc, "bebopk", line) {
         Ok(words) => order(alloc, words.as_slice()),
         Err(_) => Err(LineFault::Memory),
     }
-}
-
-/// The words of a line, the program's name first.
-fn split(alloc: Global, line: &str) -> Result<Vec<String>, AllocError> {
-    let mut words = Vec::new(alloc);
-    words.push(String::from_str(alloc, "bebopk")?)?;
-    for word in line.split_whitespace() {
-        words.push(String::from_str(alloc, word)?)?;
-    }
-    Ok(words)
 }
 
 /// Prints the order that words give.

@@ -1,0 +1,70 @@
+//! For programs of rows: each line of the standard input is a case, and is printed again with what comes of it.
+#![tactic(auto)]
+
+use std::alloc::{AllocError, Global};
+use std::io::{self, BufRead, BufReader};
+
+/// Prints each line of the standard input, and lets `answer` print what comes of it.
+pub fn each_line<F: FnMut(&str) -> io::Result<()>>(
+    rt: &HostRuntime,
+    mut answer: F,
+) -> io::Result<()>
+    requires { (f : _) (x : _) → F.pre f x }
+{
+    let input = BufReader::new(rt.alloc(), rt.reader())?;
+    for line in input.lines(rt.alloc()) {
+        let line = line?;
+        println!(rt; "{line}")?;
+        answer(line.as_str())?;
+    }
+    Ok(())
+}
+
+/// Prints each line of the standard input, and what `answer` writes of it; of a heading that is nothing.
+pub fn each_case<F: FnMut(&str, &mut String) -> Result<(), AllocError>>(
+    rt: &HostRuntime,
+    mut answer: F,
+) -> io::Result<()>
+    requires { (f : _) (x : _) (y : _) → F.pre f x y }
+{
+    each_line(rt, |line: &str| {
+        let mut out = String::new(rt.alloc());
+        let answered = answer(line, &mut out);
+        print_answer(rt, answered, out.as_str().trim_end())
+    })
+}
+
+/// Prints what was written of a case, or that memory was wanting.
+fn print_answer<R: Print>(rt: &R, answered: Result<(), AllocError>, text: &str) -> io::Result<()> {
+    match text {
+        _ if answered.is_err() => rt.print("no memory\n"),
+        "" => Ok(()),
+        _ => println!(rt; "{text}"),
+    }
+}
+
+/// The words of a line behind a first one.
+pub fn words_behind(alloc: Global, first: &str, line: &str) -> Result<Vec<String>, AllocError> {
+    let mut words = Vec::new(alloc);
+    words.push(String::from_str(alloc, first)?)?;
+    for word in line.split_whitespace() {
+        words.push(String::from_str(alloc, word)?)?;
+    }
+    Ok(words)
+}
+
+/// The first number of some with points between them, and the others; 0 where there is none.
+pub fn first(text: &str) -> (u64, &str) {
+    number_before('.', text)
+}
+
+/// The first number of some with blanks between them, and what stands behind it; 0 where there is none.
+pub fn first_word(text: &str) -> (u64, &str) {
+    number_before(' ', text)
+}
+
+/// The number before a separator, and what stands behind it; 0 where there is none.
+fn number_before(separator: char, text: &str) -> (u64, &str) {
+    let (number, others) = text.split_once(separator).unwrap_or((text, ""));
+    (number.parse::<u64>().unwrap_or(0), others)
+}
