@@ -17,7 +17,7 @@ pub fn taken<R: Print + AllocGlobal + Wait + Threads + Sync>(
         text.clear();
         return Ok(());
     }
-    if let Some(words) = line.strip_prefix("$ bebopk ") {
+    if let Some(words) = line.strip_prefix("$ ./bebopk ") {
         println!(rt; "{line}")?;
         return answered(rt, words, text.as_slice());
     }
