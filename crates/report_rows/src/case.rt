@@ -1,10 +1,9 @@
 //! One case.
 
 use crate::gates::{Late, Meeting, Noting};
-use crate::program::{Asked, Parts, read_case};
+use crate::program::{Parts, Trial, read_case};
 use crate::refusing::Moment;
-use crate::tried::{parts_at, with_budget, with_budgets, with_limits, without_lane};
-use crate::{report, scarcity};
+use crate::tried::{parts_at, put};
 use procedure_worker::{Gate, Open};
 use std::alloc::{AllocError, Global};
 use std::sync::Wait;
@@ -39,15 +38,20 @@ pub fn answer<R: Wait + Threads + Sync>(
     let Some(asked) = read_case(alloc, parts, numbers, text) else {
         return write!(out, "no such case");
     };
+    let trial = Trial {
+        rt,
+        alloc,
+        asked: &asked,
+    };
     match how {
-        "" if what == "answer" => report::write_answer(rt, alloc, out, &asked),
-        "" => with_all(rt, alloc, out, &asked),
-        "late" => late(rt, alloc, out, &asked),
-        "meeting" => meeting(rt, alloc, out, &asked),
-        "begun" => begun(rt, alloc, out, &asked),
+        "" if what == "answer" => trial.write_answer(out),
+        "" => trial.with_all(out),
+        "late" => trial.late(out),
+        "meeting" => trial.meeting(out),
+        "begun" => trial.begun(out),
         _ => match how.split_once("but lane ") {
-            Some((_, rest)) => but_lane(rt, alloc, out, &asked, rest),
-            None => numbered(rt, alloc, out, &asked, how),
+            Some((_, rest)) => trial.but_lane(out, rest),
+            None => trial.numbered(out, how),
         },
     }
 }
@@ -63,136 +67,93 @@ fn place_of(words: &str) -> Option<Moment> {
     })
 }
 
-/// Writes what comes of it with the lane refused that is named, after the call that is named.
-fn but_lane<R: Wait + Threads + Sync>(
-    rt: &R,
-    alloc: Global,
-    out: &mut String,
-    asked: &Asked,
-    words: &str,
-) -> Result<(), AllocError> {
-    let (lane, after) = words.split_once(" after ").unwrap_or((words, ""));
-    match lane.parse::<u8>() {
-        Ok(lane) => without_lane(rt, alloc, out, asked, lane, place_of(after)),
-        Err(_) => write!(out, "no such lane"),
-    }
-}
-
-/// Writes what comes of one more run with these parts, where it is something else than what came of those before.
-fn again<R: Wait + Threads + Sync, K: Gate + Sync>(
-    rt: &R,
-    alloc: Global,
-    out: &mut String,
-    asked: &Asked,
-    parts: Parts,
-    gate: &K,
-) -> Result<(), AllocError> {
-    let mut one = String::new(alloc);
-    report::write(rt, alloc, &mut one, asked, parts, gate)?;
-    if out.is_empty() {
-        out.push_str(one.as_str())?;
-    } else if out.as_str() != one.as_str() {
-        write!(out, "\nand then {}", one.as_str())?;
-    }
-    Ok(())
-}
-
-/// Writes what comes of a run over each board with each set.
-fn with_all<R: Wait + Threads + Sync>(
-    rt: &R,
-    alloc: Global,
-    out: &mut String,
-    asked: &Asked,
-) -> Result<(), AllocError> {
-    for number in 0..4u8 {
-        again(rt, alloc, out, asked, parts_at(number), &Open)?;
-    }
-    Ok(())
-}
-
-/// Writes what comes of a case that begins with a word and a number.
-fn numbered<R: Wait + Threads + Sync>(
-    rt: &R,
-    alloc: Global,
-    out: &mut String,
-    asked: &Asked,
-    how: &str,
-) -> Result<(), AllocError> {
-    let (word, number) = how.split_once(' ').unwrap_or((how, ""));
-    let number = number.parse::<u64>().unwrap_or(0);
-    match word {
-        "refusing" => scarcity::write(rt, alloc, out, asked, number),
-        "budget" => with_budget(rt, alloc, out, asked, number),
-        "budgets" => with_budgets(rt, alloc, out, asked, number),
-        "limits" => with_limits(rt, alloc, out, asked, number),
-        _ => times(rt, alloc, out, asked, number),
-    }
-}
-
-/// Writes what comes of so many runs over each board with each set.
-fn times<R: Wait + Threads + Sync>(
-    rt: &R,
-    alloc: Global,
-    out: &mut String,
-    asked: &Asked,
-    number: u64,
-) -> Result<(), AllocError> {
-    for _ in 0..number {
-        with_all(rt, alloc, out, asked)?;
-    }
-    Ok(())
-}
-
-/// Writes what comes of it with each lane in turn kept back.
-fn late<R: Wait + Threads + Sync>(
-    rt: &R,
-    alloc: Global,
-    out: &mut String,
-    asked: &Asked,
-) -> Result<(), AllocError> {
-    for lane in 0..=asked.program.program().procs.len().min(31) {
-        let gate = Late { lane: lane as u8 };
-        again(rt, alloc, out, asked, asked.parts, &gate)?;
-    }
-    Ok(())
-}
-
-/// Writes what comes of it where two calls wait for each other.
-fn meeting<R: Wait + Threads + Sync>(
-    rt: &R,
-    alloc: Global,
-    out: &mut String,
-    asked: &Asked,
-) -> Result<(), AllocError> {
-    let gate = Meeting::new();
-    report::write(rt, alloc, out, asked, asked.parts, &gate)?;
-    write!(
-        out,
-        "\n{}",
-        if gate.was_held() {
-            "both met"
-        } else {
-            "they did not meet"
+impl<R: Wait + Threads + Sync> Trial<'_, R> {
+    /// Writes what comes of it with the lane refused that is named, after the call that is named.
+    fn but_lane(&self, out: &mut String, words: &str) -> Result<(), AllocError> {
+        let (lane, after) = words.split_once(" after ").unwrap_or((words, ""));
+        match lane.parse::<u8>() {
+            Ok(lane) => self.without_lane(out, lane, place_of(after)),
+            Err(_) => write!(out, "no such lane"),
         }
-    )
-}
+    }
 
-/// Writes what comes of it, and whether the workers have begun.
-fn begun<R: Wait + Threads + Sync>(
-    rt: &R,
-    alloc: Global,
-    out: &mut String,
-    asked: &Asked,
-) -> Result<(), AllocError> {
-    let gate = Noting::new();
-    report::write(rt, alloc, out, asked, asked.parts, &gate)?;
-    write!(
-        out,
-        "\n{}",
-        if gate.has_all() {
-            "all came"
-        } else {
-            "not all came"
+    /// Writes what comes of one more run with these parts, where it is something else than what came of those before.
+    fn again<K: Gate + Sync>(
+        &self,
+        out: &mut String,
+        parts: Parts,
+        gate: &K,
+    ) -> Result<(), AllocError> {
+        let mut one = String::new(self.alloc);
+        self.write_report_of(&mut one, parts, gate)?;
+        put(out, one.as_str())
+    }
+
+    /// Writes what comes of a run over each board with each set.
+    fn with_all(&self, out: &mut String) -> Result<(), AllocError> {
+        for number in 0..4u8 {
+            self.again(out, parts_at(number), &Open)?;
         }
-    )
+        Ok(())
+    }
+
+    /// Writes what comes of a case that begins with a word and a number.
+    fn numbered(&self, out: &mut String, how: &str) -> Result<(), AllocError> {
+        let (word, number) = how.split_once(' ').unwrap_or((how, ""));
+        let number = number.parse::<u64>().unwrap_or(0);
+        match word {
+            "refusing" => self.write_refused(out, number),
+            "budget" => self.with_budget(out, number),
+            "budgets" => self.with_budgets(out, number),
+            "limits" => self.with_limits(out, number),
+            _ => self.times(out, number),
+        }
+    }
+
+    /// Writes what comes of so many runs over each board with each set.
+    fn times(&self, out: &mut String, number: u64) -> Result<(), AllocError> {
+        for _ in 0..number {
+            self.with_all(out)?;
+        }
+        Ok(())
+    }
+
+    /// Writes what comes of it with each lane in turn kept back.
+    fn late(&self, out: &mut String) -> Result<(), AllocError> {
+        for lane in 0..=self.asked.program.program().procs.len().min(31) {
+            let gate = Late { lane: lane as u8 };
+            self.again(out, self.asked.parts, &gate)?;
+        }
+        Ok(())
+    }
+
+    /// Writes what comes of it where two calls wait for each other.
+    fn meeting(&self, out: &mut String) -> Result<(), AllocError> {
+        let gate = Meeting::new();
+        self.write_report_of(out, self.asked.parts, &gate)?;
+        write!(
+            out,
+            "\n{}",
+            if gate.was_held() {
+                "both met"
+            } else {
+                "they did not meet"
+            }
+        )
+    }
+
+    /// Writes what comes of it, and whether the workers have begun.
+    fn begun(&self, out: &mut String) -> Result<(), AllocError> {
+        let gate = Noting::new();
+        self.write_report_of(out, self.asked.parts, &gate)?;
+        write!(
+            out,
+            "\n{}",
+            if gate.has_all() {
+                "all came"
+            } else {
+                "not all came"
+            }
+        )
+    }
 }

@@ -27,6 +27,13 @@ pub struct Parts {
     pub diagrams: bool,
 }
 
+/// What is asked, and with what it is tried.
+pub struct Trial<'a, R> {
+    pub rt: &'a R,
+    pub alloc: Global,
+    pub asked: &'a Asked,
+}
+
 /// What two numbers and a text ask; nothing where the text is no program, or a number is past its limit.
 pub fn read_case(alloc: Global, parts: Parts, numbers: &str, text: &str) -> Option<Asked> {
     let (rounds, edges) = numbers.split_once(' ')?;

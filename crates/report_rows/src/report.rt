@@ -1,6 +1,6 @@
 //! What workers come to, as text.
 
-use crate::program::{Asked, Parts, on_one_thread};
+use crate::program::{Asked, Parts, Trial, on_one_thread};
 use flow_graph::Graphs;
 use gather::{Answer, Report, check_rounds, check_rounds_with};
 use path_sets::{DiagramEdges, OrderedEdges};
@@ -109,44 +109,6 @@ fn write_report<A: Allocator>(
     }
 }
 
-/// Writes what the workers come to with these parts and this gate, and whether one thread comes to the same.
-pub fn write<R: Wait + Threads + Sync, K: Gate + Sync>(
-    rt: &R,
-    alloc: Global,
-    out: &mut String,
-    asked: &Asked,
-    parts: Parts,
-    gate: &K,
-) -> Result<(), AllocError> {
-    let report = report_of(rt, alloc, asked, parts, gate);
-    write_report(out, &report)?;
-    let same = match (
-        &report,
-        &on_one_thread::<_, OrderedEdges<Global>>(alloc, asked),
-    ) {
-        (Ok(report), Ok(summaries)) => is_same(&report.summaries, summaries),
-        (Err(one), Err(other)) => one == other,
-        _ => false,
-    };
-    if !same {
-        write!(out, "\nnot as on one thread")?;
-    }
-    Ok(())
-}
-
-/// Writes the answer alone, or why there is none.
-pub fn write_answer<R: Wait + Threads + Sync>(
-    rt: &R,
-    alloc: Global,
-    out: &mut String,
-    asked: &Asked,
-) -> Result<(), AllocError> {
-    match answer(rt, alloc, asked) {
-        Ok(answer) => write!(out, "{answer:?}"),
-        Err(why) => write!(out, "{why:?}"),
-    }
-}
-
 /// The answer alone, or why there is none.
 pub fn answer<R: Wait + Threads + Sync, A: Allocator + Copy + Send + Sync>(
     rt: &R,
@@ -155,4 +117,37 @@ pub fn answer<R: Wait + Threads + Sync, A: Allocator + Copy + Send + Sync>(
 ) -> Result<Answer, NoVerdict> {
     let report = report_of(rt, alloc, asked, asked.parts, &Open)?;
     Ok(report.answer)
+}
+
+impl<R: Wait + Threads + Sync> Trial<'_, R> {
+    /// Writes what the workers come to with these parts and this gate, and whether one thread comes to the same.
+    pub fn write_report_of<K: Gate + Sync>(
+        &self,
+        out: &mut String,
+        parts: Parts,
+        gate: &K,
+    ) -> Result<(), AllocError> {
+        let report = report_of(self.rt, self.alloc, self.asked, parts, gate);
+        write_report(out, &report)?;
+        let same = match (
+            &report,
+            &on_one_thread::<_, OrderedEdges<Global>>(self.alloc, self.asked),
+        ) {
+            (Ok(report), Ok(summaries)) => is_same(&report.summaries, summaries),
+            (Err(one), Err(other)) => one == other,
+            _ => false,
+        };
+        if !same {
+            write!(out, "\nnot as on one thread")?;
+        }
+        Ok(())
+    }
+
+    /// Writes the answer alone, or why there is none.
+    pub fn write_answer(&self, out: &mut String) -> Result<(), AllocError> {
+        match answer(self.rt, self.alloc, self.asked) {
+            Ok(answer) => write!(out, "{answer:?}"),
+            Err(why) => write!(out, "{why:?}"),
+        }
+    }
 }

@@ -1,6 +1,6 @@
 //! What workers come to where memory is refused.
 
-use crate::program::Asked;
+use crate::program::{Asked, Trial};
 use crate::report::answer;
 use gather::Answer;
 use scarce::Scarce;
@@ -30,23 +30,19 @@ fn run<R: Wait + Threads + Sync>(rt: &R, alloc: Global, asked: &Asked, nth: u64)
     }
 }
 
-/// Writes what comes of it where each allocation is refused in turn, until a run meets no refusal, or so many
-/// were tried.
-pub fn write<R: Wait + Threads + Sync>(
-    rt: &R,
-    alloc: Global,
-    out: &mut String,
-    asked: &Asked,
-    most: u64,
-) -> Result<(), AllocError> {
-    for nth in 1..most {
-        match run(rt, alloc, asked, nth) {
-            Came::Wanting => {}
-            Came::Whole(answer) if nth > 20 => {
-                return write!(out, "want of memory, and then {answer:?}");
+impl<R: Wait + Threads + Sync> Trial<'_, R> {
+    /// Writes what comes of it where each allocation is refused in turn, until a run meets no refusal, or so many
+    /// were tried.
+    pub fn write_refused(&self, out: &mut String, most: u64) -> Result<(), AllocError> {
+        for nth in 1..most {
+            match run(self.rt, self.alloc, self.asked, nth) {
+                Came::Wanting => {}
+                Came::Whole(answer) if nth > 20 => {
+                    return write!(out, "want of memory, and then {answer:?}");
+                }
+                _ => return write!(out, "another answer where allocation {nth} is refused"),
             }
-            _ => return write!(out, "another answer where allocation {nth} is refused"),
         }
+        write!(out, "want of memory")
     }
-    write!(out, "want of memory")
 }

@@ -2,7 +2,7 @@
 
 ghost use Rattle.std.specs.Prelude.{◌≤◌, ◌^◌};
 
-use crate::program::{Asked, Parts};
+use crate::program::{Parts, Trial};
 use crate::refusing::{Moment, Refusing};
 use flow_graph::Graphs;
 use gather::{Answer, check_rounds_tried};
@@ -16,78 +16,6 @@ use ticket_lock::MOST_TICKETS;
 
 /// A lane that no program has.
 const NO_LANE: u8 = 64;
-
-/// The answer of the workers with these parts, where who hires is the gate as well.
-fn tried<R: Wait + Threads + Sync>(
-    rt: &R,
-    alloc: Global,
-    asked: &Asked,
-    parts: Parts,
-    limit: EdgeLimit,
-    hire: &Refusing,
-    budget: u64,
-) -> Result<Answer, NoVerdict>
-    requires { (2 ≤ budget) × (budget ≤ 2 ^ 56) }
-{
-    let (program, rounds) = (&asked.program, asked.rounds);
-    let report = match (parts.one_lock, parts.diagrams) {
-        (false, true) => check_rounds_tried::<
-            R,
-            LockPerBox<Due, Graphs<Global>, Global>,
-            DiagramEdges<Global>,
-            Refusing,
-            Refusing,
-            Global,
-        >(rt, alloc, alloc, program, rounds, limit, hire, hire, budget),
-        (false, false) => check_rounds_tried::<
-            R,
-            LockPerBox<Due, Graphs<Global>, Global>,
-            OrderedEdges<Global>,
-            Refusing,
-            Refusing,
-            Global,
-        >(rt, alloc, alloc, program, rounds, limit, hire, hire, budget),
-        (true, true) => check_rounds_tried::<
-            R,
-            OneLock<Due, Graphs<Global>, Global>,
-            DiagramEdges<Global>,
-            Refusing,
-            Refusing,
-            Global,
-        >(rt, alloc, alloc, program, rounds, limit, hire, hire, budget),
-        (true, false) => check_rounds_tried::<
-            R,
-            OneLock<Due, Graphs<Global>, Global>,
-            OrderedEdges<Global>,
-            Refusing,
-            Refusing,
-            Global,
-        >(rt, alloc, alloc, program, rounds, limit, hire, hire, budget),
-    };
-    Ok(report?.answer)
-}
-
-/// The same where no lane is refused.
-fn unrefused<R: Wait + Threads + Sync>(
-    rt: &R,
-    alloc: Global,
-    asked: &Asked,
-    parts: Parts,
-    limit: EdgeLimit,
-    budget: u64,
-) -> Result<Answer, NoVerdict>
-    requires { (2 ≤ budget) × (budget ≤ 2 ^ 56) }
-{
-    tried(
-        rt,
-        alloc,
-        asked,
-        parts,
-        limit,
-        &Refusing::new(NO_LANE, None),
-        budget,
-    )
-}
 
 /// The parts of a number from 0 to 3.
 pub fn parts_at(number: u8) -> Parts {
@@ -105,41 +33,8 @@ fn write_came(out: &mut String, came: Result<Answer, NoVerdict>) -> Result<(), A
     }
 }
 
-/// Writes what comes of it over each pair of board and set with this lane refused, after this call; once, where all
-/// come to the same.
-pub fn without_lane<R: Wait + Threads + Sync>(
-    rt: &R,
-    alloc: Global,
-    out: &mut String,
-    asked: &Asked,
-    lane: u8,
-    after: Option<Moment>,
-) -> Result<(), AllocError> {
-    for number in 0..4u8 {
-        let hire = Refusing::new(lane, after);
-        let came = tried(
-            rt,
-            alloc,
-            asked,
-            parts_at(number),
-            asked.limit,
-            &hire,
-            MOST_TICKETS,
-        );
-        let mut one = String::new(alloc);
-        write_came(&mut one, came)?;
-        let lanes = hire.asked();
-        write!(&mut one, ", {lanes} asked for")?;
-        if !hire.is_well() {
-            one.push_str(", and more came than may")?;
-        }
-        put(out, one.as_str())?;
-    }
-    Ok(())
-}
-
 /// Writes what came of one more run, where it is something else than what came of those before.
-fn put(out: &mut String, one: &str) -> Result<(), AllocError> {
+pub fn put(out: &mut String, one: &str) -> Result<(), AllocError> {
     if out.is_empty() {
         out.push_str(one)
     } else if out.as_str() == one {
@@ -149,91 +44,155 @@ fn put(out: &mut String, one: &str) -> Result<(), AllocError> {
     }
 }
 
-/// Writes what comes of it over each pair of board and set where each worker has one call fewer than this; once, where
-/// all come to the same.
-pub fn with_budget<R: Wait + Threads + Sync>(
-    rt: &R,
-    alloc: Global,
-    out: &mut String,
-    asked: &Asked,
-    budget: u64,
-) -> Result<(), AllocError> {
-    if budget < 2 || budget > MOST_TICKETS {
-        return out.push_str("no such budget");
+impl<R: Wait + Threads + Sync> Trial<'_, R> {
+    /// The answer of the workers with these parts, where who hires is the gate as well.
+    fn tried(
+        &self,
+        parts: Parts,
+        limit: EdgeLimit,
+        hire: &Refusing,
+        budget: u64,
+    ) -> Result<Answer, NoVerdict>
+        requires { (2 ≤ budget) × (budget ≤ 2 ^ 56) }
+    {
+        let (program, rounds) = (&self.asked.program, self.asked.rounds);
+        let report = match (parts.one_lock, parts.diagrams) {
+            (false, true) => check_rounds_tried::<
+                R,
+                LockPerBox<Due, Graphs<Global>, Global>,
+                DiagramEdges<Global>,
+                Refusing,
+                Refusing,
+                Global,
+            >(
+                self.rt, self.alloc, self.alloc, program, rounds, limit, hire, hire, budget,
+            ),
+            (false, false) => check_rounds_tried::<
+                R,
+                LockPerBox<Due, Graphs<Global>, Global>,
+                OrderedEdges<Global>,
+                Refusing,
+                Refusing,
+                Global,
+            >(
+                self.rt, self.alloc, self.alloc, program, rounds, limit, hire, hire, budget,
+            ),
+            (true, true) => check_rounds_tried::<
+                R,
+                OneLock<Due, Graphs<Global>, Global>,
+                DiagramEdges<Global>,
+                Refusing,
+                Refusing,
+                Global,
+            >(
+                self.rt, self.alloc, self.alloc, program, rounds, limit, hire, hire, budget,
+            ),
+            (true, false) => check_rounds_tried::<
+                R,
+                OneLock<Due, Graphs<Global>, Global>,
+                OrderedEdges<Global>,
+                Refusing,
+                Refusing,
+                Global,
+            >(
+                self.rt, self.alloc, self.alloc, program, rounds, limit, hire, hire, budget,
+            ),
+        };
+        Ok(report?.answer)
     }
-    for number in 0..4u8 {
-        let came = unrefused(rt, alloc, asked, parts_at(number), asked.limit, budget);
-        let mut one = String::new(alloc);
-        write_came(&mut one, came)?;
-        put(out, one.as_str())?;
-    }
-    Ok(())
-}
 
-/// Whether with each budget from 3 to `most` the calls of some worker are used up, or this answer comes.
-fn is_spent_or<R: Wait + Threads + Sync>(
-    rt: &R,
-    alloc: Global,
-    asked: &Asked,
-    most: u64,
-    answer: Answer,
-) -> bool {
-    for budget in 3..=most.min(1_000) {
+    /// The same where no lane is refused.
+    fn unrefused(&self, parts: Parts, limit: EdgeLimit, budget: u64) -> Result<Answer, NoVerdict>
+        requires { (2 ≤ budget) × (budget ≤ 2 ^ 56) }
+    {
+        self.tried(parts, limit, &Refusing::new(NO_LANE, None), budget)
+    }
+
+    /// Writes what comes of it over each pair of board and set with this lane refused, after this call; once, where all
+    /// come to the same.
+    pub fn without_lane(
+        &self,
+        out: &mut String,
+        lane: u8,
+        after: Option<Moment>,
+    ) -> Result<(), AllocError> {
         for number in 0..4u8 {
-            let came = unrefused(rt, alloc, asked, parts_at(number), asked.limit, budget);
-            if came != Err(NoVerdict::Spent) && came != Ok(answer) {
-                return false;
+            let hire = Refusing::new(lane, after);
+            let came = self.tried(parts_at(number), self.asked.limit, &hire, MOST_TICKETS);
+            let mut one = String::new(self.alloc);
+            write_came(&mut one, came)?;
+            let lanes = hire.asked();
+            write!(&mut one, ", {lanes} asked for")?;
+            if !hire.is_well() {
+                one.push_str(", and more came than may")?;
+            }
+            put(out, one.as_str())?;
+        }
+        Ok(())
+    }
+
+    /// Writes what comes of it over each pair of board and set where each worker has one call fewer than this; once, where
+    /// all come to the same.
+    pub fn with_budget(&self, out: &mut String, budget: u64) -> Result<(), AllocError> {
+        if budget < 2 || budget > MOST_TICKETS {
+            return out.push_str("no such budget");
+        }
+        for number in 0..4u8 {
+            let came = self.unrefused(parts_at(number), self.asked.limit, budget);
+            let mut one = String::new(self.alloc);
+            write_came(&mut one, came)?;
+            put(out, one.as_str())?;
+        }
+        Ok(())
+    }
+
+    /// Whether with each budget from 3 to `most` the calls of some worker are used up, or this answer comes.
+    fn is_spent_or(&self, most: u64, answer: Answer) -> bool {
+        for budget in 3..=most.min(1_000) {
+            for number in 0..4u8 {
+                let came = self.unrefused(parts_at(number), self.asked.limit, budget);
+                if came != Err(NoVerdict::Spent) && came != Ok(answer) {
+                    return false;
+                }
             }
         }
+        true
     }
-    true
-}
 
-/// Writes what comes of it with budget 2, and whether with each one above, up to `most`, either calls are used up or
-/// the answer comes that comes with the greatest.
-pub fn with_budgets<R: Wait + Threads + Sync>(
-    rt: &R,
-    alloc: Global,
-    out: &mut String,
-    asked: &Asked,
-    most: u64,
-) -> Result<(), AllocError> {
-    with_budget(rt, alloc, out, asked, 2)?;
-    let Ok(answer) = unrefused(rt, alloc, asked, asked.parts, asked.limit, MOST_TICKETS) else {
-        return out.push_str(", and no answer");
-    };
-    if is_spent_or(rt, alloc, asked, most, answer) {
-        write!(out, ", and from 3 on Spent or {answer:?}")
-    } else {
-        write!(out, ", and something else than Spent or {answer:?}")
-    }
-}
-
-/// Writes what comes of it over each pair of board and set with each limit of path edges in turn, where it is another
-/// than before.
-pub fn with_limits<R: Wait + Threads + Sync>(
-    rt: &R,
-    alloc: Global,
-    out: &mut String,
-    asked: &Asked,
-    most: u64,
-) -> Result<(), AllocError> {
-    for number in 0..4u8 {
-        let mut one = String::new(alloc);
-        let mut last = None;
-        for edges in 1..=most.min(1_000) as u32 {
-            let Some(limit) = EdgeLimit::new(edges) else {
-                continue;
-            };
-            let came = unrefused(rt, alloc, asked, parts_at(number), limit, MOST_TICKETS);
-            if last != Some(came) {
-                one.push_str(if last.is_none() { "" } else { ", " })?;
-                write_came(&mut one, came)?;
-                write!(&mut one, " from {edges} on")?;
-            }
-            last = Some(came);
+    /// Writes what comes of it with budget 2, and whether with each one above, up to `most`, either calls are used up or
+    /// the answer comes that comes with the greatest.
+    pub fn with_budgets(&self, out: &mut String, most: u64) -> Result<(), AllocError> {
+        self.with_budget(out, 2)?;
+        let Ok(answer) = self.unrefused(self.asked.parts, self.asked.limit, MOST_TICKETS) else {
+            return out.push_str(", and no answer");
+        };
+        if self.is_spent_or(most, answer) {
+            write!(out, ", and from 3 on Spent or {answer:?}")
+        } else {
+            write!(out, ", and something else than Spent or {answer:?}")
         }
-        put(out, one.as_str())?;
     }
-    Ok(())
+
+    /// Writes what comes of it over each pair of board and set with each limit of path edges in turn, where it is another
+    /// than before.
+    pub fn with_limits(&self, out: &mut String, most: u64) -> Result<(), AllocError> {
+        for number in 0..4u8 {
+            let mut one = String::new(self.alloc);
+            let mut last = None;
+            for edges in 1..=most.min(1_000) as u32 {
+                let Some(limit) = EdgeLimit::new(edges) else {
+                    continue;
+                };
+                let came = self.unrefused(parts_at(number), limit, MOST_TICKETS);
+                if last != Some(came) {
+                    one.push_str(if last.is_none() { "" } else { ", " })?;
+                    write_came(&mut one, came)?;
+                    write!(&mut one, " from {edges} on")?;
+                }
+                last = Some(came);
+            }
+            put(out, one.as_str())?;
+        }
+        Ok(())
+    }
 }

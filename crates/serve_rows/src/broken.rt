@@ -51,8 +51,8 @@ pub fn count<R: Files + Print + AllocGlobal + Wait + Threads + Sync>(
 ) -> io::Result<()> {
     let found = kinds_of(rt, files, count, order)?;
     for kind in KINDS {
-        let count = found.iter().filter(|it| *it == kind).count();
-        println!(rt; "{count} {kind}")?;
+        let count = found.iter().filter(|it| **it == kind.0).count();
+        println!(rt; "{count} {}", kind.0)?;
     }
     Ok(())
 }

@@ -1,66 +1,41 @@
 //! The kinds of lines that a check may write.
 
-/// The lines without an offset, and the status of each.
-const WHOLE: &[(&str, u8)] = &[
-    ("safe", 0),
-    ("unsafe", 1),
-    ("refused: 1 too long", 2),
-    ("refused: 2 not ascii", 2),
-    ("refused: 4 too deep", 2),
-    ("refused: 14 too wide", 2),
-    ("no verdict: edge limit", 3),
-];
+/// A kind of line: how it begins, its status, and whether the number of an offset follows.
+pub type Kind = (&'static str, u8, bool);
 
-/// The lines with an offset; each has status 2.
-const LOCATED: &[&str] = &[
-    "refused: 3 syntax",
-    "refused: 6 undeclared",
-    "refused: 7 declared twice",
-    "refused: 8 wrong count",
-    "refused: 9 bad thread",
-    "refused: 10 bad label",
-    "refused: 11 reserved",
-    "refused: 12 too many",
-];
-
-/// What stands for each line that is none of these.
+/// What stands for each line that is of no kind.
 pub const OTHER: &str = "other";
 
-/// All kinds, in the order in which they are told.
-pub const KINDS: &[&str] = &[
-    "safe",
-    "unsafe",
-    "refused: 1 too long",
-    "refused: 2 not ascii",
-    "refused: 3 syntax",
-    "refused: 4 too deep",
-    "refused: 6 undeclared",
-    "refused: 7 declared twice",
-    "refused: 8 wrong count",
-    "refused: 9 bad thread",
-    "refused: 10 bad label",
-    "refused: 11 reserved",
-    "refused: 12 too many",
-    "refused: 14 too wide",
-    "no verdict: edge limit",
-    OTHER,
+/// All kinds, in the order in which they are told, and `OTHER`.
+pub const KINDS: &[Kind] = &[
+    ("safe", 0, false),
+    ("unsafe", 1, false),
+    ("refused: 1 too long", 2, false),
+    ("refused: 2 not ascii", 2, false),
+    ("refused: 3 syntax", 2, true),
+    ("refused: 4 too deep", 2, false),
+    ("refused: 6 undeclared", 2, true),
+    ("refused: 7 declared twice", 2, true),
+    ("refused: 8 wrong count", 2, true),
+    ("refused: 9 bad thread", 2, true),
+    ("refused: 10 bad label", 2, true),
+    ("refused: 11 reserved", 2, true),
+    ("refused: 12 too many", 2, true),
+    ("refused: 14 too wide", 2, false),
+    ("no verdict: edge limit", 3, false),
+    (OTHER, 0, false),
 ];
 
-/// Which of the lines with an offset begins with this and ends with a number.
-fn located(head: &str, offset: &str) -> &'static str {
-    let is_number = !offset.is_empty() && offset.bytes().all(|byte| byte.is_ascii_digit());
-    match LOCATED.iter().find(|kind| **kind == head) {
-        Some(kind) if is_number => kind,
-        _ => OTHER,
+/// How a line begins, and whether a number follows behind ` at `.
+fn head_of(line: &str) -> (&str, bool) {
+    match line.split_once(" at ") {
+        Some((head, offset)) if is_number(offset) => (head, true),
+        _ => (line, false),
     }
 }
 
-/// Which of the lines without an offset this is, with this status.
-fn whole(line: &str, status: u8) -> &'static str {
-    match WHOLE.iter().find(|kind| kind.0 == line && kind.1 == status) {
-        Some(kind) => kind.0,
-        None => OTHER,
-    }
+fn is_number(text: &str) -> bool {
+    !text.is_empty() && text.bytes().all(|byte| byte.is_ascii_digit())
 }
 
 /// Which kind a reply is: one line, with the status of its kind.
@@ -68,9 +43,10 @@ pub fn kind_of(written: &str, status: u8) -> &'static str {
     let Some(line) = written.strip_suffix('\n') else {
         return OTHER;
     };
-    match line.split_once(" at ") {
-        Some((head, offset)) if status == 2 => located(head, offset),
-        Some(_) => OTHER,
-        None => whole(line, status),
+    let (head, located) = head_of(line);
+    let is_of = |kind: &Kind| kind.0 == head && kind.1 == status && kind.2 == located;
+    match KINDS.iter().find(|kind| is_of(*kind)) {
+        Some(kind) => kind.0,
+        None => OTHER,
     }
 }

@@ -1,19 +1,9 @@
 //! Inner nodes of the diagrams of a set.
 
-use crate::sets::{insert, step};
+use crate::sets::{Spot, insert, spot_of, step};
 use cases::first;
 use path_sets::{DiagramEdges, PathSet};
 use std::alloc::{AllocError, Allocator, Global};
-
-/// An entry and a point.
-pub type Spot = (u64, usize);
-
-/// The entry and the point of two numbers with a point between them, and the numbers behind them.
-pub fn spot_of(text: &str) -> (Spot, &str) {
-    let (entry, text) = first(text);
-    let (point, text) = first(text);
-    ((entry, point as usize), text)
-}
 
 /// Inserts the least multiples of a number, so many; answers how many were new.
 fn insert_multiples<A: Allocator, S: PathSet<A>>(

@@ -1,7 +1,7 @@
 //! Inner nodes that are counted where memory is refused.
 
-use crate::nodes::{Spot, filling, spot_of};
-use crate::sets::contains;
+use crate::nodes::filling;
+use crate::sets::{Spot, contains, spot_of};
 use path_sets::{DiagramEdges, OrderedEdges, PathSet};
 use scarce::Scarce;
 use std::alloc::{AllocError, Allocator, Global};

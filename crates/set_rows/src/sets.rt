@@ -5,11 +5,20 @@ use path_sets::{DiagramEdges, OrderedEdges, PathSet};
 use scarce::Scarce;
 use std::alloc::{AllocError, Allocator, Global};
 
-/// The triple of three numbers with points between them.
-fn triple_of(text: &str) -> (u64, usize, u64) {
+/// An entry and a point.
+pub type Spot = (u64, usize);
+
+/// The entry and the point of two numbers with a point between them, and the numbers behind them.
+pub fn spot_of(text: &str) -> (Spot, &str) {
     let (entry, text) = first(text);
     let (point, text) = first(text);
-    (entry, point as usize, first(text).0)
+    ((entry, point as usize), text)
+}
+
+/// The triple of three numbers with points between them.
+fn triple_of(text: &str) -> (u64, usize, u64) {
+    let ((entry, point), rest) = spot_of(text);
+    (entry, point, first(rest).0)
 }
 
 /// Inserts, where the set is small enough.

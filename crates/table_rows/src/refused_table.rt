@@ -4,10 +4,8 @@ ghost use Rattle.std.specs.Prelude.{◌<◌, length};
 ghost use Rattle.flow_graph.specs.Drawn.{graphs_of};
 ghost use Rattle.summaries.specs.Tables.{IsTable};
 
-use crate::graphed::rewritten;
 use crate::tables::{message_of, take};
-use cases::{first, first_word};
-use flow_graph::{Graphs, graphs};
+use flow_graph::Graphs;
 use path_sets::{DiagramEdges, OrderedEdges, PathSet};
 use scarce::Scarce;
 use std::alloc::{AllocError, Allocator, Global};
@@ -282,7 +280,7 @@ fn write_both(
 }
 
 /// Writes it of a procedure of these graphs, if there is such a one.
-fn of_graphs(
+pub fn refused_table(
     alloc: Global,
     out: &mut String,
     graphs: &Graphs<Global>,
@@ -296,22 +294,4 @@ fn of_graphs(
         return write!(out, "no such procedure");
     }
     write_both(alloc, out, graphs, procedure, limit, words)
-}
-
-/// Writes it for a procedure, rounds and messages, and a text.
-pub fn refused_table(
-    alloc: Global,
-    out: &mut String,
-    asked: &str,
-    text: &str,
-) -> Result<(), AllocError> {
-    let (procedure, rest) = first_word(asked);
-    let (rounds, words) = rest.split_once(": ").unwrap_or((rest, ""));
-    let Some(sequential) = rewritten(alloc, text, first(rounds).0) else {
-        return write!(out, "not rewritten");
-    };
-    match graphs(&alloc, &sequential) {
-        Ok(graphs) => of_graphs(alloc, out, &graphs, procedure, words),
-        Err(_) => Err(AllocError),
-    }
 }

@@ -4,6 +4,7 @@ ghost use Rattle.std.specs.Prelude.{◌≡◌};
 ghost use Rattle.summaries.specs.Tables.{IsTable};
 
 use crate::graphed::rewritten;
+use crate::refused_table::refused_table;
 use cases::{first, first_word};
 use flow_graph::{Graphs, graphs};
 use path_sets::{OrderedEdges, PathSet};
@@ -163,12 +164,13 @@ fn of_graphs<G: Allocator, A: Allocator + Copy, S: PathSet<A>>(
 }
 
 /// Writes what the table of a procedure owes after each message: the procedure, the rounds and the messages, and the
-/// text.
+/// text; or, with `refusing`, which of its calls are refused memory.
 pub fn messages(
     alloc: Global,
     out: &mut String,
     asked: &str,
     text: &str,
+    refusing: bool,
 ) -> Result<(), AllocError> {
     let (procedure, rest) = first_word(asked);
     let (rounds, words) = rest.split_once(": ").unwrap_or((rest, ""));
@@ -176,6 +178,7 @@ pub fn messages(
         return write!(out, "not rewritten");
     };
     match graphs(&alloc, &sequential) {
+        Ok(graphs) if refusing => refused_table(alloc, out, &graphs, procedure, words),
         Ok(graphs) => of_graphs::<_, _, OrderedEdges<_>>(
             alloc, alloc, out, &graphs, procedure, words,
         ),

@@ -38,15 +38,20 @@ fn tabulated<A: Allocator + Copy, S: PathSet<A>>(
     }
 }
 
-/// Writes the summaries of a text, for rounds and path edges.
+/// Writes the summaries of a text, for rounds and path edges; or, with `refusing`, whether each refused allocation leads
+/// to want of memory, and none to summaries.
 pub fn summaries(
     alloc: Global,
     out: &mut String,
     numbers: (u64, &str),
     text: &str,
+    refusing: bool,
 ) -> Result<(), AllocError> {
     let edges = numbers.1.parse::<u64>().unwrap_or(0);
     match rewritten(alloc, text, numbers.0) {
+        Some(sequential) if refusing => {
+            write!(out, "{}", refused_in_turn(alloc, &sequential, edges))
+        }
         Some(sequential) => write_summaries(alloc, out, &sequential, edges),
         None => write!(out, "not rewritten"),
     }
@@ -93,20 +98,6 @@ fn write_pairs(out: &mut String, pairs: &[Pair]) -> Result<(), AllocError> {
         write!(out, " {}-{}{result}", pair.a, pair.b)?;
     }
     write!(out, "\n")
-}
-
-/// Writes whether each refused allocation leads to want of memory, and none to summaries.
-pub fn refused_summaries(
-    alloc: Global,
-    out: &mut String,
-    numbers: (u64, &str),
-    text: &str,
-) -> Result<(), AllocError> {
-    let edges = numbers.1.parse::<u64>().unwrap_or(0);
-    match rewritten(alloc, text, numbers.0) {
-        Some(sequential) => write!(out, "{}", refused_in_turn(alloc, &sequential, edges)),
-        None => write!(out, "not rewritten"),
-    }
 }
 
 /// What comes of a tabulation with each allocation refused in turn.
