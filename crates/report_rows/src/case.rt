@@ -67,6 +67,11 @@ fn place_of(words: &str) -> Option<Moment> {
     })
 }
 
+/// Writes on a line of its own what is so.
+fn write_whether(out: &mut String, holds: bool, yes: &str, no: &str) -> Result<(), AllocError> {
+    write!(out, "\n{}", if holds { yes } else { no })
+}
+
 impl<R: Wait + Threads + Sync> Trial<'_, R> {
     /// Writes what comes of it with the lane refused that is named, after the call that is named.
     fn but_lane(&self, out: &mut String, words: &str) -> Result<(), AllocError> {
@@ -131,29 +136,13 @@ impl<R: Wait + Threads + Sync> Trial<'_, R> {
     fn meeting(&self, out: &mut String) -> Result<(), AllocError> {
         let gate = Meeting::new();
         self.write_report_of(out, self.asked.parts, &gate)?;
-        write!(
-            out,
-            "\n{}",
-            if gate.was_held() {
-                "both met"
-            } else {
-                "they did not meet"
-            }
-        )
+        write_whether(out, gate.was_held(), "both met", "they did not meet")
     }
 
     /// Writes what comes of it, and whether the workers have begun.
     fn begun(&self, out: &mut String) -> Result<(), AllocError> {
         let gate = Noting::new();
         self.write_report_of(out, self.asked.parts, &gate)?;
-        write!(
-            out,
-            "\n{}",
-            if gate.has_all() {
-                "all came"
-            } else {
-                "not all came"
-            }
-        )
+        write_whether(out, gate.has_all(), "all came", "not all came")
     }
 }

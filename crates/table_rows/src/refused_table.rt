@@ -250,7 +250,7 @@ fn write_in_turn(
 }
 
 /// Writes it of both kinds of sets, against the answers of a table with ample memory.
-fn write_both(
+pub fn write_both(
     alloc: Global,
     out: &mut String,
     graphs: &Graphs<Global>,
@@ -277,21 +277,4 @@ fn write_both(
     write_in_turn(alloc, out, true, graphs, procedure, limit, words, wanted)?;
     write!(out, "\ndiagrams: ")?;
     write_in_turn(alloc, out, false, graphs, procedure, limit, words, wanted)
-}
-
-/// Writes it of a procedure of these graphs, if there is such a one.
-pub fn refused_table(
-    alloc: Global,
-    out: &mut String,
-    graphs: &Graphs<Global>,
-    procedure: u64,
-    words: &str,
-) -> Result<(), AllocError> {
-    let (Ok(procedure), Some(limit)) = (u8::try_from(procedure), EdgeLimit::new(1000)) else {
-        return write!(out, "no such procedure");
-    };
-    if procedure as usize >= graphs.len() {
-        return write!(out, "no such procedure");
-    }
-    write_both(alloc, out, graphs, procedure, limit, words)
 }

@@ -4,7 +4,7 @@ ghost use Rattle.std.specs.Prelude.{◌≡◌};
 ghost use Rattle.summaries.specs.Tables.{IsTable};
 
 use crate::graphed::rewritten;
-use crate::refused_table::refused_table;
+use crate::refused_table::write_both;
 use cases::{first, first_word};
 use flow_graph::{Graphs, graphs};
 use path_sets::{OrderedEdges, PathSet};
@@ -143,23 +143,27 @@ fn write_turns<G: Allocator, A: Allocator + Copy, S: PathSet<A>>(
     Ok(())
 }
 
-/// Writes what the table of a procedure owes after each message; its edges are kept in a set of the type `S`, in memory
-/// of `room`.
-fn of_graphs<G: Allocator, A: Allocator + Copy, S: PathSet<A>>(
+/// Writes it of a procedure of these graphs, if there is such a one, with ordered sets.
+fn of_graphs(
     alloc: Global,
-    room: A,
     out: &mut String,
-    graphs: &Graphs<G>,
+    graphs: &Graphs<Global>,
     procedure: u64,
     words: &str,
+    refusing: bool,
 ) -> Result<(), AllocError> {
     let (Ok(procedure), Some(limit)) = (u8::try_from(procedure), EdgeLimit::new(1000)) else {
-        return Err(AllocError);
+        return write!(out, "no such procedure");
     };
     if procedure as usize >= graphs.len() {
-        return Err(AllocError);
+        return write!(out, "no such procedure");
     }
-    let mut table: Table<'_, G, A, S> = Table::new(room, graphs, procedure, limit);
+    if refusing {
+        return write_both(alloc, out, graphs, procedure, limit, words);
+    }
+    let mut table: Table<'_, Global, Global, OrderedEdges<Global>> = Table::new(
+        alloc, graphs, procedure, limit,
+    );
     write_turns(alloc, out, &mut table, words)
 }
 
@@ -178,10 +182,7 @@ pub fn messages(
         return write!(out, "not rewritten");
     };
     match graphs(&alloc, &sequential) {
-        Ok(graphs) if refusing => refused_table(alloc, out, &graphs, procedure, words),
-        Ok(graphs) => of_graphs::<_, _, OrderedEdges<_>>(
-            alloc, alloc, out, &graphs, procedure, words,
-        ),
+        Ok(graphs) => of_graphs(alloc, out, &graphs, procedure, words, refusing),
         Err(_) => Err(AllocError),
     }
 }
