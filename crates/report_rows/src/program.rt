@@ -28,6 +28,7 @@ pub struct Parts {
 }
 
 /// What is asked, and with what it is tried.
+#[derive(Drop)]
 pub struct Trial<'a, R> {
     pub rt: &'a R,
     pub alloc: Global,
