@@ -1,8 +1,7 @@
 -- What is counted of procedures is how many entries, pairs and messages they have.
-use Rattle.std.proofs.Common.{◌≡◌, ◌∙◌, ◌⊎◌, ◌<◌, ◌++◌, ℕ, zero, suc, List, [], ◌∷◌, Some, inl, inr}
-use Rattle.std.proofs.Common.{refl, sym, ap, ap₂, subst, true, false, true≢false}
-use Rattle.std.proofs.Common.{◌+◌, ◌≤◌, add-one, append_assoc, append-nil, arith, count_by, get_or, length, map}
-use Rattle.std.proofs.Common.{option_map, slice_get, take}
+use Rattle.std.proofs.Common.{◌≡◌, ◌∙◌, ◌⊎◌, ◌<◌, ◌++◌, ℕ, zero, suc, List, [], ◌∷◌, Some, inl, inr, refl}
+use Rattle.std.proofs.Common.{sym, ap, ap₂, subst, true, false, true≢false, ◌+◌, ◌≤◌, add-one, append_assoc, append-nil}
+use Rattle.std.proofs.Common.{arith, count_by, get_or, length, map, option_map, slice_get, take}
 use Rattle.std.specs.String.{string_bytes}
 use Rattle.trees.specs.Trees.{proc_of}
 use Rattle.trees.specs.declared.tree.Proc.{Proc}

@@ -14,8 +14,7 @@ use Rattle.cli.specs.Rewritten.{IsRewriting}
 use Rattle.cli.specs.Verdict.{Answers}
 use Rattle.cli.specs.Written.{bytes_of}
 use Rattle.refusals.specs.declared.refusal.Refusal.{Refusal}
-use Rattle.refusals.specs.declared.refusal.Refusal.TheVariants.{EdgeLimit, Memory, NoWorker, Spent, TooWide}
-use Rattle.refusals.specs.declared.refusal.Refusal.TheVariants.{Unchecked, Unread}
+use Rattle.refusals.specs.declared.refusal.Refusal.TheVariants.{EdgeLimit, Memory, NoWorker, Spent, TooWide, Unchecked, Unread}
 use Rattle.cli.specs.declared.reply.Reply.{Reply}
 
 -- a text that is rewritten has a rewriting that is not too wide

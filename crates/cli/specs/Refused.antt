@@ -12,8 +12,7 @@ use Rattle.round_rewrite.specs.declared.width.Wide.{Wide}
 use Rattle.summaries.specs.declared.no_verdict.NoVerdict.{NoVerdict}
 use Rattle.summaries.specs.declared.no_verdict.NoVerdict.TheVariants as cause
 use Rattle.refusals.specs.declared.refusal.Refusal.{Refusal}
-use Rattle.refusals.specs.declared.refusal.Refusal.TheVariants.{Unread, Unchecked, TooWide, EdgeLimit, Memory}
-use Rattle.refusals.specs.declared.refusal.Refusal.TheVariants.{NoWorker, Spent}
+use Rattle.refusals.specs.declared.refusal.Refusal.TheVariants.{Unread, Unchecked, TooWide, EdgeLimit, Memory, NoWorker, Spent}
 use Rattle.cli.specs.Verdict.{IsOver}
 
 -- The text is that of a checked tree, whose rewriting for so many rounds is too wide; and this is its first procedure

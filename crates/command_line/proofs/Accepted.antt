@@ -37,8 +37,7 @@ use Rattle.path_sets.specs.Limits.{most_edges}
 use Rattle.command_line.specs.Line.{GivesOrder, bebopk, check, file, flag_text, Orders, ReadsNumber, sequential}
 use Rattle.orders.specs.declared.order.Order.{Order}
 use Rattle.orders.specs.declared.order.Order.TheVariants.{Check, Sequential}
-use Rattle.command_line.proofs.Walks.{AreFit, AreUsable, defaulted, given_row, kept_by_defaults, level_fit, none}
-use Rattle.command_line.proofs.Walks.{row_read}
+use Rattle.command_line.proofs.Walks.{AreFit, AreUsable, defaulted, given_row, kept_by_defaults, level_fit, none, row_read}
 
 -- the word is no call for help about a command
 abbrev IsNoHelp : Step → Type 0

@@ -12,21 +12,18 @@ use Rattle.clap.specs.Lexer.{long_of, short_of}
 use Rattle.clap.specs.Values.{read_as}
 use Rattle.clap.specs.Facts.{explicit_source, parser_of_value, unwrap_or_range}
 use Rattle.clap.specs.Kinds.{Kinds, or_else, range_kinds, request_kinds, value_kinds, values_kinds}
-use Rattle.clap.specs.Walk.{action_of, after_flag, after_step, arg_by_id, arg_by_index, arg_by_long, arg_by_short}
-use Rattle.clap.specs.Walk.{attached_value, bundle, bundle_met, bundle_step, default_rows, done, finished, first_of}
-use Rattle.clap.specs.Walk.{flag_met, has_row, Held, idle, is_empty, is_pending, long_met, long_or_other, most_values}
-use Rattle.clap.specs.Walk.{Names, next, nothing_held, one_of, option, option_met, option_word, Outcome, plain}
-use Rattle.clap.specs.Walk.{plain_word, positional, reacted, reading_by, refused, Row, Rule, settled, settled_rows}
-use Rattle.clap.specs.Walk.{short_met, short_or_plain, Step, subcommand, subcommand_met, subcommand_or_other}
-use Rattle.clap.specs.Walk.{takes_several, takes_values, Text, to_positional, trailing, used, used_as, used_by_id}
-use Rattle.clap.specs.Walk.{value, values_or_missing, Waiting, waits, Walk, walk, walk_from, walked, walked_from}
-use Rattle.clap.specs.Walk.{with_default, with_values, without, word_met}
+use Rattle.clap.specs.Walk.{action_of, after_flag, after_step, arg_by_id, arg_by_index, arg_by_long, arg_by_short, attached_value, bundle}
+use Rattle.clap.specs.Walk.{bundle_met, bundle_step, default_rows, done, finished, first_of, flag_met, has_row, Held, idle, is_empty}
+use Rattle.clap.specs.Walk.{is_pending, long_met, long_or_other, most_values, Names, next, nothing_held, one_of, option, option_met}
+use Rattle.clap.specs.Walk.{option_word, Outcome, plain, plain_word, positional, reacted, reading_by, refused, Row, Rule, settled}
+use Rattle.clap.specs.Walk.{settled_rows, short_met, short_or_plain, Step, subcommand, subcommand_met, subcommand_or_other, takes_several}
+use Rattle.clap.specs.Walk.{takes_values, Text, to_positional, trailing, used, used_as, used_by_id, value, values_or_missing, Waiting}
+use Rattle.clap.specs.Walk.{waits, Walk, walk, walk_from, walked, walked_from, with_default, with_values, without, word_met}
 use Rattle.clap.specs.Simple.{Shape}
-use Rattle.clap.specs.Faults.{action_fault, bundle_fault, bundle_step_fault, check_fault, default_fault}
-use Rattle.clap.specs.Faults.{defaults_fault, flag_word_fault, flags_fault, given_default_fault, level_fault}
-use Rattle.clap.specs.Faults.{long_fault, option_fault, other_fault, positional_fault, react_fault, repeat_fault}
-use Rattle.clap.specs.Faults.{settle_fault, short_fault, step_fault, stray_fault, turn_fault, use_fault, values_fault}
-use Rattle.clap.specs.Faults.{walk_fault, word_fault}
+use Rattle.clap.specs.Faults.{action_fault, bundle_fault, bundle_step_fault, check_fault, default_fault, defaults_fault, flag_word_fault}
+use Rattle.clap.specs.Faults.{flags_fault, given_default_fault, level_fault, long_fault, option_fault, other_fault, positional_fault}
+use Rattle.clap.specs.Faults.{react_fault, repeat_fault, settle_fault, short_fault, step_fault, stray_fault, turn_fault, use_fault}
+use Rattle.clap.specs.Faults.{values_fault, walk_fault, word_fault}
 use Rattle.clap.specs.Takes.{is_given}
 use Rattle.clap.specs.declared.error.kind.ErrorKind.TheVariants as kind
 use Rattle.clap.specs.declared.builder.action.ArgAction.{ArgAction}

@@ -1,7 +1,6 @@
 -- Entries of calls, argument by argument.
 use Rattle.std.proofs.Common.{◌≡◌, ℕ, ◌+◌, ◌*◌, ◌^◌, ◌%◌, ◌<◌, ◌≤◌, ◌-◌, ◌/◌, Bool, List}
-use Rattle.std.proofs.Common.{◌∷◌, map, ◌∙◌, ap}
-use Rattle.std.proofs.Common.{arith, add-one, pow-suc}
+use Rattle.std.proofs.Common.{◌∷◌, map, ◌∙◌, ap, arith, add-one, pow-suc}
 use Rattle.std.proofs.Math.Nat.{mod-lt, div-add-mod, mul-add, mul-le-mul_left, lt_of_mul-lt-mul_left}
 use Rattle.std.proofs.lemmas.Nat.{pow-add, pow_pos}
 use Rattle.std.proofs.Math.Pow.{pow_mono}

@@ -1,7 +1,6 @@
 -- Valuations and their numbers.
 use Rattle.std.proofs.Common.{◌≡◌, ℕ, zero, suc, ◌+◌, ◌-◌, ◌*◌, ◌<◌, ◌%◌, ◌^◌, Bool, true, false, List, []}
-use Rattle.std.proofs.Common.{◌∷◌, ◌++◌, length, refl, sym}
-use Rattle.std.proofs.Common.{◌∙◌, ap, ap₂, subst, arith, pow-suc, length-append}
+use Rattle.std.proofs.Common.{◌∷◌, ◌++◌, length, refl, sym, ◌∙◌, ap, ap₂, subst, arith, pow-suc, length-append}
 use Rattle.std.proofs.Math.Nat.{mul_assoc, mod-eq_of_lt}
 use Rattle.std.proofs.lemmas.Nat.{mod_low}
 use Rattle.language.specs.Step.{zeros}

@@ -1,7 +1,6 @@
 -- What a procedure leaves at its exit, and what a caller goes on with behind a call, by numbers.
 use Rattle.std.proofs.Common.{◌≡◌, ◌<◌, ℕ, ◌+◌, ◌*◌, ◌^◌, ◌==◌, Bool, true, false, not, cond, nat_lt, Option}
-use Rattle.std.proofs.Common.{Some, None, List, [], ◌∷◌}
-use Rattle.std.proofs.Common.{◌++◌, length, refl, sym, ◌∙◌, ap, arith, length-append}
+use Rattle.std.proofs.Common.{Some, None, List, [], ◌∷◌, ◌++◌, length, refl, sym, ◌∙◌, ap, arith, length-append}
 use Rattle.std.specs.Int.Bits.{bit_or, and_zero_r, or_zero_r, xor_zero_r}
 use Rattle.std.proofs.lemmas.Bool.{ltb-true, ne_eqb}
 use Rattle.std.proofs.lemmas.List.{set_past, get_or-append-add}

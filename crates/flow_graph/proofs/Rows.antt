@@ -5,8 +5,7 @@ use Rattle.std.proofs.Common.{map, take, set, w64, refl, sym, ◌∙◌, ap, sub
 use Rattle.std.specs.Int.{bit_at}
 use Rattle.std.specs.Int.RustNames.{bit_and, bit_or, bit_xor}
 use Rattle.std.proofs.lemmas.Bool.{eqb-true, eqb-false, false≢true}
-use Rattle.std.proofs.lemmas.Nat.Bits.{bit_at_lowest, bit_at-suc, bit_at-lt, bit_at_and, bit_at_or, bit_at_xor}
-use Rattle.std.proofs.lemmas.Nat.Bits.{bit_at_not}
+use Rattle.std.proofs.lemmas.Nat.Bits.{bit_at_lowest, bit_at-suc, bit_at-lt, bit_at_and, bit_at_or, bit_at_xor, bit_at_not}
 use Rattle.language.specs.Tree.{Operator, xor, Expression, const, var, negation, two}
 use Rattle.language.specs.Value.{operate}
 use Rattle.std.proofs.Math.Nat.{mul_assoc, mul-add}
@@ -15,8 +14,7 @@ use Rattle.std.proofs.lemmas.List.{length-map, get_or-take, get_or-set_same, get
 use Rattle.flow_graph.proofs.Stacks.{worth_small, coded_small}
 use Rattle.flow_graph.specs.Bits.{bit_of, worth_of, coded}
 use Rattle.flow_graph.specs.Located.{worth}
-use Rattle.flow_graph.specs.Tables.{slot, is_input, output, ReadsInputs, Tabulates, AreBits, Widens, most_inputs, most_rows}
-use Rattle.flow_graph.specs.Tables.{word_rows}
+use Rattle.flow_graph.specs.Tables.{slot, is_input, output, ReadsInputs, Tabulates, AreBits, Widens, most_inputs, most_rows, word_rows}
 use Rattle.resolved.specs.Limits.{most_places}
 
 -- ---- operators on words

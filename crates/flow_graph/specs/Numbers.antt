@@ -2,8 +2,7 @@
 use Rattle.std.specs.Prelude.{◌≡◌, ◌≤◌, ℕ, Option, Some, List, [], slice_get, slice_index_or}
 use Rattle.language.specs.Rest.{Code}
 use Rattle.language.specs.Step.{Program}
-use Rattle.language.specs.Sequential.{Valuation, Edge, Exit, Pair, Entered}
-use Rattle.language.specs.Sequential.{Caller, starter, caller, Message, entry, summary, IsDue}
+use Rattle.language.specs.Sequential.{Valuation, Edge, Exit, Pair, Entered, Caller, starter, caller, Message, entry, summary, IsDue}
 use Rattle.language.specs.Lists.{Member}
 use Rattle.language.specs.Messages.{IsValuationOf, ArgumentsFit}
 use Rattle.flow_graph.specs.Nodes.{number, point_at}

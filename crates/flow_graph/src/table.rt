@@ -2,8 +2,7 @@
 
 ghost use Rattle.std.specs.Prelude.{◌≡◌, ◌<◌, ◌≤◌, ℕ, length, IfOk, IfSome};
 ghost use Rattle.language.specs.Tree.{var};
-ghost use Rattle.flow_graph.specs.Tables.{most_inputs, slot, Tabulates};
-ghost use Rattle.flow_graph.specs.Tables.{AreBits, AreBits-prop, Widens};
+ghost use Rattle.flow_graph.specs.Tables.{most_inputs, slot, Tabulates, AreBits, AreBits-prop, Widens};
 ghost use Rattle.flow_graph.specs.Views.{over_bits, IsSmall};
 ghost use Rattle.resolved.specs.Limits.{most_places};
 

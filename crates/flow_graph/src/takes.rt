@@ -6,10 +6,8 @@ ghost use Rattle.language.specs.Sequential.{Caller, IsDue, SomeBad};
 ghost use Rattle.language.specs.Messages.{EdgeTo};
 ghost use Rattle.flow_graph.specs.Bits.{bit_of};
 ghost use Rattle.flow_graph.specs.Graphs.{IsInTextOrder};
-ghost use Rattle.flow_graph.specs.Numbers.{NumberedMessage, numbered_entry, GraphReaches, Leaves};
-ghost use Rattle.flow_graph.specs.Numbers.{HasTaken, TookAllDue};
-ghost use Rattle.flow_graph.specs.Numbers.{IsNumberOf, AreNumbersOf, IsNumberOfEntry};
-ghost use Rattle.flow_graph.specs.Numbers.{AreNumbersOfPair};
+ghost use Rattle.flow_graph.specs.Numbers.{NumberedMessage, numbered_entry, GraphReaches, Leaves, HasTaken, TookAllDue, IsNumberOf};
+ghost use Rattle.flow_graph.specs.Numbers.{AreNumbersOf, IsNumberOfEntry, AreNumbersOfPair};
 ghost use Rattle.flow_graph.specs.declared.graph.Graph.{Graph};
 ghost use Rattle.flow_graph.specs.declared.left.Left.{Left};
 

@@ -1,6 +1,5 @@
 -- Where no end names a cause, the board is closed, and the tables have taken all that any of them answered.
-use Rattle.std.proofs.Common.{◌≡◌, inl, inr, ℕ, zero, suc, ◌<◌, List, [], ◌∷◌, true, Some, None}
-use Rattle.std.proofs.Common.{slice_get, map, length}
+use Rattle.std.proofs.Common.{◌≡◌, inl, inr, ℕ, zero, suc, ◌<◌, List, [], ◌∷◌, true, Some, None, slice_get, map, length}
 use Rattle.std.proofs.Common.{refl, sym, ap, ◌∙◌, subst, arith}
 use Rattle.std.specs.Prelude.{Bool, Option, IsSome}
 use Rattle.std.proofs.lemmas.Option.{none-some, same_Some, slice_get_within}

@@ -1,7 +1,6 @@
 //! What workers found, gathered.
 ghost use Rattle.std.specs.Prelude.{◌≡◌, ◌∷◌, ◌++◌, [], List, IfOk};
-ghost use Rattle.gather.specs.Gathered.{rank_of, verdict_of, ends_of, tables_in};
-ghost use Rattle.gather.specs.Gathered.{IsLeastOf, IsLesser, Gathers};
+ghost use Rattle.gather.specs.Gathered.{rank_of, verdict_of, ends_of, tables_in, IsLeastOf, IsLesser, Gathers};
 
 use flow_graph::Graphs;
 use path_sets::PathSet;

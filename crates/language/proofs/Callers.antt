@@ -1,7 +1,6 @@
 -- A flow is the same whatever callers wait below it.
 use Rattle.std.proofs.Common.{◌≡◌, ◌↔◌, ℕ, suc, Bool, List, [], ◌∷◌, length, Option, Some, None, slice_get, refl, sym}
-use Rattle.std.proofs.Common.{◌∙◌, ap}
-use Rattle.std.proofs.Common.{arith}
+use Rattle.std.proofs.Common.{◌∙◌, ap, arith}
 use Rattle.std.proofs.lemmas.Option.{none-some}
 use Rattle.language.specs.Tree.{Expression, skip, assign, assert, assume, goto, leave, call, leave_with, call_for, done, one, choose, loop}
 use Rattle.language.specs.Value.{Place, values_of}

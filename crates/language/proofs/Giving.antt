@@ -3,8 +3,7 @@ use Rattle.std.proofs.Common.{◌≡◌, ℕ, suc, ◌+◌, ◌||◌, ◌++◌, 
 use Rattle.std.proofs.Common.{ap₂}
 use Rattle.std.proofs.lemmas.Bool.{false≢true}
 use Rattle.language.specs.Tree.{Name, Simple, skip, assign, assert, assume, goto, leave, call, leave_with, call_for, Block, done, one}
-use Rattle.language.specs.Tree.{choose}
-use Rattle.language.specs.Tree.{loop}
+use Rattle.language.specs.Tree.{choose, loop}
 use Rattle.language.specs.Parts.{plain, gives}
 use Rattle.language.specs.Rest.{Code, join}
 use Rattle.language.specs.Resolve.{Scope, resolve_simple, resolve_block, gives_value}

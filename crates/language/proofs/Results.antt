@@ -1,7 +1,6 @@
 -- The result of a frame: 0 at first, and then what was returned.
 use Rattle.std.proofs.Common.{◌≡◌, ℕ, zero, suc, ◌+◌, ◌≤◌, ◌<◌, List, [], ◌∷◌, ◌++◌, Bool, true, false}
-use Rattle.std.proofs.Common.{cond, Some, length, refl, ◌∙◌, ap}
-use Rattle.std.proofs.Common.{arith}
+use Rattle.std.proofs.Common.{cond, Some, length, refl, ◌∙◌, ap, arith}
 use Rattle.std.proofs.lemmas.List.{get_or-set_same}
 use Rattle.language.specs.Value.{bit, with_bit}
 use Rattle.language.specs.Step.{Routine, zeros, fresh, frame_size, result_of, with_result}

@@ -1,7 +1,6 @@
 -- Runs one after the other, and runs over callers that wait below.
 use Rattle.std.proofs.Common.{◌≡◌, ℕ, zero, suc, List, [], ◌∷◌, ◌++◌, Bool, Option, Some, None, inl, inr, refl, sym}
-use Rattle.std.proofs.Common.{◌∙◌, ap, subst}
-use Rattle.std.proofs.Common.{slice_get}
+use Rattle.std.proofs.Common.{◌∙◌, ap, subst, slice_get}
 use Rattle.language.specs.Tree.{done}
 use Rattle.language.specs.Value.{Place}
 use Rattle.language.specs.Rest.{Code, target_of}

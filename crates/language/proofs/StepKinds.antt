@@ -1,8 +1,7 @@
 -- Each step is a flow of the top frame, a return or an entering.
 use Rattle.std.proofs.Common.{◌≡◌, ◌↔◌, ◌⊎◌, ℕ, cond, List, [], ◌∷◌, Option, Some, None, slice_get, inl, inr}
 use Rattle.std.proofs.Common.{refl, sym, subst}
-use Rattle.language.specs.Tree.{skip, assign, assert, assume, goto, leave, call, leave_with, call_for, done, one, choose}
-use Rattle.language.specs.Tree.{Expression, loop}
+use Rattle.language.specs.Tree.{skip, assign, assert, assume, goto, leave, call, leave_with, call_for, done, one, choose, Expression, loop}
 use Rattle.language.specs.Value.{Place, value_of, values_of, written_globals, written_locals}
 use Rattle.language.specs.Rest.{Code, join, rest_from, target_of}
 use Rattle.language.specs.Step.{Routine, Program, Frame, frame, waiting, State, state, fresh, frame_size, with_result, AtRoutine, AtRest}

@@ -1,7 +1,6 @@
 -- One step of one thread, over the globals and the thread's stack of frames.
 use Rattle.std.specs.Prelude.{◌≡◌, ℕ, zero, suc, ◌+◌, ◌-◌, Bool, true, false, List, [], ◌∷◌, ◌++◌, Option, Some}
-use Rattle.std.specs.Prelude.{None, length, cond}
-use Rattle.std.specs.Prelude.{slice_get}
+use Rattle.std.specs.Prelude.{None, length, cond, slice_get}
 use Rattle.language.specs.Tree.{done, one, choose, loop, skip, assign, assert, assume, goto, leave, call, leave_with, call_for}
 use Rattle.language.specs.Value.{Place, bit, with_bit, value_of, values_of, IsValue, AreValues, written_globals, written_locals}
 use Rattle.language.specs.Rest.{Code, join, rest_from}

@@ -3,13 +3,11 @@ ghost use Rattle.std.specs.Prelude.{◌≡◌, ◌↔◌, ℕ, List, Bool, Optio
 ghost use Rattle.language.specs.Tree.{done};
 ghost use Rattle.language.specs.Rest.{Code};
 ghost use Rattle.language.specs.Step.{Routine, Program, result_of, body_of};
-ghost use Rattle.language.specs.Sequential.{point_of, Valuation, Edge, Exit, Pair, Caller, Message};
-ghost use Rattle.language.specs.Sequential.{entry, IsDue};
+ghost use Rattle.language.specs.Sequential.{point_of, Valuation, Edge, Exit, Pair, Caller, Message, entry, IsDue};
 ghost use Rattle.language.specs.Flow.{IsRestOf};
 ghost use Rattle.language.specs.Lists.{Member};
-ghost use Rattle.language.specs.Messages.{Reached, Owes, AreDue, HasOpening, HasOwed, EdgeTo};
-ghost use Rattle.language.specs.Messages.{IsValuationOf};
-ghost use Rattle.language.specs.Messages.{IsMessageTo, ArgumentsFit, IsTakenBy};
+ghost use Rattle.language.specs.Messages.{Reached, Owes, AreDue, HasOpening, HasOwed, EdgeTo, IsValuationOf, IsMessageTo, ArgumentsFit};
+ghost use Rattle.language.specs.Messages.{IsTakenBy};
 
 /// By messages that are due, only path edges are reached.
 pub fn by_due_messages_only_path_edges_are_reached()

@@ -1,7 +1,6 @@
 -- The numbers of rows after one is given.
-use Rattle.std.proofs.Common.{◌≡◌, ℕ, Bool, true, false}
-use Rattle.std.proofs.Common.{cond, ◌&&◌, nat_eq, List, Option, None, Some, IfSome, get_or, slice_get, position}
-use Rattle.std.proofs.Common.{refl, sym, ap, ap₂, ◌∙◌, true≢false, eq-eqb}
+use Rattle.std.proofs.Common.{◌≡◌, ℕ, Bool, true, false, cond, ◌&&◌, nat_eq, List, Option, None, Some, IfSome, get_or}
+use Rattle.std.proofs.Common.{slice_get, position, refl, sym, ap, ap₂, ◌∙◌, true≢false, eq-eqb}
 use Rattle.std.specs.Option.{option_map_or}
 use Rattle.std.specs.Map.{lookup}
 use Rattle.std.specs.Cmp.{IsEquivalence}

@@ -1,6 +1,5 @@
 -- A set has one count of inner nodes.
-use Rattle.std.proofs.Common.{◌≡◌, ℕ, ◌≤◌, inl, inr, List, [], ◌∷◌, length, refl, sym, ◌∙◌}
-use Rattle.std.proofs.Common.{subst, arith}
+use Rattle.std.proofs.Common.{◌≡◌, ℕ, ◌≤◌, inl, inr, List, [], ◌∷◌, length, refl, sym, ◌∙◌, subst, arith}
 use Rattle.language.specs.Lists.{Member}
 use Rattle.path_sets.specs.Inserts.{Inserts, here, there}
 use Rattle.path_sets.specs.Suffixes.{Apart, AreNodes, HasNodes, Prefix, prefix, SameSuffixes}

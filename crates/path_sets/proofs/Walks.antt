@@ -1,7 +1,6 @@
 -- Walks through decision diagrams, whatever bits a node tests.
-use Rattle.std.proofs.Common.{◌≡◌, ℕ, zero, suc, ◌+◌, ◌-◌, ◌<◌}
-use Rattle.std.proofs.Common.{◌≤◌, Bool, true, false, cond, nat_lt, nat_eq, List}
-use Rattle.std.proofs.Common.{Option, Some, None, slice_get, refl, sym, ap, ◌∙◌, subst, arith, true≢false, is_some}
+use Rattle.std.proofs.Common.{◌≡◌, ℕ, zero, suc, ◌+◌, ◌-◌, ◌<◌, ◌≤◌, Bool, true, false, cond, nat_lt, nat_eq}
+use Rattle.std.proofs.Common.{List, Option, Some, None, slice_get, refl, sym, ap, ◌∙◌, subst, arith, true≢false, is_some}
 use Rattle.std.specs.Option.{option_map_or}
 use Rattle.std.proofs.lemmas.Bool.{ltb-true, ltb-false}
 use Rattle.path_sets.specs.Walks.{node_at, walk, reaches, Descends, IsNumber}

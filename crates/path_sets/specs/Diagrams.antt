@@ -1,6 +1,5 @@
 -- Decision diagrams: the sets of valuations that numbered nodes stand for (Bryant 1986).
-use Rattle.std.specs.Prelude.{◌≡◌, ◌≢◌, ◌+◌, ◌/◌, ◌%◌, ◌<◌, ℕ, Bool, true, cond}
-use Rattle.std.specs.Prelude.{◌&&◌, nat_eq, List}
+use Rattle.std.specs.Prelude.{◌≡◌, ◌≢◌, ◌+◌, ◌/◌, ◌%◌, ◌<◌, ℕ, Bool, true, cond, ◌&&◌, nat_eq, List}
 use Rattle.std.specs.Prelude.{◌⊎◌, Some, slice_get}
 use Rattle.std.specs.Option.{option_map_or}
 use Rattle.std.specs.Map.{lookup}

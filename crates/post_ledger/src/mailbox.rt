@@ -1,7 +1,6 @@
 //! The mailbox.
-ghost use Rattle.std.specs.Prelude.{◌≡◌, ◌<◌, ◌≤◌, ◌++◌, ◌∷◌, ◌↔◌, [], length};
-ghost use Rattle.std.specs.Prelude.{slice_get, take, Contains, OnOk, IfErr};
-ghost use Rattle.std.specs.Prelude.{IfSome, IfNone, IsNone};
+ghost use Rattle.std.specs.Prelude.{◌≡◌, ◌<◌, ◌≤◌, ◌++◌, ◌∷◌, ◌↔◌, [], length, slice_get, take, Contains};
+ghost use Rattle.std.specs.Prelude.{OnOk, IfErr, IfSome, IfNone, IsNone};
 ghost use Rattle.post_ledger.specs.History.{posts, takes, dones, IsLegal, TakesOldest};
 
 use crate::event::Event;

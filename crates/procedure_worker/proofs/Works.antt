@@ -1,7 +1,6 @@
 -- What a worker knows after each call of its board and of its table.
 use Rattle.std.proofs.Common.{◌≡◌, ◌≢◌, ◌⊎◌, inl, inr, ℕ, ◌<◌, ◌∷◌, ◌++◌, [], List, Some, None, Ok, Err}
-use Rattle.std.proofs.Common.{length, slice_get}
-use Rattle.std.proofs.Common.{refl, sym, ap, ◌∙◌, subst, arith, false, MatchOption}
+use Rattle.std.proofs.Common.{length, slice_get, refl, sym, ap, ◌∙◌, subst, arith, false, MatchOption}
 use Rattle.std.specs.Prelude.{◌↔◌, Option, Result, IsSome, IsErrAnd, MatchResult}
 use Rattle.std.specs.Option.{ForSome}
 use Rattle.atomic_table.specs.Seated.{TableId}
@@ -28,8 +27,7 @@ use Rattle.summaries.specs.Mails.{mail}
 use Rattle.summaries.specs.Dues.{due_of}
 use Rattle.summaries.specs.Fitting.{IsDueFor, FitsIn}
 use Rattle.summaries.specs.Found.{TookMessage}
-use Rattle.summaries.specs.Tables.{graph_of, procedure_of, limit_of, answers_of, failure, IsNew, IsQuiet, IsAnswer}
-use Rattle.summaries.specs.Tables.{TableTakes, KeepsTable}
+use Rattle.summaries.specs.Tables.{graph_of, procedure_of, limit_of, answers_of, failure, IsNew, IsQuiet, IsAnswer, TableTakes, KeepsTable}
 use Rattle.summaries.specs.Tabulated.{HasMoreEdges}
 use Rattle.summaries.specs.Together.{opening, IsTableOf}
 use Rattle.summaries.proofs.Tabled.{over_limit, answer_due}
@@ -57,10 +55,9 @@ use Rattle.procedure_worker.specs.declared.stop.Stop.TheVariants as stop
 use Rattle.procedure_worker.specs.declared.worker.Worker.{Worker}
 use Rattle.procedure_worker.specs.Own.{taken_in, posted_in}
 use Rattle.procedure_worker.specs.Stops.{cause_of, end_of, lack_of, end_at, RefusedFor, FailsFor, TakesOrFails}
-use Rattle.procedure_worker.specs.Works.{Start, IsPassOf, IsFresh, HasStood, HasFailed, Stands, HasSent}
-use Rattle.procedure_worker.specs.Works.{EndsSo, IsReady, IsTaking, IsDealing, IsSending, IsStopped, HasStopped}
-use Rattle.procedure_worker.specs.Works.{Failed, Completes, StopsSo, StoppedFor, IsAtFault, IsFounded}
-use Rattle.procedure_worker.specs.Works.{mails_of, cause_for}
+use Rattle.procedure_worker.specs.Works.{Start, IsPassOf, IsFresh, HasStood, HasFailed, Stands, HasSent, EndsSo, IsReady, IsTaking}
+use Rattle.procedure_worker.specs.Works.{IsDealing, IsSending, IsStopped, HasStopped, Failed, Completes, StopsSo, StoppedFor, IsAtFault}
+use Rattle.procedure_worker.specs.Works.{IsFounded, mails_of, cause_for}
 use Rattle.procedure_worker.proofs.Lists.{taken_post, taken_take, taken_done, posted_post, posted_take, posted_done}
 
 -- what is said of an error holds of an answer that is this error

@@ -13,8 +13,7 @@ use Rattle.orders.specs.Parts.{rounds_of}
 use Rattle.orders.specs.declared.order.Order.{Order}
 use Rattle.orders.specs.declared.order.Order.TheVariants.{Check, Sequential}
 use Rattle.refusals.specs.declared.refusal.Refusal.{Refusal}
-use Rattle.refusals.specs.declared.refusal.Refusal.TheVariants.{Unread, Unchecked, TooWide, EdgeLimit, Memory}
-use Rattle.refusals.specs.declared.refusal.Refusal.TheVariants.{NoWorker, Spent}
+use Rattle.refusals.specs.declared.refusal.Refusal.TheVariants.{Unread, Unchecked, TooWide, EdgeLimit, Memory, NoWorker, Spent}
 
 -- where a fault of scopes stands, and what is told of the name there; want of memory has no place
 abbrev pub scope_told : ScopeFault → Option (ℕ × List ℕ)

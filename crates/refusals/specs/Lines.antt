@@ -6,8 +6,7 @@ use Rattle.syntax.specs.declared.fault.ReadFault.TheVariants as read
 use Rattle.scopes.specs.declared.fault.ScopeFault.{ScopeFault}
 use Rattle.scopes.specs.declared.fault.ScopeFault.TheVariants as scope
 use Rattle.refusals.specs.declared.refusal.Refusal.{Refusal}
-use Rattle.refusals.specs.declared.refusal.Refusal.TheVariants.{Unread, Unchecked, TooWide, EdgeLimit, Memory}
-use Rattle.refusals.specs.declared.refusal.Refusal.TheVariants.{NoWorker, Spent}
+use Rattle.refusals.specs.declared.refusal.Refusal.TheVariants.{Unread, Unchecked, TooWide, EdgeLimit, Memory, NoWorker, Spent}
 
 -- the line for want of memory
 abbrev pub memory_line : List ℕ

@@ -11,8 +11,7 @@ use Rattle.round_rewrite.specs.Places.{places, is_global}
 use Rattle.resolved.specs.Scoped.{PlacesInScope, SidesInScope}
 use Rattle.round_rewrite.proofs.Laid.{row, bits_of, lay, Moment, turned, unturned, row_long}
 use Rattle.round_rewrite.proofs.Assigned.{drawn_to, length-drawn, bit-undrawn, picks, Picked, picked, any_are, drawn_writes, spread_all}
-use Rattle.round_rewrite.proofs.Assigned.{sides_are}
-use Rattle.round_rewrite.proofs.Assigned.{sides_back, writes, writes_locals}
+use Rattle.round_rewrite.proofs.Assigned.{sides_are, sides_back, writes, writes_locals}
 use Rattle.round_rewrite.proofs.Plain.{World, PlainAfter}
 use Rattle.round_rewrite.proofs.Leading.{Leads, Never, unstep, Later, later_now}
 use Rattle.round_rewrite.specs.Limits.{most_rounds}

@@ -21,10 +21,9 @@ use Rattle.round_rewrite.proofs.Blocks.{put-join, put-again}
 use Rattle.round_rewrite.proofs.Prologue.{stop_leads}
 use Rattle.round_rewrite.proofs.Frames.{Activation, both, awaiting, results, entered, given, source_values, put_values, Fits, Roomy, Both}
 use Rattle.round_rewrite.proofs.Frames.{source, Good, AllGood, GoodStack, put_rest, inner, behind, callers, stack, Setting, put_routine}
-use Rattle.round_rewrite.proofs.Frames.{roomy, top, site}
-use Rattle.round_rewrite.proofs.Frames.{throughout-join, throughout-rest, IfThere, bit_zeros, source_fresh, put_fresh, source_with}
-use Rattle.round_rewrite.proofs.Frames.{put_given, Waits}
-use Rattle.round_rewrite.proofs.Frames.{put_result, put_with, resulting, resulting_good, draws_room, takes_room}
+use Rattle.round_rewrite.proofs.Frames.{roomy, top, site, throughout-join, throughout-rest, IfThere, bit_zeros, source_fresh, put_fresh}
+use Rattle.round_rewrite.proofs.Frames.{source_with, put_given, Waits, put_result, put_with, resulting, resulting_good, draws_room}
+use Rattle.round_rewrite.proofs.Frames.{takes_room}
 use Rattle.resolved.proofs.Each.{each_at}
 
 -- an open call that has new values and goes on in the same procedure

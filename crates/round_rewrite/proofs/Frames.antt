@@ -1,8 +1,7 @@
 -- A stack of the source and the temporaries together give the rewritten stack.
-use Rattle.std.proofs.Common.{◌≡◌, ℕ, zero, suc, ◌+◌, ◌-◌, ◌*◌, ◌<◌, ◌≤◌, max, Bool, true, false, cond, List, [], ◌∷◌, ◌++◌, length, map}
-use Rattle.std.proofs.Common.{Option, Some, None, option_map, slice_get, refl, sym, ◌∙◌, ap, ap₂, arith, add_assoc, ◌⊎◌, inl}
-use Rattle.std.proofs.Common.{inr}
-use Rattle.std.proofs.Common.{append_assoc}
+use Rattle.std.proofs.Common.{◌≡◌, ℕ, zero, suc, ◌+◌, ◌-◌, ◌*◌, ◌<◌, ◌≤◌, max, Bool, true, false, cond, List}
+use Rattle.std.proofs.Common.{[], ◌∷◌, ◌++◌, length, map, Option, Some, None, option_map, slice_get, refl, sym, ◌∙◌, ap}
+use Rattle.std.proofs.Common.{ap₂, arith, add_assoc, ◌⊎◌, inl, inr, append_assoc}
 use Rattle.std.proofs.lemmas.List.{get_or-set_same, get_or-set_other, set_past, length-set, set-append_left}
 use Rattle.language.specs.Tree.{Expression, Simple, assign, call_for, Mark, done, one, choose, loop, RightSide}
 use Rattle.language.specs.Value.{Place, global, local, bit, with_bit, written_locals}

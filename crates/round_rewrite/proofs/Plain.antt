@@ -7,8 +7,7 @@ use Rattle.language.specs.Tree.{RightSide}
 use Rattle.language.specs.Value.{Place, value_of, values_of, IsValue, AreValues, written_globals, written_locals}
 use Rattle.language.specs.Rest.{Label, Code, join, rest_from, first_of_two, has_label}
 use Rattle.language.specs.Step.{Routine, Program, Frame, frame, waiting, State, state, fresh, frame_size, result_of, with_result}
-use Rattle.language.specs.Step.{given_back}
-use Rattle.language.specs.Step.{AtRoutine, AtRest, body_of, StepsTo, AfterSteps}
+use Rattle.language.specs.Step.{given_back, AtRoutine, AtRest, body_of, StepsTo, AfterSteps}
 use Rattle.language.specs.Sequential.{statements, marked, numbered}
 use Rattle.round_rewrite.specs.Table.{plain}
 

@@ -1,8 +1,7 @@
 -- A run of a rewritten thread down to the first procedure is the thread's turns, or turns that fail.
 use Rattle.std.proofs.Common.{◌≡◌, ℕ, zero, suc, ◌+◌, ◌<◌, ◌≤◌, Bool, true, false, List, [], ◌∷◌, ◌++◌}
-use Rattle.std.proofs.Common.{Option, Some, None}
-use Rattle.std.proofs.Common.{slice_get, length, map, refl, sym, ◌∙◌, ap, subst, arith, append_assoc, length-append, ◌⊎◌, inl}
-use Rattle.std.proofs.Common.{inr}
+use Rattle.std.proofs.Common.{Option, Some, None, slice_get, length, map, refl, sym, ◌∙◌, ap, subst, arith, append_assoc}
+use Rattle.std.proofs.Common.{length-append, ◌⊎◌, inl, inr}
 use Rattle.std.proofs.lemmas.List.{get_or-set_same, length-set}
 use Rattle.language.specs.Tree.{done, one, choose, loop}
 use Rattle.language.specs.Value.{Place, global, local, bit, with_bit}

@@ -1,10 +1,9 @@
 -- How path edges and those pending grow, step by step.
 use Rattle.std.specs.Bool.{OnFalse}
 use Rattle.std.specs.Result.{IsErrAnd, OnOk}
-use Rattle.std.proofs.Common.{Option, Some, ◌≤◌, eq-or-lt_of_le, ◌≡◌, Bool, true, false, true≢false, List}
-use Rattle.std.proofs.Common.{[], ◌∷◌, ◌++◌, ◌⊎◌, inl, inr, sym, ap, subst, ◌∙◌, ℕ, ◌+◌, Result, Ok}
-use Rattle.std.proofs.Common.{Err, length, if◌then◌else◌, arith, length-append}
-use Rattle.std.proofs.Common.{◌<◌, take, get_or}
+use Rattle.std.proofs.Common.{Option, Some, ◌≤◌, eq-or-lt_of_le, ◌≡◌, Bool, true, false, true≢false, List, [], ◌∷◌}
+use Rattle.std.proofs.Common.{◌++◌, ◌⊎◌, inl, inr, sym, ap, subst, ◌∙◌, ℕ, ◌+◌, Result, Ok, Err, length}
+use Rattle.std.proofs.Common.{if◌then◌else◌, arith, length-append, ◌<◌, take, get_or}
 use Rattle.std.proofs.Math.Seq.{take-length}
 use Rattle.summaries.proofs.Firsts.{take_more}
 use Rattle.summaries.proofs.Eaches.{each_left, each_last, each_or_last, each_at, each_until}

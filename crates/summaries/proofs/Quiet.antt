@@ -8,8 +8,7 @@ use Rattle.flow_graph.specs.Numbers.{starts, flows, returns, Sends, asks, tells,
 use Rattle.flow_graph.specs.declared.graph.Graph.{Graph}
 use Rattle.flow_graph.specs.declared.left.Left.{Left}
 use Rattle.summaries.specs.declared.found.Found.{Found}
-use Rattle.summaries.specs.Found.{edge, TookMessage, HasExit, HasGiven, IsOwed}
-use Rattle.summaries.specs.Found.{IsGrounded, IsWorked, IsSaturated, IsExact}
+use Rattle.summaries.specs.Found.{edge, TookMessage, HasExit, HasGiven, IsOwed, IsGrounded, IsWorked, IsSaturated, IsExact}
 
 -- a message that is owed is sent
 pub owed_sent : {A G : Type 0} (graph : Graph G) (q : ℕ) (f : Found A) (edges : List Triple) →

@@ -1,8 +1,7 @@
 -- The passes of a board with a lock for each mailbox are gathered in one seat, and what is left of the board then.
-use Rattle.std.proofs.Common.{◌≡◌, ◌≢◌, inl, inr, ℕ, zero, suc, ◌+◌, ◌^◌, ◌%◌, ◌<◌, ◌≤◌, ◌||◌, Bool, true, false, List, [], ◌∷◌, ◌++◌, map}
-use Rattle.std.proofs.Common.{length, get_or, slice_get}
-use Rattle.std.proofs.Common.{Some, None, refl, sym, ap, ◌∙◌, subst, arith, Option, append_assoc, length-append, eq-eqb, ne_eqb, nat_eq}
-use Rattle.std.proofs.Common.{lt_of_not-le}
+use Rattle.std.proofs.Common.{◌≡◌, ◌≢◌, inl, inr, ℕ, zero, suc, ◌+◌, ◌^◌, ◌%◌, ◌<◌, ◌≤◌, ◌||◌, Bool}
+use Rattle.std.proofs.Common.{true, false, List, [], ◌∷◌, ◌++◌, map, length, get_or, slice_get, Some, None, refl, sym, ap}
+use Rattle.std.proofs.Common.{◌∙◌, subst, arith, Option, append_assoc, length-append, eq-eqb, ne_eqb, nat_eq, lt_of_not-le}
 use Rattle.std.specs.Prelude.{◌↔◌}
 use Rattle.std.proofs.lemmas.Bool.{eqb-true, cases_eq}
 use Rattle.std.proofs.lemmas.Option.{slice_get_within, same_Some}
@@ -15,8 +14,7 @@ use Rattle.atomic_table.specs.Seated.{TableId}
 use Rattle.ticket_lock.specs.declared.hand.Hand.{Hand}
 use Rattle.ticket_lock.specs.Count.{times, total}
 use Rattle.ticket_lock.specs.Proved.Facts.{total_at, total_two, total_only, total-map, at-map, at_longer, times-one, EndsIn-same}
-use Rattle.ticket_lock.specs.Proved.Facts.{StartsWith-refl}
-use Rattle.ticket_lock.specs.Proved.Facts.{StartsWith-trans}
+use Rattle.ticket_lock.specs.Proved.Facts.{StartsWith-refl, StartsWith-trans}
 use Rattle.post_ledger.specs.declared.event.Event.{Event}
 use Rattle.post_ledger.specs.declared.entry.Entry.{Entry}
 use Rattle.post_ledger.specs.Orders.{part, own, IsClosed}

@@ -29,8 +29,7 @@ use Rattle.switchboard.specs.Knowing.{either_abort, state_of, both_seen, with_se
 use Rattle.switchboard.specs.Knowing.{made_abort, taken_in}
 use Rattle.switchboard.specs.PerBox.{View, flag, Saw, Rule, LookedAtWord, Raised, SeatTookIn, Seat, owed}
 use Rattle.switchboard.specs.Proved.PerBoxFacts.{BoardGrows, grows_same, saw_grows, saw_all, sound_with, closed_at_zero, fewer_dones}
-use Rattle.switchboard.specs.Proved.PerBoxFacts.{news_is, rebuilt}
-use Rattle.switchboard.specs.Proved.PerBoxFacts.{locks_still, made_still}
+use Rattle.switchboard.specs.Proved.PerBoxFacts.{news_is, rebuilt, locks_still, made_still}
 
 flag_small : (a : Option Abort) → flag a ≤ 2 ^ 63
 flag_small None = omega arith

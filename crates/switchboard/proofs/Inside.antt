@@ -14,10 +14,9 @@ use Rattle.switchboard.specs.Books.{with_entry, TakeAnswers, RefusesPost}
 use Rattle.switchboard.specs.Passes.{calls_of, share, sight_of, Comes, IsPass}
 use Rattle.switchboard.specs.Promises.{Took, Added, MadeAbort}
 use Rattle.switchboard.specs.Proved.Entries.{Allowed}
-use Rattle.switchboard.proofs.Visits.{Kept, Visit, Found, found_here, shows, showing, step_keeps, adds}
-use Rattle.switchboard.proofs.Visits.{aborts, take_step, post_step, job_found, job_allowed, post_allowed, some_calls}
-use Rattle.switchboard.proofs.Visits.{after_shows, moved, pass_stays, take_still, took_is, added_is, post_still, posted_is}
-use Rattle.switchboard.proofs.Visits.{PostAnswer, abort_pass, aborted_when}
+use Rattle.switchboard.proofs.Visits.{Kept, Visit, Found, found_here, shows, showing, step_keeps, adds, aborts, take_step, post_step}
+use Rattle.switchboard.proofs.Visits.{job_found, job_allowed, post_allowed, some_calls, after_shows, moved, pass_stays, take_still, took_is}
+use Rattle.switchboard.proofs.Visits.{added_is, post_still, posted_is, PostAnswer, abort_pass, aborted_when}
 
 module _ {M W : Type 0} (fits : W → ℕ → M → Type 0) where
   -- The pass shows itself as s and has the number n; it is inside, finds x and is lent it as v.

@@ -25,8 +25,7 @@ use Rattle.switchboard.specs.declared.calls.Abort.{Abort}
 use Rattle.switchboard.specs.declared.calls.Taken as answers
 use Rattle.switchboard.specs.declared.calls.Taken.TheVariants as answer
 use Rattle.ticket_lock.specs.declared.lane.Spent.{Spent}
-use Rattle.switchboard.specs.Promises.{AreFirst, MadeNone, Added, Took, TookOldest, WasPosted, WasRefused, WasDone}
-use Rattle.switchboard.specs.Promises.{MadeAbort}
+use Rattle.switchboard.specs.Promises.{AreFirst, MadeNone, Added, Took, TookOldest, WasPosted, WasRefused, WasDone, MadeAbort}
 use Rattle.switchboard.specs.Proved.Entries.{job_stays, takes_own, dones_own}
 use Rattle.switchboard.proofs.Settling.{get_front}
 

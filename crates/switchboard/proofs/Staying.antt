@@ -18,8 +18,7 @@ use Rattle.switchboard.specs.declared.calls.PostFault.TheVariants as fault
 use Rattle.switchboard.specs.declared.calls.Taken as answers
 use Rattle.switchboard.specs.declared.calls.Taken.TheVariants as answer
 use Rattle.switchboard.specs.Sights.{Sight, IsSound}
-use Rattle.switchboard.specs.Promises.{GoesOn, Added, TookOldest, WasPosted, WasRefused, Took, SaysClosed, SaysStopped}
-use Rattle.switchboard.specs.Promises.{IsPostStopped}
+use Rattle.switchboard.specs.Promises.{GoesOn, Added, TookOldest, WasPosted, WasRefused, Took, SaysClosed, SaysStopped, IsPostStopped}
 use Rattle.switchboard.proofs.Visits.{some_later, same_order}
 use Rattle.switchboard.proofs.Jobs.{legal_front, job_new}
 

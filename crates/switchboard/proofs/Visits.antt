@@ -14,8 +14,7 @@ use Rattle.post_ledger.specs.declared.event.Event.TheVariants as event
 use Rattle.post_ledger.specs.declared.entry.Entry.{Entry}
 use Rattle.post_ledger.specs.declared.entry.Entry.TheVariants as entry
 use Rattle.post_ledger.specs.History.{posts, takes}
-use Rattle.post_ledger.specs.Orders.{maker_of, part, own, posted, completed, HasJob, IsLawful}
-use Rattle.post_ledger.specs.Orders.{IsClosed}
+use Rattle.post_ledger.specs.Orders.{maker_of, part, own, posted, completed, HasJob, IsLawful, IsClosed}
 use Rattle.post_ledger.proofs.Orders.{counted_closed, nothing_follows}
 use Rattle.post_ledger.proofs.Orders.{part-append, part_here, part_else, own-append, own_here, own_else, job_inside}
 use Rattle.switchboard.specs.declared.calls.Abort.{Abort}

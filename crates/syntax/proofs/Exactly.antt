@@ -9,9 +9,8 @@ use Rattle.syntax.specs.Grammar.{Takes, takes, Behind, behind, InParens, in_pare
 use Rattle.syntax.specs.Grammar.{Listed, listed, Several, several, Perhaps, nothing, something}
 use Rattle.syntax.specs.Exact.{more, list, repeated, parens, perhaps}
 use Rattle.syntax.proofs.KindTests.{same_kind-true, same_kind-is}
-use Rattle.syntax.proofs.Fixes.{both, carried, between, bind_is, Shrinks, Agree, Strict-Shrinks, Shrinks-give}
-use Rattle.syntax.proofs.Fixes.{Strict-take, Shrinks-bind, Strict-bind, Agree-same, Agree-bind}
-use Rattle.syntax.proofs.Fixes.{Agree-Strict-bind, IsStep, fix_shrinks, fix_is, Finds, fix_finds}
+use Rattle.syntax.proofs.Fixes.{both, carried, between, bind_is, Shrinks, Agree, Strict-Shrinks, Shrinks-give, Strict-take, Shrinks-bind}
+use Rattle.syntax.proofs.Fixes.{Strict-bind, Agree-same, Agree-bind, Agree-Strict-bind, IsStep, fix_shrinks, fix_is, Finds, fix_finds}
 use Rattle.syntax.proofs.Expressions.{take_is, take_finds}
 
 -- p reads what P says, wherever what follows is as S says, and nothing else.

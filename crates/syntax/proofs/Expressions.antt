@@ -13,10 +13,9 @@ use Rattle.syntax.specs.Grammar.{Takes, takes, name_at, operator_at, level, left
 use Rattle.syntax.specs.Grammar.{reads_name, reads_not, reads_paren, reads_two}
 use Rattle.syntax.specs.Exact.{Goal, from, after, binds, operand_step, go_on, expression_step, reading, operand}
 use Rattle.syntax.proofs.KindTests.{same_kind-true, same_kind-is}
-use Rattle.syntax.proofs.Fixes.{both, between, bind_is, Shrinks, Agree, Strict-Shrinks, Shrinks-give}
-use Rattle.syntax.proofs.Fixes.{Shrinks-refuse, Strict-take, Shrinks-bind, Agree-same, Agree-bind}
-use Rattle.syntax.proofs.Fixes.{Shrinks-cond, Agree-cond, IsStep, fix_shrinks, fix_is, Finds, fix_finds}
-use Rattle.syntax.proofs.Fixes.{carried}
+use Rattle.syntax.proofs.Fixes.{both, between, bind_is, Shrinks, Agree, Strict-Shrinks, Shrinks-give, Shrinks-refuse, Strict-take}
+use Rattle.syntax.proofs.Fixes.{Shrinks-bind, Agree-same, Agree-bind, Shrinks-cond, Agree-cond, IsStep, fix_shrinks, fix_is, Finds}
+use Rattle.syntax.proofs.Fixes.{fix_finds, carried}
 
 operand_shrinks : (f : Goal → Parser (Expression Name)) → ((i : Goal) → Shrinks (f i)) → (t : Tok) → Shrinks (operand_step f t)
 operand_shrinks f s t = search (s, Shrinks-cond, Shrinks-bind, Shrinks-give, Shrinks-refuse, Strict-Shrinks, Strict-take) depth 12

@@ -8,10 +8,9 @@ use Rattle.tokens.specs.declared.vocabulary.Token.{Token}
 use Rattle.tokens.specs.Token.{Tok, toks_of, same_kind}
 use Rattle.syntax.specs.Parser.{Parser, give, ◌>>=◌, begins, take}
 use Rattle.trees.specs.Trees.{Deed, simple, branch, repeat, Item, before, all_before}
-use Rattle.syntax.specs.Exact.{item_step, rest_step, starts_here, section, section_behind, item, going_on, put_before, marked}
-use Rattle.syntax.specs.Exact.{condition, calling, asking, assignment, asks_behind, named, ended, giving, returning, deed_step, deed_by}
-use Rattle.syntax.specs.Exact.{deed}
-use Rattle.syntax.specs.Exact.{if_deed, while_deed}
+use Rattle.syntax.specs.Exact.{item_step, rest_step, starts_here, section, section_behind, item, going_on, put_before, marked, condition}
+use Rattle.syntax.specs.Exact.{calling, asking, assignment, asks_behind, named, ended, giving, returning, deed_step, deed_by, deed, if_deed}
+use Rattle.syntax.specs.Exact.{while_deed}
 use Rattle.syntax.proofs.Fixes.{bind_is}
 use Rattle.syntax.proofs.Sections.{section_is}
 

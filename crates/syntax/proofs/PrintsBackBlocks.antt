@@ -9,8 +9,7 @@ use Rattle.tokens.specs.Token.{Tok}
 use Rattle.tokens.specs.Parts.{Part, shown, space, line, spelling, fixed, tokens_of}
 use Rattle.syntax.specs.Grammar.{Takes, takes, IsName, is_name, InParens, Perhaps, IsExpression, IsRight, IsMarked, bare, labelled}
 use Rattle.syntax.specs.Grammar.{IsSimple, is_skip, is_return, is_give, is_goto, is_assert, is_assume, is_assign, is_call, is_call_for}
-use Rattle.syntax.specs.Grammar.{IsSome}
-use Rattle.syntax.specs.Grammar.{Statements, nothing_more, statement, if_statement, while_statement}
+use Rattle.syntax.specs.Grammar.{IsSome, Statements, nothing_more, statement, if_statement, while_statement}
 use Rattle.syntax.specs.Offsets.{unplaced, unplaced_expression, unplaced_side, unplaced_simple, unplaced_mark, unplaced_block}
 use Rattle.syntax.specs.InGrammar.{SimpleInGrammar, BlockInGrammar}
 use Rattle.syntax.specs.Printed as printed

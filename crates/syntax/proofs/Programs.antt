@@ -8,12 +8,10 @@ use Rattle.syntax.specs.Parser.{Parser, Strict, give, ◌>>=◌, begins, take, m
 use Rattle.syntax.specs.Grammar.{Takes, takes, IsName, is_name, InParens, Several, several, Perhaps, IsSome, Statements, joined}
 use Rattle.syntax.specs.Grammar.{IsDeclaration, is_declaration, Declarations, declarations, IsProcedure, is_procedure, IsThread, is_thread}
 use Rattle.syntax.specs.Grammar.{IsProgram, is_program}
-use Rattle.syntax.specs.Exact.{name, names, formals, starts, starts_here, section, declaration}
-use Rattle.syntax.specs.Exact.{all_declarations, insides, procedure, procedures, thread_line, any_left}
-use Rattle.syntax.specs.Exact.{thread_lines, program}
+use Rattle.syntax.specs.Exact.{name, names, formals, starts, starts_here, section, declaration, all_declarations, insides, procedure}
+use Rattle.syntax.specs.Exact.{procedures, thread_line, any_left, thread_lines, program}
 use Rattle.syntax.proofs.KindTests.{same_kind-is}
-use Rattle.syntax.proofs.Fixes.{carried, between, bind_is, Shrinks, Strict-Shrinks, Shrinks-give, Strict-take}
-use Rattle.syntax.proofs.Fixes.{Shrinks-bind, Strict-bind}
+use Rattle.syntax.proofs.Fixes.{carried, between, bind_is, Shrinks, Strict-Shrinks, Shrinks-give, Strict-take, Shrinks-bind, Strict-bind}
 use Rattle.syntax.proofs.Expressions.{take_is, take_finds}
 use Rattle.syntax.proofs.Exactly.{Exactly, Anything, begins_takes, begins_other, many_finds, many_reads}
 use Rattle.syntax.proofs.Exactly.{many_shrinks, repeated_finds, repeated_reads}

@@ -8,8 +8,7 @@ use Rattle.syntax.specs.Parser.{Parser, Strict, give, refuse, ◌>>=◌, begins,
 use Rattle.syntax.specs.Grammar.{name_at}
 use Rattle.trees.specs.Trees.{Deed, simple, branch, repeat, before}
 use Rattle.syntax.specs.Exact.{condition, marked, assignment, calling, asking, asks_behind, named, giving, returning, branching, repeating}
-use Rattle.syntax.specs.Exact.{deed_by, deed_step, starts_here}
-use Rattle.syntax.specs.Exact.{item_step, rest_step, section_step, section}
+use Rattle.syntax.specs.Exact.{deed_by, deed_step, starts_here, item_step, rest_step, section_step, section}
 use Rattle.syntax.proofs.Fixes.{both, Shrinks, Agree, Strict-Shrinks, Shrinks-give, Shrinks-refuse, Strict-take, Shrinks-bind, Strict-bind}
 use Rattle.syntax.proofs.Fixes.{Shrinks-Strict-bind, Agree-same, Agree-bind, Agree-Strict-bind, Shrinks-cond, IsStep, fix_shrinks, fix_is}
 use Rattle.syntax.proofs.Exactly.{chosen}

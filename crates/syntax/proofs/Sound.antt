@@ -6,14 +6,12 @@ use Rattle.tokens.specs.declared.vocabulary.Kind.TheVariants as kind
 use Rattle.tokens.specs.Token.{Tok, same_kind}
 use Rattle.syntax.specs.Parser.{Parser, give, refuse, ◌>>=◌, begins, take}
 use Rattle.syntax.specs.Grammar.{Takes, takes, InParens, IsRight, name_at, IsMarked, bare, labelled, IsSimple, is_skip, is_return, is_give}
-use Rattle.syntax.specs.Grammar.{is_goto, is_assert}
-use Rattle.syntax.specs.Grammar.{is_assume, is_assign, is_call, is_call_for, IsSome, Statements, nothing_more, statement, if_statement}
-use Rattle.syntax.specs.Grammar.{while_statement}
+use Rattle.syntax.specs.Grammar.{is_goto, is_assert, is_assume, is_assign, is_call, is_call_for, IsSome, Statements, nothing_more}
+use Rattle.syntax.specs.Grammar.{statement, if_statement, while_statement}
 use Rattle.trees.specs.Trees.{Deed, simple, branch, repeat, Item, before, marked_before}
 use Rattle.syntax.specs.Exact.{name, names, expression, rights, arguments, condition, marked, assignment, calling, asking, asks_behind}
-use Rattle.syntax.specs.Exact.{named}
-use Rattle.syntax.specs.Exact.{giving, returning, branching, repeating, deed_by, deed_step, starts_here, item_step, rest_step, section_step}
-use Rattle.syntax.specs.Exact.{section}
+use Rattle.syntax.specs.Exact.{named, giving, returning, branching, repeating, deed_by, deed_step, starts_here, item_step, rest_step}
+use Rattle.syntax.specs.Exact.{section_step, section}
 use Rattle.syntax.proofs.KindTests.{same_kind-true}
 use Rattle.syntax.proofs.Fixes.{carried, between, Finds, fix_finds}
 use Rattle.syntax.proofs.Expressions.{take_finds}

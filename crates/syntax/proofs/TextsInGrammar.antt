@@ -13,10 +13,8 @@ use Rattle.syntax.specs.Grammar.{Takes, takes, Reads, reads_zero, reads_one, rea
 use Rattle.syntax.specs.Grammar.{Behind, behind, InParens, in_parens, Many, no_more, one_more, Several, several, Listed, listed, Perhaps}
 use Rattle.syntax.specs.Grammar.{something, IsExpression, IsRight, is_any, is_value, IsMarked, bare, labelled, IsSimple, is_skip, is_return}
 use Rattle.syntax.specs.Grammar.{is_give, is_goto, is_assert, is_assume, is_assign, is_call, is_call_for, Statements, nothing_more}
-use Rattle.syntax.specs.Grammar.{statement}
-use Rattle.syntax.specs.Grammar.{if_statement, while_statement, joined, IsDeclaration, is_declaration, Declarations, declarations}
-use Rattle.syntax.specs.Grammar.{IsProcedure}
-use Rattle.syntax.specs.Grammar.{is_procedure, IsThread, is_thread, IsProgram, is_program}
+use Rattle.syntax.specs.Grammar.{statement, if_statement, while_statement, joined, IsDeclaration, is_declaration, Declarations}
+use Rattle.syntax.specs.Grammar.{declarations, IsProcedure, is_procedure, IsThread, is_thread, IsProgram, is_program}
 use Rattle.syntax.specs.InGrammar.{IsId, AreIds, ExpressionInGrammar, SideInGrammar, SimpleInGrammar, LabelInGrammar, BlockInGrammar}
 use Rattle.syntax.specs.InGrammar.{ProcedureInGrammar, ThreadInGrammar, InGrammar}
 use Rattle.syntax.specs.Text.{Text}

@@ -18,9 +18,8 @@ use Rattle.ticket_lock.specs.Lone.{hand_of, numbers, new_view, nobody, taken_in,
 use Rattle.ticket_lock.specs.Lone.{TookIn}
 use Rattle.ticket_lock.specs.Proved.Facts.{total_set, total-snoc, total_two, total_only, total-map, at_set, at_snoc, at_longer, at_append}
 use Rattle.ticket_lock.specs.Proved.Facts.{map-append, at_last, set_here, set_else, set_again, at_inside, map-set, map-snoc, at-map}
-use Rattle.ticket_lock.specs.Proved.Facts.{times-append}
-use Rattle.ticket_lock.specs.Proved.Facts.{StartsWith-length, StartsWith-whole, StartsWith-refl, both_begin, EndsIn-some, rises_short}
-use Rattle.ticket_lock.specs.Proved.Facts.{rises_last}
+use Rattle.ticket_lock.specs.Proved.Facts.{times-append, StartsWith-length, StartsWith-whole, StartsWith-refl, both_begin, EndsIn-some}
+use Rattle.ticket_lock.specs.Proved.Facts.{rises_short, rises_last}
 use Rattle.ticket_lock.specs.Proved.LoneOpens.{rebuilt}
 use Rattle.ticket_lock.proofs.CoreSteps.{core_same}
 

@@ -29,8 +29,7 @@ use Rattle.switchboard.specs.Knowing.{entry_of, owes_after, with_event, made_by,
 use Rattle.switchboard.specs.PerBox.{View, word_of, IsBox, Saw, KnowsBoard, Rule, MayRecord, LeavesOneEvent, Recorded, TellsOrder, Boxes}
 use Rattle.switchboard.specs.PerBox.{Homes, owed}
 use Rattle.switchboard.specs.Proved.PerBoxFacts.{hand_here, hand_else, has_hand, closed_at_zero, BoardGrows, grows_same, saw_grows, saw_all}
-use Rattle.switchboard.specs.Proved.PerBoxFacts.{news_is}
-use Rattle.switchboard.specs.Proved.PerBoxFacts.{made_still, rebuilt, locks_after}
+use Rattle.switchboard.specs.Proved.PerBoxFacts.{news_is, made_still, rebuilt, locks_after}
 
 module _ {M : Type 0} where
   entry_box : (q under : ℕ) (e : Event M) → mailbox_of (entry_of q under e) ≡ q

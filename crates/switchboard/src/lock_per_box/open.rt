@@ -1,7 +1,6 @@
 //! A new board with a lock for each mailbox.
 ghost use Rattle.std.specs.Prelude.{◌≡◌, ℕ, ◌+◌, ◌*◌, ◌-◌, ◌^◌, ◌<◌, ◌≤◌, ◌∷◌, [], List, Some};
-ghost use Rattle.std.specs.Prelude.{Option, IfOk, length, slice_get, get_or};
-ghost use Rattle.std.specs.Prelude.{vec_len, vec_capacity};
+ghost use Rattle.std.specs.Prelude.{Option, IfOk, length, slice_get, get_or, vec_len, vec_capacity};
 ghost use Rattle.post_ledger.specs.declared.event.Event.{Event};
 ghost use Rattle.post_ledger.specs.declared.entry.Entry.TheVariants.{Posted};
 ghost use Rattle.post_ledger.specs.Orders.{part};

@@ -9,8 +9,7 @@ use Rattle.trees.proofs.Held.{held, smaller}
 use Rattle.round_rewrite.proofs.Laying.{laid}
 use Rattle.round_rewrite.proofs.Forms.{by_core, core_is, one_more, no_more, block_whole, block_done}
 use Rattle.trees.proofs.Folds.{deed_of-Skip, deed_of-Return, deed_of-Goto, deed_of-Assert, deed_of-Assume, deed_of-Assign, deed_of-Call}
-use Rattle.trees.proofs.Folds.{deed_of-CallTo, deed_of-Give}
-use Rattle.trees.proofs.Folds.{deed_of-If, deed_of-While}
+use Rattle.trees.proofs.Folds.{deed_of-CallTo, deed_of-Give, deed_of-If, deed_of-While}
 use Rattle.round_rewrite.proofs.writer.Writer.+rewriting.Goals as goal
 
 pub block-core-requires : goal.block-core-requires
