@@ -8,7 +8,8 @@ ghost use Rattle.refusals.specs.Lines.{memory_line};
 ghost use Rattle.refusals.specs.declared.refusal.Refusal.TheVariants as why;
 ghost use Rattle.cli.specs.Counted.{HasEach, answer_line, answer_status, lines_behind};
 ghost use Rattle.cli.specs.Counts.{names_of};
-ghost use Rattle.cli.specs.Replies.{IsPastLimit, IsSequential, Refuses, RefusesFor, Replies, TellsRefusal, TellsOrLacks};
+ghost use Rattle.cli.specs.Replies.{IsPastLimit, IsSequential, Refuses, RefusesFor, Replies};
+ghost use Rattle.cli.specs.Replies.{TellsRefusal, TellsOrLacks};
 ghost use Rattle.cli.specs.Verdict.{Answers};
 ghost use Rattle.cli.specs.Written.{IsReplyWith, bytes_of};
 

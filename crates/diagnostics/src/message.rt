@@ -1,6 +1,7 @@
 //! A message about a place of a text: where it is, what is wrong with which name, and the source line.
 
-ghost use Rattle.std.specs.Prelude.{◌≡◌, ◌++◌, ◌-◌, ◌<◌, ◌≤◌, OnOk, codes, drop, length, map, min, not, position};
+ghost use Rattle.std.specs.Prelude.{◌≡◌, ◌++◌, ◌-◌, ◌<◌, ◌≤◌, OnOk, codes, drop, length, map, min};
+ghost use Rattle.std.specs.Prelude.{not, position};
 ghost use Rattle.std.specs.Prelude.{take};
 ghost use Rattle.std.specs.Fmt.{decimal};
 ghost use Rattle.std.specs.String.{string_bytes};

@@ -5,7 +5,8 @@ ghost use Rattle.language.specs.Tree.{var};
 ghost use Rattle.trees.specs.Trees.{name_of};
 ghost use Rattle.flow_graph.specs.Bits.{bit_of};
 ghost use Rattle.flow_graph.specs.Located.{located};
-ghost use Rattle.flow_graph.specs.Postfix.{IsShallow, IsShallow-prop, IsStepped, after_steps, top, need, Evaluates, PutsSteps, AreCodeOf};
+ghost use Rattle.flow_graph.specs.Postfix.{IsShallow, IsShallow-prop, IsStepped, after_steps, top};
+ghost use Rattle.flow_graph.specs.Postfix.{need, Evaluates, PutsSteps, AreCodeOf};
 ghost use Rattle.flow_graph.specs.Views.{over_bits, scope_seen, IsSmall};
 
 use crate::put::push;

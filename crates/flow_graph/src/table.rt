@@ -2,7 +2,8 @@
 
 ghost use Rattle.std.specs.Prelude.{◌≡◌, ◌<◌, ◌≤◌, ℕ, length, IfOk, IfSome};
 ghost use Rattle.language.specs.Tree.{var};
-ghost use Rattle.flow_graph.specs.Tables.{most_inputs, slot, Tabulates, AreBits, AreBits-prop, Widens};
+ghost use Rattle.flow_graph.specs.Tables.{most_inputs, slot, Tabulates, AreBits, AreBits-prop};
+ghost use Rattle.flow_graph.specs.Tables.{Widens};
 ghost use Rattle.flow_graph.specs.Views.{over_bits, IsSmall};
 ghost use Rattle.resolved.specs.Limits.{most_places};
 

@@ -1,6 +1,7 @@
 //! What workers found, gathered.
 ghost use Rattle.std.specs.Prelude.{◌≡◌, ◌∷◌, ◌++◌, [], List, IfOk};
-ghost use Rattle.gather.specs.Gathered.{rank_of, verdict_of, ends_of, tables_in, IsLeastOf, IsLesser, Gathers};
+ghost use Rattle.gather.specs.Gathered.{rank_of, verdict_of, ends_of, tables_in, IsLeastOf};
+ghost use Rattle.gather.specs.Gathered.{IsLesser, Gathers};
 
 use flow_graph::Graphs;
 use path_sets::PathSet;

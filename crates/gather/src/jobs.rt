@@ -1,6 +1,7 @@
 //! Jobs, each in a thread of its own.
 ghost use Rattle.std.specs.Prelude.{◌≡◌, ◌≤◌, [], length, vec_capacity, IfOk, IfSome};
-ghost use Rattle.gather.specs.Jobs.{refusal_of, AllCanRun, AreBegun, HasNoThread, HaveCome, OfJob, WasBegun};
+ghost use Rattle.gather.specs.Jobs.{refusal_of, AllCanRun, AreBegun, HasNoThread, HaveCome, OfJob};
+ghost use Rattle.gather.specs.Jobs.{WasBegun};
 
 use crate::hire::Hire;
 use crate::no_thread::{NoThread, start};

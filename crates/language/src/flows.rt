@@ -1,10 +1,13 @@
 //! Laws on what is left to run in a procedure, on its points, and on the steps inside one call.
-ghost use Rattle.std.specs.Prelude.{◌≡◌, ◌↔◌, ◌⊎◌, ◌∷◌, [], ℕ, suc, length, List, Bool, Some, map, slice_get};
+ghost use Rattle.std.specs.Prelude.{◌≡◌, ◌↔◌, ◌⊎◌, ◌∷◌, [], ℕ, suc, length, List, Bool, Some, map};
+ghost use Rattle.std.specs.Prelude.{slice_get};
 ghost use Rattle.language.specs.Tree.{Mark, RightSide, Expression, Simple, done, one, choose, loop};
 ghost use Rattle.language.specs.Value.{Place};
 ghost use Rattle.language.specs.Rest.{Label, Code, called_by};
-ghost use Rattle.language.specs.Step.{Routine, Program, Frame, frame, waiting, State, state, Step, body_of};
-ghost use Rattle.language.specs.Sequential.{numbered, numbers, statements, point_of, Valuation, Reaches};
+ghost use Rattle.language.specs.Step.{Routine, Program, Frame, frame, waiting, State, state, Step};
+ghost use Rattle.language.specs.Step.{body_of};
+ghost use Rattle.language.specs.Sequential.{numbered, numbers, statements, point_of, Valuation};
+ghost use Rattle.language.specs.Sequential.{Reaches};
 ghost use Rattle.language.specs.Flow.{rests, IsRestOf, Flow, FlowsTo, ReturnsTo, EntersTo};
 ghost use Rattle.language.specs.Lists.{Member};
 

@@ -1,5 +1,6 @@
 //! Laws on single steps, and on what names stand for.
-ghost use Rattle.std.specs.Prelude.{◌≡◌, ◌↔◌, ℕ, List, Bool, true, false, [], ◌∷◌, Some, option_map};
+ghost use Rattle.std.specs.Prelude.{◌≡◌, ◌↔◌, ℕ, List, Bool, true, false, [], ◌∷◌, Some};
+ghost use Rattle.std.specs.Prelude.{option_map};
 ghost use Rattle.language.specs.Tree.{RightSide, Mark, value, var, assign, assert, one, loop, done};
 ghost use Rattle.language.specs.Value.{Place, IsValue, global};
 ghost use Rattle.language.specs.Rest.{Label, Code, join, has_label, rest_from};

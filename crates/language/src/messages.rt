@@ -3,10 +3,12 @@ ghost use Rattle.std.specs.Prelude.{◌≡◌, ◌↔◌, ℕ, List, Bool, Optio
 ghost use Rattle.language.specs.Tree.{done};
 ghost use Rattle.language.specs.Rest.{Code};
 ghost use Rattle.language.specs.Step.{Routine, Program, result_of, body_of};
-ghost use Rattle.language.specs.Sequential.{point_of, Valuation, Edge, Exit, Pair, Caller, Message, entry, IsDue};
+ghost use Rattle.language.specs.Sequential.{point_of, Valuation, Edge, Exit, Pair, Caller, Message};
+ghost use Rattle.language.specs.Sequential.{entry, IsDue};
 ghost use Rattle.language.specs.Flow.{IsRestOf};
 ghost use Rattle.language.specs.Lists.{Member};
-ghost use Rattle.language.specs.Messages.{Reached, Owes, AreDue, HasOpening, HasOwed, EdgeTo, IsValuationOf, IsMessageTo, ArgumentsFit};
+ghost use Rattle.language.specs.Messages.{Reached, Owes, AreDue, HasOpening, HasOwed, EdgeTo};
+ghost use Rattle.language.specs.Messages.{IsValuationOf, IsMessageTo, ArgumentsFit};
 ghost use Rattle.language.specs.Messages.{IsTakenBy};
 
 /// By messages that are due, only path edges are reached.

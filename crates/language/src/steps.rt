@@ -1,11 +1,14 @@
 //! Laws that pin each kind of step: what a step of the top frame leads to, by its first statement.
 ghost use Rattle.std.specs.Prelude.{◌≡◌, ◌↔◌, ◌⊎◌, ℕ, List, Bool, true, false, [], ◌∷◌, ◌++◌, ◌-◌};
 ghost use Rattle.std.specs.Prelude.{◌≤◌, Option, Some, length, slice_get};
-ghost use Rattle.language.specs.Tree.{RightSide, Expression, Mark, any, assign, assume, call, call_for, choose, done, goto, leave_with};
+ghost use Rattle.language.specs.Tree.{RightSide, Expression, Mark, any, assign, assume, call};
+ghost use Rattle.language.specs.Tree.{call_for, choose, done, goto, leave_with};
 ghost use Rattle.language.specs.Tree.{leave, loop, one, skip};
-ghost use Rattle.language.specs.Value.{Place, IsValue, bit, global, value_of, values_of, written_globals, written_locals};
+ghost use Rattle.language.specs.Value.{Place, IsValue, bit, global, value_of, values_of};
+ghost use Rattle.language.specs.Value.{written_globals, written_locals};
 ghost use Rattle.language.specs.Rest.{Label, Code, join, rest_from};
-ghost use Rattle.language.specs.Step.{Routine, Program, Frame, frame, waiting, State, state, zeros, fresh, with_result, Step, frame_size};
+ghost use Rattle.language.specs.Step.{Routine, Program, Frame, frame, waiting, State, state, zeros};
+ghost use Rattle.language.specs.Step.{fresh, with_result, Step, frame_size};
 ghost use Rattle.language.specs.Step.{result_of, given_back};
 
 /// A frame with nothing left to run goes, and its result with it.

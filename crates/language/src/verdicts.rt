@@ -2,7 +2,8 @@
 ghost use Rattle.std.specs.Prelude.{◌≡◌, ◌≤◌, ℕ, []};
 ghost use Rattle.language.specs.Step.{Program};
 ghost use Rattle.language.specs.Rounds.{Unsafe};
-ghost use Rattle.language.specs.Examples.{writer_then_reader, reader_then_writer, spinner_then_failure, checked_write, run_once, run_twice};
+ghost use Rattle.language.specs.Examples.{writer_then_reader, reader_then_writer};
+ghost use Rattle.language.specs.Examples.{spinner_then_failure, checked_write, run_once, run_twice};
 ghost use Rattle.language.specs.Examples.{passed_values, handshake, return_and_write, late_value};
 
 /// What is unsafe within some rounds is unsafe within more.

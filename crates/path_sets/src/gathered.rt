@@ -1,6 +1,7 @@
 //! Path edges that are gathered go into the diagrams.
 
-ghost use Rattle.std.specs.Prelude.{◌≡◌, ℕ, ◌<◌, ◌≤◌, true, Some, length, slice_get, IfOk, OnOk, IsPermutation};
+ghost use Rattle.std.specs.Prelude.{◌≡◌, ℕ, ◌<◌, ◌≤◌, true, Some, length, slice_get, IfOk, OnOk};
+ghost use Rattle.std.specs.Prelude.{IsPermutation};
 ghost use Rattle.language.specs.Lists.{Member};
 ghost use Rattle.path_sets.specs.declared.place.Place.{Place};
 ghost use Rattle.path_sets.specs.Triples.{Triple};

@@ -1,9 +1,11 @@
 //! Numbered nodes that test one bit, each of which stands once.
 
-ghost use Rattle.std.specs.Prelude.{◌≡◌, ℕ, ◌+◌, ◌<◌, ◌^◌, Bool, cond, IfOk, Some, slice_get, length, ◌≤◌};
+ghost use Rattle.std.specs.Prelude.{◌≡◌, ℕ, ◌+◌, ◌<◌, ◌^◌, Bool, cond, IfOk, Some, slice_get};
+ghost use Rattle.std.specs.Prelude.{length, ◌≤◌};
 ghost use Rattle.path_sets.specs.Masks.{bit_of};
 ghost use Rattle.path_sets.specs.Walks.{IsGrown, IsNumber};
-ghost use Rattle.path_sets.specs.Diagrams.{accepts, AreOrdered, AreReduced, GoDown, KeepsNodes, level_of};
+ghost use Rattle.path_sets.specs.Diagrams.{accepts, AreOrdered, AreReduced, GoDown, KeepsNodes};
+ghost use Rattle.path_sets.specs.Diagrams.{level_of};
 ghost use Rattle.path_sets.specs.Walks.{StandOnce};
 
 use crate::node::Node;

@@ -1,6 +1,7 @@
 //! The masks of places: the points that are reached of a block of 64, for an entry and a valuation.
 
-ghost use Rattle.std.specs.Prelude.{◌≡◌, ◌<◌, ◌∷◌, ◌++◌, [], None, Some, slice_get, IfSome, IsNone, OnOk, OnErr};
+ghost use Rattle.std.specs.Prelude.{◌≡◌, ◌<◌, ◌∷◌, ◌++◌, [], None, Some, slice_get, IfSome, IsNone};
+ghost use Rattle.std.specs.Prelude.{OnOk, OnErr};
 ghost use Rattle.std.specs.Map.{lookup};
 ghost use Rattle.path_sets.specs.declared.place.Place.{Place};
 ghost use Rattle.indexmap.specs.IndexMap.{IsUnique, index_map_len, keys};

@@ -2,7 +2,8 @@
 
 ghost use Rattle.std.specs.Prelude.{◌≡◌, ℕ, ◌+◌, ◌<◌, ◌^◌, IfOk, Some, slice_get, length, ◌≤◌};
 ghost use Rattle.path_sets.specs.Walks.{IsGrown, IsNumber, StandOnce};
-ghost use Rattle.path_sets.specs.Quads.{AreInside, KeepQuads, points_of, QuadsAreReduced, QuadsGoDown, sees};
+ghost use Rattle.path_sets.specs.Quads.{AreInside, KeepQuads, points_of, QuadsAreReduced};
+ghost use Rattle.path_sets.specs.Quads.{QuadsGoDown, sees};
 
 use crate::nodes::{ALL, MOST, NONE};
 use crate::quad::{NOTHING, Quad, turn};

@@ -1,6 +1,7 @@
 //! The numbers of the diagrams of rows.
 
-ghost use Rattle.std.specs.Prelude.{◌≡◌, ◌<◌, ℕ, OnOk, OnErr, None, Some, IfSome, IsNone, slice_get};
+ghost use Rattle.std.specs.Prelude.{◌≡◌, ◌<◌, ℕ, OnOk, OnErr, None, Some, IfSome, IsNone};
+ghost use Rattle.std.specs.Prelude.{slice_get};
 ghost use Rattle.std.specs.Map.{lookup};
 ghost use Rattle.indexmap.specs.IndexMap.{IsUnique, index_map_len, keys, values};
 ghost use Rattle.path_sets.specs.Diagrams.{root_of, row_eq, row_of, Roots};

@@ -1,5 +1,6 @@
 //! Laws on orders of a board.
-ghost use Rattle.std.specs.Prelude.{◌≡◌, ◌↔◌, ◌<◌, ℕ, List, [], ◌∷◌, ◌++◌, length, take, nat_eq, Contains};
+ghost use Rattle.std.specs.Prelude.{◌≡◌, ◌↔◌, ◌<◌, ℕ, List, [], ◌∷◌, ◌++◌, length, take, nat_eq};
+ghost use Rattle.std.specs.Prelude.{Contains};
 ghost use Rattle.std.specs.List.{IsDistinct};
 ghost use Rattle.post_ledger.specs.declared.event.Event.{Event};
 ghost use Rattle.post_ledger.specs.declared.event.Event.TheVariants.{Post, Take, Done};
@@ -7,7 +8,8 @@ ghost use Rattle.post_ledger.specs.declared.entry.Entry.{Entry};
 ghost use Rattle.post_ledger.specs.declared.entry.Entry.TheVariants.{Posted, Taken, Completed};
 ghost use Rattle.post_ledger.specs.History.{posts, takes, dones, IsLegal};
 ghost use Rattle.post_ledger.specs.Sides.{sent, taken};
-ghost use Rattle.post_ledger.specs.Orders.{IsLawful, IsCompleted, IsClosed, HasJob, part, own, posted, completed};
+ghost use Rattle.post_ledger.specs.Orders.{IsLawful, IsCompleted, IsClosed, HasJob, part, own};
+ghost use Rattle.post_ledger.specs.Orders.{posted, completed};
 ghost use Rattle.post_ledger.specs.Row.{row, beginning};
 
 /// Messages are taken in the order in which they were posted: the Takes of a legal history are the first of its Posts.

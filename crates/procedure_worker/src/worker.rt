@@ -5,7 +5,8 @@ ghost use Rattle.std.specs.Option.{ForSome};
 ghost use Rattle.post_ledger.specs.Orders.{HasJob};
 ghost use Rattle.summaries.specs.Fitting.{FitsIn};
 ghost use Rattle.summaries.specs.Tables.{IsQuiet};
-ghost use Rattle.procedure_worker.specs.Works.{start_of, IsReady, IsTaking, IsDealing, IsSending, IsStopped, HasStopped, Failed, Completes};
+ghost use Rattle.procedure_worker.specs.Works.{start_of, IsReady, IsTaking, IsDealing, IsSending};
+ghost use Rattle.procedure_worker.specs.Works.{IsStopped, HasStopped, Failed, Completes};
 ghost use Rattle.procedure_worker.specs.Works.{StopsSo, MayGoOn};
 
 use crate::desk::Desk;

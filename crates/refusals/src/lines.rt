@@ -2,7 +2,8 @@
 
 ghost use Rattle.std.specs.Prelude.{◌≡◌, IfErr, IfOk};
 ghost use Rattle.std.specs.Cow.{cow_slice_items};
-ghost use Rattle.refusals.specs.Lines.{NamesOffset, line_at, line_of, status_of, unchecked_line, unread_line};
+ghost use Rattle.refusals.specs.Lines.{NamesOffset, line_at, line_of, status_of, unchecked_line};
+ghost use Rattle.refusals.specs.Lines.{unread_line};
 ghost use Rattle.refusals.specs.declared.refusal.Refusal.TheVariants as why;
 
 use crate::refusal::Refusal;

@@ -131,8 +131,8 @@ impl<R: Wait + Threads + Sync> Trial<'_, R> {
         Ok(())
     }
 
-    /// Writes what comes of it over each pair of board and set where each worker has one call fewer than this; once, where
-    /// all come to the same.
+    /// Writes what comes of it over each pair of board and set where each worker has one call fewer than this; once,
+    /// where all come to the same.
     pub fn with_budget(&self, out: &mut String, budget: u64) -> Result<(), AllocError> {
         if budget < 2 || budget > MOST_TICKETS {
             return out.push_str("no such budget");
@@ -159,8 +159,8 @@ impl<R: Wait + Threads + Sync> Trial<'_, R> {
         true
     }
 
-    /// Writes what comes of it with budget 2, and whether with each one above, up to `most`, either calls are used up or
-    /// the answer comes that comes with the greatest.
+    /// Writes what comes of it with budget 2, and whether with each one above, up to `most`, either calls are used up
+    /// or the answer comes that comes with the greatest.
     pub fn with_budgets(&self, out: &mut String, most: u64) -> Result<(), AllocError> {
         self.with_budget(out, 2)?;
         let Ok(answer) = self.unrefused(self.asked.parts, self.asked.limit, MOST_TICKETS) else {
@@ -173,8 +173,8 @@ impl<R: Wait + Threads + Sync> Trial<'_, R> {
         }
     }
 
-    /// Writes what comes of it over each pair of board and set with each limit of path edges in turn, where it is another
-    /// than before.
+    /// Writes what comes of it over each pair of board and set with each limit of path edges in turn, where it is
+    /// another than before.
     pub fn with_limits(&self, out: &mut String, most: u64) -> Result<(), AllocError> {
         for number in 0..4u8 {
             let mut one = String::new(self.alloc);

@@ -3,7 +3,8 @@
 ghost use Rattle.std.specs.Prelude.{◌≡◌, suc, ◌+◌, ◌<◌, ◌≤◌, ◌^◌, ◌++◌, IfOk, map, length};
 ghost use Rattle.language.specs.Tree.{any, var};
 ghost use Rattle.trees.specs.Trees.{name_of, names_of, expr_of, rhs_of, rhss_of};
-ghost use Rattle.round_rewrite.specs.Table.{numbers, draws, targets, sides, written, expression, each};
+ghost use Rattle.round_rewrite.specs.Table.{numbers, draws, targets, sides, written, expression};
+ghost use Rattle.round_rewrite.specs.Table.{each};
 ghost use Rattle.round_rewrite.specs.Names.{copy_name, drawn_name};
 
 use crate::expression::temporary;

@@ -4,7 +4,8 @@ ghost use Rattle.std.specs.Prelude.{◌≡◌, ◌<◌, ◌^◌, IfOk, map};
 ghost use Rattle.language.specs.Resolve.{is_declared};
 ghost use Rattle.language.specs.Tree.{const, var, negation, two};
 ghost use Rattle.trees.specs.Trees.{name_of, operator_of, expr_of, exprs_of, rhs_of};
-ghost use Rattle.round_rewrite.specs.Table.{literal, in_round, joined, read, expression, side, written};
+ghost use Rattle.round_rewrite.specs.Table.{literal, in_round, joined, read, expression, side};
+ghost use Rattle.round_rewrite.specs.Table.{written};
 ghost use Rattle.round_rewrite.specs.Names.{named, copy_name, drawn_name};
 ghost use Rattle.round_rewrite.specs.Limits.{most_rounds};
 

@@ -58,8 +58,8 @@ pub fn rewriting_keeps_failures_of_resolved_programs()
 {}
 
 /// Four programs are rewritten to exactly these texts, byte for byte: one thread that does nothing, for one round; one
-/// that sets a global to either value, for two; a program with each construct, for three; and one that calls for values,
-/// for two.
+/// that sets a global to either value, for two; a program with each construct, for three; and one that calls for
+/// values, for two.
 pub fn worked_programs_are_rewritten_to_these_texts()
     ensures skipping { printed worked.skipping ≡ worked.skipping_text }
     ensures one_round { printed (rewritten_for 1 worked.skipping) ≡ worked.skipping_in_one_round }

@@ -2,7 +2,8 @@
 
 ghost use Rattle.std.specs.Prelude.{◌≡◌, ◌<◌, ◌^◌, [], IfOk, cond, option_map};
 ghost use Rattle.language.specs.Tree.{goto, assert, assume, assign, call, call_for, leave_with};
-ghost use Rattle.trees.specs.Trees.{branch, repeat, name_of, names_of, rhs_of, rhss_of, expr_of, exprs_of, items_of, deed_of, block_of};
+ghost use Rattle.trees.specs.Trees.{branch, repeat, name_of, names_of, rhs_of, rhss_of, expr_of};
+ghost use Rattle.trees.specs.Trees.{exprs_of, items_of, deed_of, block_of};
 ghost use Rattle.round_rewrite.specs.Table.{drawing, prologue, received, receiver, statement};
 ghost use Rattle.round_rewrite.specs.Writing.{Lays, bare_form, forms};
 

@@ -23,7 +23,7 @@ impl<A: Allocator> Model for Summary<A> {
     ghost view = { λ s. record { entries = s.entries.items; pairs = s.pairs.items } };
 }
 
-/// With which valuations each procedure of a program is entered, and with which globals it is then left.
+/// With which valuations each procedure of a program is entered, and with which globals and result it is then left.
 #[derive(Debug, Drop)]
 pub struct Summaries<A: Allocator> {
     pub(crate) procedures: Vec<Summary<A>, A>,
@@ -66,7 +66,8 @@ impl<A: Allocator> Summaries<A> {
         summary.entries.as_slice()
     }
 
-    /// The valuations with which a procedure is entered, each with the globals that are then left, ascending.
+    /// The valuations with which a procedure is entered, each with the globals and the result that are then left,
+    /// ascending.
     pub fn pairs(&self, procedure: u8) -> &[Pair]
         requires { procedure < length self.now.procedures }
         ensures { (s : Effect) → slice_get self.now.procedures procedure ≡ Some s

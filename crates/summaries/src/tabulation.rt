@@ -7,7 +7,8 @@ ghost use Rattle.flow_graph.specs.Drawn.{bad_of, graphs_of};
 ghost use Rattle.flow_graph.specs.Graphs.{AreDrawnFrom};
 ghost use Rattle.summaries.specs.Tables.{graph_of, IsTable, TableTakes};
 ghost use Rattle.summaries.specs.Tabulated.{AreSummaries, SomePairBad, HasMoreEdges};
-ghost use Rattle.summaries.specs.Together.{opening, HaveLimit, AreNew, AreTables, AreQuietBefore, AreFull};
+ghost use Rattle.summaries.specs.Together.{opening, HaveLimit, AreNew, AreTables, AreQuietBefore};
+ghost use Rattle.summaries.specs.Together.{AreFull};
 ghost use Rattle.path_sets.specs.EdgeLimits.{most_of};
 
 use crate::due::{Caller, Due};

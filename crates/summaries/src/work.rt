@@ -7,7 +7,8 @@ ghost use Rattle.flow_graph.specs.declared.flow.Flow.TheVariants as flow;
 ghost use Rattle.summaries.specs.declared.due.Due.TheVariants.{Entry};
 ghost use Rattle.summaries.specs.Mails.{summary_due};
 ghost use Rattle.summaries.specs.Grows.{triple_of};
-ghost use Rattle.summaries.specs.Tables.{answers_of, graph_of, limit_of, HasLeft, HasAsked, Holds, Worked, StaysAs, IsLess, TookAlso};
+ghost use Rattle.summaries.specs.Tables.{answers_of, graph_of, limit_of, HasLeft, HasAsked, Holds};
+ghost use Rattle.summaries.specs.Tables.{Worked, StaysAs, IsLess, TookAlso};
 ghost use Rattle.summaries.specs.Tables.{TookOnly, TookSame};
 
 use crate::due::{Caller, Due};

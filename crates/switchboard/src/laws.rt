@@ -6,7 +6,8 @@ ghost use Rattle.switchboard.specs.declared.calls.Taken.{Taken};
 ghost use Rattle.switchboard.specs.declared.calls.PostFault.{PostFault};
 ghost use Rattle.switchboard.specs.declared.calls.Abort.{Abort};
 ghost use Rattle.switchboard.specs.Sights.{Sight, Account, IsSound};
-ghost use Rattle.switchboard.specs.Promises.{Took, TookOldest, WasPosted, WasRefused, WasDone, MadeAbort, Learned, WasSpent, SaysClosed};
+ghost use Rattle.switchboard.specs.Promises.{Took, TookOldest, WasPosted, WasRefused, WasDone};
+ghost use Rattle.switchboard.specs.Promises.{MadeAbort, Learned, WasSpent, SaysClosed};
 ghost use Rattle.switchboard.specs.Promises.{SaysStopped, IsPostStopped};
 
 use crate::mail::Mail;

@@ -1,4 +1,4 @@
-//! What written one after the other, and the loops that read it.
+//! What is written one after the other, and the loops that read it.
 
 ghost use Rattle.std.specs.Prelude.{◌≡◌, map, Bool, List};
 ghost use Rattle.syntax.specs.Exact.{list, repeated};

@@ -2,7 +2,8 @@
 ghost use Rattle.std.specs.Prelude.{◌≡◌, ◌<◌, [], ◌∷◌, MatchResult};
 ghost use Rattle.ticket_lock.specs.Count.{times};
 ghost use Rattle.ticket_lock.specs.Lanes.{IsLockTable};
-ghost use Rattle.ticket_lock.specs.Promises.{Drew, LaneWasSpent, CameBack, Served, EnteredLock, MayLeave, Left, LearnedNote};
+ghost use Rattle.ticket_lock.specs.Promises.{Drew, LaneWasSpent, CameBack, Served, EnteredLock};
+ghost use Rattle.ticket_lock.specs.Promises.{MayLeave, Left, LearnedNote};
 
 use crate::alone::{Board, Merges, TakesIn, Tells};
 use crate::lane::{Guard, Lane, Note, Spent, Ticket};

@@ -1,5 +1,6 @@
 //! A new lock, with its lanes.
-ghost use Rattle.std.specs.Prelude.{◌≡◌, ◌^◌, ◌<◌, ◌≤◌, [], ◌∷◌, IfOk, IfErr, vec_len, vec_capacity};
+ghost use Rattle.std.specs.Prelude.{◌≡◌, ◌^◌, ◌<◌, ◌≤◌, [], ◌∷◌, IfOk, IfErr, vec_len};
+ghost use Rattle.std.specs.Prelude.{vec_capacity};
 ghost use Rattle.ticket_lock.specs.Lone.{new_view, lanes_from};
 ghost use Rattle.ticket_lock.specs.Lanes.{IsLockTable, fresh_lanes};
 

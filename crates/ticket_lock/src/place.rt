@@ -4,7 +4,8 @@ ghost use Rattle.atomic_table.specs.Table.{rest};
 ghost use Rattle.ticket_lock.specs.Count.{times};
 ghost use Rattle.ticket_lock.specs.History.{EndsIn};
 ghost use Rattle.ticket_lock.specs.Turns.{draws, waits, enters, passes};
-ghost use Rattle.ticket_lock.specs.Calls.{IsSameSeat, IsRoom, StandsAt, IsFree, Drew, LookedAtTurn, Came, Left};
+ghost use Rattle.ticket_lock.specs.Calls.{IsSameSeat, IsRoom, StandsAt, IsFree, Drew, LookedAtTurn};
+ghost use Rattle.ticket_lock.specs.Calls.{Came, Left};
 
 use crate::plays::{Draws, Looks, Passes};
 use crate::rule::{At, LockRule};

@@ -3,8 +3,10 @@
 ghost use Rattle.std.specs.Prelude.{◌≡◌, option_map};
 ghost use Rattle.language.specs.Parts.{assigns, sides_of, test_of, callee_of, gives, jump_of};
 ghost use Rattle.language.specs.Resolve.{gives_value};
-ghost use Rattle.trees.specs.Trees.{name_of, names_of, rhs_of, rhss_of, expr_of, exprs_of, block_of, deed_of};
-ghost use Rattle.trees.specs.Parts.{head_of, first_inside, second_inside, assigned_by, receiver_of, passed_by, given_by, gives_inside};
+ghost use Rattle.trees.specs.Trees.{name_of, names_of, rhs_of, rhss_of, expr_of, exprs_of};
+ghost use Rattle.trees.specs.Trees.{block_of, deed_of};
+ghost use Rattle.trees.specs.Parts.{head_of, first_inside, second_inside, assigned_by, receiver_of};
+ghost use Rattle.trees.specs.Parts.{passed_by, given_by, gives_inside};
 
 use crate::tree::{Core, Expr, Name, Rhs, Stmt};
 use std::alloc::Allocator;

@@ -6,7 +6,8 @@ ghost use Rattle.ticket_lock.specs.Turns.{passes};
 ghost use Rattle.ticket_lock.specs.Calls.{IsSameSeat, Left};
 ghost use Rattle.post_ledger.specs.declared.event.Event.{Event};
 ghost use Rattle.switchboard.specs.Knowing.{hand_at};
-ghost use Rattle.switchboard.specs.PerBox.{word_of, IsBoxOf, CanDraw, IsInside, LeavesOneEvent, TellsOrder};
+ghost use Rattle.switchboard.specs.PerBox.{word_of, IsBoxOf, CanDraw, IsInside, LeavesOneEvent};
+ghost use Rattle.switchboard.specs.PerBox.{TellsOrder};
 
 use crate::lock_per_box::outstanding::{Boards, BoxSeat};
 use crate::mail::Mail;

@@ -1,5 +1,6 @@
 //! The book of a board: all its mailboxes, and the order of their events. It knows of no thread.
-ghost use Rattle.std.specs.Prelude.{◌≡◌, ℕ, ◌<◌, ◌≤◌, ◌++◌, ◌∷◌, [], ◌↔◌, List, Some, IsTrue, IsSome};
+ghost use Rattle.std.specs.Prelude.{◌≡◌, ℕ, ◌<◌, ◌≤◌, ◌++◌, ◌∷◌, [], ◌↔◌, List, Some, IsTrue};
+ghost use Rattle.std.specs.Prelude.{IsSome};
 ghost use Rattle.std.specs.Prelude.{length, slice_get, vec_len, vec_capacity, OnOk, IfOk, IfErr};
 ghost use Rattle.post_ledger.specs.declared.entry.Entry.TheVariants.{Posted, Completed};
 ghost use Rattle.post_ledger.specs.declared.event.Event.{Event};
