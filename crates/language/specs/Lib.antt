@@ -1,4 +1,5 @@
 pub mod Lists
+pub mod Words
 pub mod Tree
 pub mod Parts
 pub mod Value

@@ -46,4 +46,4 @@ pub use verdicts::{
     a_writer_before_the_reader_needs_one_round, more_rounds_reach_more, no_threads_never_fail,
     the_value_passed_last_lasts,
 };
-pub use word::{EXIT, Point, Word};
+pub use word::{EXIT, Point, WORD_BITS, Word};

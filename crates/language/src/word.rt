@@ -1,8 +1,11 @@
 //! Valuations and points as numbers.
 
 /// A valuation as a number: the globals from bit 0 in the order of their declaration, then the formals, locals and
-/// temporaries. At most 64 places fit.
+/// temporaries. `WORD_BITS` places fit.
 pub type Word = u64;
+
+/// How many bits a valuation has, which `specs/Words.antt` has for contracts.
+pub const WORD_BITS: u8 = 64;
 
 /// A point of a procedure: the number of a statement in text order, from 1, before which it stands, or 0, the exit.
 pub type Point = usize;
