@@ -122,7 +122,8 @@ module _ {G A S : Type 0} (members : S → List Triple) (graphs : Graphs G) (lim
         let sent = v.served.0 in
         let mine : NoneTwice o.posts.items =
         none_twice_of_map (λ (x : ℕ × Due). mail x.0 x.1) o.posts.items
-        (subst NoneTwice (sym sent.1) (answers_once v.table)) in
+        (subst NoneTwice (sym sent.1)
+        (answers_once members v.table (sent.0.stands.table sent.0.stands.pass.drawn.0 sent.0.stands.pass.drawn.1).table sent.0.whole)) in
         subst (λ l. NoneTwice (posted_in l)) (sym (settled.own s v.pass v.at))
         (subst NoneTwice (sym sent.0.stands.posts) mine)
     | inr far ↦ once_outside s far

@@ -26,12 +26,11 @@ use Rattle.flow_graph.specs.Graphs.{IsGraph, AreDrawnFrom}
 use Rattle.flow_graph.specs.Numbers.{IsNumberOf}
 use Rattle.summaries.specs.declared.due.Due.{Due}
 use Rattle.path_sets.specs.declared.edge_limit.EdgeLimit.{EdgeLimit}
-use Rattle.summaries.specs.declared.given.Mail.{Mail}
 use Rattle.summaries.specs.declared.table.Table.{Table}
 use Rattle.summaries.specs.Fitting.{FitsIn}
 use Rattle.summaries.specs.Found.{TookMessage}
 use Rattle.path_sets.specs.EdgeLimits.{most_of}
-use Rattle.summaries.specs.Mails.{mail}
+use Rattle.summaries.specs.Mails.{Mail, mail}
 use Rattle.summaries.specs.Tables.{graph_of, procedure_of, limit_of, answers_of, failure, IsTable, IsQuiet}
 use Rattle.summaries.specs.Together.{opening, IsTaken, IsReceived, HaveLimit, AreFull}
 use Rattle.summaries.proofs.Steps.{get_map}

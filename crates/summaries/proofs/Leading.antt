@@ -41,4 +41,4 @@ module _ {A G : Type 0} (graph : Graph G) (q : ℕ) (f : Found A) (pending : Vec
     lead_step grown =
         grown_step graph q f f.entries f.summaries f.given pending es ds (IsNext flow e) taken_led next_reached grown
         (λ s k m. m) (λ s k m. inl m) (λ from a h. inl h) (λ s x b a n v back at enters h. inl h)
-        (λ a b c m h. inl h) (λ old. old)
+        (λ a b c m h. inl h) (λ old. old) (λ x old m. old.placed x m)

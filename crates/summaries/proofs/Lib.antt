@@ -2,6 +2,7 @@ pub mod Quiet
 pub mod Indexed
 pub mod Keys
 pub mod Mails
+pub mod Placed
 pub mod Firsts
 pub mod Eaches
 pub mod Growing

@@ -44,7 +44,7 @@ module _ {A G : Type 0} (graph : Graph G) (q : ℕ) (f : Found A) (edges : List 
       complete.ended s e b a n v n' ((is_worked a n v (is_edge a n v r)).calls flow s e n' here calls) (flow, here, calls) taken
 
   -- what is sent is given
-  pub is_given : (s : ℕ) (k : NumberedMessage) → Sends graph q (TookMessage f) s k → HasGiven f s k
+  pub is_given : (s : ℕ) (k : NumberedMessage) → Sends graph q (TookMessage f) s k → HasGiven f q s k
   unfolding is_worked
   is_given _ _ (asks a n v s e n' flow r here calls) =
       complete.asks s e a n v ((is_worked a n v (is_edge a n v r)).calls flow s e n' here calls)

@@ -104,4 +104,4 @@ module _ {A G : Type 0} (graph : Graph G) (q : ℕ) (f : Found A) (summaries : G
             (s, x, back, enters, ap (λ z. triple c back (resumed_at graph n v z)) (sym is.1)),
           ))
         ])
-        (λ x y c m h. inl h) (λ old. old)
+        (λ x y c m h. inl h) (λ old. old) (λ x old m. old.placed x m)

@@ -1,6 +1,6 @@
 -- What a table holds while it takes a step: nothing more than is reached and sent, and nothing left out.
-use Rattle.std.proofs.Common.{◌≡◌, ◌≤◌, ◌⊎◌, ◌↔◌, ℕ, List, [], ◌∷◌, ◌++◌, length}
-use Rattle.std.proofs.Common.{inl, inr, refl, sym, ap, subst, nat_eq, arith, Result, Ok, Err}
+use Rattle.std.proofs.Common.{◌≡◌, ◌≤◌, ◌⊎◌, ℕ, List, [], ◌∷◌, ◌++◌, length}
+use Rattle.std.proofs.Common.{inl, inr, refl, sym, ap, subst, nat_eq, arith, Result, Ok, Err, Some, slice_get, map}
 use Rattle.std.specs.Result.{OnOk}
 use Rattle.std.specs.Prelude.{Vec}
 use Rattle.language.specs.Sequential.{Caller, caller}
@@ -17,13 +17,14 @@ use Rattle.summaries.specs.declared.edge.Edge.{Edge}
 use Rattle.summaries.specs.declared.edge.Site.{Site}
 use Rattle.summaries.specs.declared.found.Found.{Found}
 use Rattle.summaries.specs.declared.given.Given.{Given}
+use Rattle.summaries.specs.declared.given.Sent.{Sent}
 use Rattle.summaries.specs.declared.groups.Groups.{Groups}
 use Rattle.summaries.specs.declared.due.Caller as rust
 use Rattle.summaries.specs.Under.{under}
-use Rattle.summaries.specs.Mails.{mail}
+use Rattle.summaries.specs.Mails.{Mail, mail}
 use Rattle.summaries.specs.Dues.{caller_of, due_of}
-use Rattle.summaries.specs.Found.{call, call_eq, edge, site, pair, TookMessage, HasSite}
-use Rattle.summaries.specs.Found.{HasExit, HasGiven, IsOwed, IsPending, IsGrounded, IsWorked, IsSaturated, IsEmpty}
+use Rattle.summaries.specs.Found.{call, call_eq, edge, site, pair, mail_of, calls_in, mails_in, TookMessage, HasSite}
+use Rattle.summaries.specs.Found.{HasExit, HasGiven, IsPlaced, IsIndexed, IsOwed, IsPending, IsGrounded, IsWorked, IsSaturated, IsEmpty}
 use Rattle.summaries.specs.Grows.{EntersAt, Grows, triple_of}
 use Rattle.summaries.specs.Tables.{HasMore}
 
@@ -41,22 +42,19 @@ pub record Step {A G : Type 0} (graph : Graph G) (q : ℕ) (f g : Found A) (es d
       HasSite f s e (site a n v) ⊎ (GraphReaches graph (TookMessage g) a n v × ((back : ℕ) × EntersAt graph n v s e back))
   pub exits : (a : ℕ) (b : Left) → HasExit f a b → HasExit g a b
   pub exit : (a : ℕ) (b : Left) → HasExit g a b → HasExit f a b ⊎ Leaves graph (TookMessage g) a b
-  pub gives : (s : ℕ) (k : NumberedMessage) → HasGiven f s k → HasGiven g s k
-  pub given : (s : ℕ) (k : NumberedMessage) → HasGiven g s k → HasGiven f s k ⊎ IsOwed g q s k
+  pub gives : (s : ℕ) (k : NumberedMessage) → HasGiven f q s k → HasGiven g q s k
+  pub given : (s : ℕ) (k : NumberedMessage) → HasGiven g q s k → HasGiven f q s k ⊎ IsOwed g q s k
   pub begun : (from : Caller) (a : ℕ) → TookMessage g (numbered_entry from a) →
       TookMessage f (numbered_entry from a) ⊎ Member (triple a graph.start a) ds
   pub ended : (s e : ℕ) (b : Left) (a n v back : ℕ) → HasSite g s e (site a n v) → EntersAt graph n v s e back →
       TookMessage g (numbered_summary s e b) →
       HasSite f s e (site a n v) × TookMessage f (numbered_summary s e b) ⊎ Member (triple a back (resumed_at graph n v b)) ds
-  pub asks : (s e a n v : ℕ) → HasSite g s e (site a n v) → HasSite f s e (site a n v) ⊎ HasGiven g s (numbered_entry (caller q) e)
+  pub asks : (s e a n v : ℕ) → HasSite g s e (site a n v) → HasSite f s e (site a n v) ⊎ HasGiven g q s (numbered_entry (caller q) e)
   pub tells : (a : ℕ) (b : Left) (c : ℕ) → HasExit g a b → TookMessage g (numbered_entry (caller c) a) →
-      HasExit f a b × TookMessage f (numbered_entry (caller c) a) ⊎ HasGiven g c (numbered_summary q a b)
-  pub pairs : ((a : ℕ) (b : Left) → Member (pair a b) f.pairs.keys ↔ HasExit f a b) → (a : ℕ) (b : Left) →
-      Member (pair a b) g.pairs.keys ↔ HasExit g a b
+      HasExit f a b × TookMessage f (numbered_entry (caller c) a) ⊎ HasGiven g q c (numbered_summary q a b)
   pub callers_once : ((a : ℕ) → NoneTwice (under nat_eq f.entries.by_key a)) → (a : ℕ) →
       NoneTwice (under nat_eq g.entries.by_key a)
-  pub exits_once : ((a : ℕ) → NoneTwice (under nat_eq f.exits.by_key a)) → (a : ℕ) →
-      NoneTwice (under nat_eq g.exits.by_key a)
+  pub indexed : IsIndexed f → IsIndexed g
 
 module _ {A G : Type 0} (graph : Graph G) (q : ℕ) (f g : Found A) (es ds : List Triple) (step : Step graph q f g es ds) where
   -- after a step all is reached and sent
@@ -72,7 +70,7 @@ module _ {A G : Type 0} (graph : Graph G) (q : ℕ) (f g : Found A) (es ds : Lis
     given = λ s k m. elim (step.given s k m) [ inl was ↦ owed s k (old.given s k was) | inr is ↦ is ];
     pending = λ a n v m. elim (step.pending (edge a n v) m) [ inl was ↦ step.kept (triple a n v) (old.pending a n v was) | inr is ↦ is ];
     callers_once = step.callers_once old.callers_once;
-    exits_once = step.exits_once old.exits_once;
+    indexed = step.indexed old.indexed;
   }
     where
       owed : (s : ℕ) (k : NumberedMessage) → IsOwed f q s k → IsOwed g q s k
@@ -114,7 +112,6 @@ module _ {A G : Type 0} (graph : Graph G) (q : ℕ) (f g : Found A) (es ds : Lis
       | inl was ↦ step.gives c (numbered_summary q a b) (old.tells a b c was.0 was.1)
       | inr is ↦ is
     ];
-    pairs = step.pairs old.pairs;
   }
 
 module _ {A G : Type 0} (graph : Graph G) (q : ℕ) (f g : Found A) (es ds : List Triple) (step : Step graph q f g es ds)
@@ -136,7 +133,6 @@ module _ {A G : Type 0} (graph : Graph G) (q : ℕ) (f : Found A) (es : List Tri
     ended = old.ended;
     asks = old.asks;
     tells = old.tells;
-    pairs = old.pairs;
   }
 
 -- more edges than a limit are reached, where one beside as many is
@@ -159,6 +155,24 @@ pub taken_as : {A : Type 0} (f g : Found A) → ((a : ℕ) → under nat_eq g.en
     (k : NumberedMessage) → TookMessage f k → TookMessage g k
 taken_as f g entries summaries (numbered_entry from a) h = subst (Member (caller_of from)) (sym (entries a)) h
 taken_as f g entries summaries (numbered_summary s a b) h = subst (Member b) (sym (summaries (call s a))) h
+
+-- what is kept by place is, with other messages given that have a place
+pub indexed_as : {A : Type 0} (f g : Found A) → calls_in g ≡ calls_in f → g.pairs.keys ≡ f.pairs.keys
+    → ((a : ℕ) → under nat_eq g.exits.by_key a ≡ under nat_eq f.exits.by_key a)
+    → ((x : Sent) → Member x g.given.sent.items → IsPlaced (calls_in f) f.pairs.keys x) → IsIndexed f → IsIndexed g
+indexed_as f g calls pairs exits placed old = record {
+  placed = λ x m. subst (λ ps. IsPlaced (calls_in g) ps x) (sym pairs)
+      (subst (λ cs. IsPlaced cs f.pairs.keys x) (sym calls) (placed x m));
+  calls_once = subst NoneTwice (sym calls) old.calls_once;
+  pairs_once = subst NoneTwice (sym pairs) old.pairs_once;
+  exits_once = λ a. subst NoneTwice (sym (exits a)) (old.exits_once a);
+  exit = λ a at m.
+      let (b, here) = old.exit a at (subst (Member at) (exits a) m) in
+      (b, subst (λ ps. slice_get ps at ≡ Some (pair a b)) (sym pairs) here);
+  listed = λ a b m.
+      let (at, there, here) = old.listed a b (subst (Member (pair a b)) pairs m) in
+      (at, subst (Member at) (sym (exits a)) there, subst (λ ps. slice_get ps at ≡ Some (pair a b)) (sym pairs) here);
+}
 
 -- g has other entries, summaries, messages given and edges pending than f
 module _ {A G : Type 0} (graph : Graph G) (q : ℕ) (f : Found A) (entries : Groups ℕ rust.Caller A) (summaries : Groups Call Left A)
@@ -187,19 +201,20 @@ module _ {A G : Type 0} (graph : Graph G) (q : ℕ) (f : Found A) (entries : Gro
 
     -- the edges grow by what is reached, and the sites and exits are the same
     pub grown_step : Grows W es ds f.pending.items pending.items
-        → ((s : ℕ) (k : NumberedMessage) → HasGiven f s k → HasGiven grown_to s k)
-        → ((s : ℕ) (k : NumberedMessage) → HasGiven grown_to s k → HasGiven f s k ⊎ IsOwed grown_to q s k)
+        → ((s : ℕ) (k : NumberedMessage) → HasGiven f q s k → HasGiven grown_to q s k)
+        → ((s : ℕ) (k : NumberedMessage) → HasGiven grown_to q s k → HasGiven f q s k ⊎ IsOwed grown_to q s k)
         → ((from : Caller) (a : ℕ) → TookMessage grown_to (numbered_entry from a) →
         TookMessage f (numbered_entry from a) ⊎ Member (triple a graph.start a) ds)
         → ((s e : ℕ) (b : Left) (a n v back : ℕ) → HasSite f s e (site a n v) → EntersAt graph n v s e back →
         TookMessage grown_to (numbered_summary s e b) →
         TookMessage f (numbered_summary s e b) ⊎ Member (triple a back (resumed_at graph n v b)) ds)
         → ((a : ℕ) (b : Left) (c : ℕ) → HasExit f a b → TookMessage grown_to (numbered_entry (caller c) a) →
-        TookMessage f (numbered_entry (caller c) a) ⊎ HasGiven grown_to c (numbered_summary q a b))
+        TookMessage f (numbered_entry (caller c) a) ⊎ HasGiven grown_to q c (numbered_summary q a b))
         → (((a : ℕ) → NoneTwice (under nat_eq f.entries.by_key a)) → (a : ℕ) →
         NoneTwice (under nat_eq entries.by_key a))
+        → ((x : Sent) → IsIndexed f → Member x given.sent.items → IsPlaced (calls_in f) f.pairs.keys x)
         → Step graph q f grown_to es ds
-    grown_step grown gives given begun ended tells callers_once = record {
+    grown_step grown gives given begun ended tells callers_once placed = record {
       taken = taken;
       kept = grown.kept;
       edge = λ t m. elim (grown.only t m) [ inl w ↦ inr (reached t w) | inr was ↦ inl was ];
@@ -217,9 +232,8 @@ module _ {A G : Type 0} (graph : Graph G) (q : ℕ) (f : Found A) (entries : Gro
           elim (ended s e b a n v back at enters took) [ inl was ↦ inl (at, was) | inr is ↦ inr is ];
       asks = λ s e a n v m. inl m;
       tells = λ a b c m took. elim (tells a b c m took) [ inl was ↦ inl (m, was) | inr is ↦ inr is ];
-      pairs = λ old. old;
       callers_once = callers_once;
-      exits_once = λ old. old;
+      indexed = λ old. indexed_as f grown_to refl refl (λ a. refl) (λ x. placed x old) old;
     }
 
 -- what follows of two facts where the answer is Ok
@@ -229,11 +243,15 @@ both_ok (Err _) f p q = tt
 
 -- g has pairs, messages given and edges pending as f has
 module _ {A G : Type 0} (graph : Graph G) (q : ℕ) (f g : Found A) (es : List Triple)
-    (paired : g.pairs.keys ≡ f.pairs.keys) (gave : g.given.mails.items ≡ f.given.mails.items)
+    (paired : g.pairs.keys ≡ f.pairs.keys) (gave : g.given.sent.items ≡ f.given.sent.items)
     (pended : g.pending.items ≡ f.pending.items) where
   -- what is found, with these
   abbrev pub same_to : Found A
   same_to = record f { pairs = g.pairs; given = g.given; pending = g.pending }
+
+  -- the messages given are the same
+  pub same_mails : mails_in q same_to ≡ mails_in q f
+  same_mails = λ i. map (mail_of (calls_in f) (paired i) q) (gave i)
 
   -- nothing changes
   pub same_step : Step graph q f same_to es es
@@ -246,17 +264,16 @@ module _ {A G : Type 0} (graph : Graph G) (q : ℕ) (f g : Found A) (es : List T
     pending = λ e m. inl (subst (Member e) pended m);
     sites = λ s x a n v m. m;
     called = λ s x a n v m. inl m;
-    exits = λ a b m. m;
-    exit = λ a b m. inl m;
-    gives = λ s k m. subst (Member (mail s (due_of k))) (sym gave) m;
-    given = λ s k m. inl (subst (Member (mail s (due_of k))) gave m);
+    exits = λ a b m. subst (Member (pair a b)) (sym paired) m;
+    exit = λ a b m. inl (subst (Member (pair a b)) paired m);
+    gives = λ s k m. subst (Member (mail s (due_of k))) (sym same_mails) m;
+    given = λ s k m. inl (subst (Member (mail s (due_of k))) same_mails m);
     begun = λ from a h. inl h;
     ended = λ s x b a n v back at enters taken. inl (at, taken);
     asks = λ s x a n v m. inl m;
-    tells = λ a b c m h. inl (m, h);
-    pairs = λ old a b. (λ m. (old a b).0 (subst (Member (pair a b)) paired m), λ m. subst (Member (pair a b)) (sym paired) ((old a b).1 m));
+    tells = λ a b c m h. inl (subst (Member (pair a b)) paired m, h);
     callers_once = λ old. old;
-    exits_once = λ old. old;
+    indexed = λ old. indexed_as f same_to refl paired (λ a. refl) (λ x m. old.placed x (subst (Member x) gave m)) old;
   }
 
 module _ {A G : Type 0} (graph : Graph G) (q : ℕ) (f : Found A) (es : List Triple) (pending : Vec Edge A) (e : Edge)
@@ -286,7 +303,7 @@ module _ {A G : Type 0} (graph : Graph G) (q : ℕ) (f : Found A) (es : List Tri
     given = λ s k m. owed s k (old.given s k m);
     pending = λ a n v m. old.pending a n v (subst (Member (edge a n v)) (sym popped) (member_left (edge a n v) pending.items (e ∷ []) m));
     callers_once = old.callers_once;
-    exits_once = old.exits_once;
+    indexed = indexed_as f popped_to refl refl (λ a. refl) old.indexed.placed old.indexed;
   }
     where
       owed : (s : ℕ) (k : NumberedMessage) → IsOwed f q s k → IsOwed popped_to q s k
@@ -307,7 +324,6 @@ module _ {A G : Type 0} (graph : Graph G) (q : ℕ) (f : Found A) (es : List Tri
     ended = old.ended;
     asks = old.asks;
     tells = λ a b c m h. old.tells a b c m h;
-    pairs = old.pairs;
   }
 
   -- it is an edge
@@ -323,21 +339,34 @@ module _ {A G : Type 0} (graph : Graph G) (q : ℕ) (f : Found A) (es : List Tri
   no_site s e x m = subst (Member x) (empty.sites (call s e)) m
 
   no_exit : (a : ℕ) (b : Left) → HasExit f a b → ⊥
-  no_exit a b m = subst (Member b) (empty.exits a) m
+  no_exit a b m = subst (Member (pair a b)) empty.pairs m
 
   pub no_message : (k : NumberedMessage) → TookMessage f k → ⊥
   no_message (numbered_entry from a) h = subst (Member (caller_of from)) (empty.entries a) h
   no_message (numbered_summary s a b) h = subst (Member b) (empty.summaries (call s a)) h
+
+  no_mail : (m : Mail) → Member m (mails_in q f) → ⊥
+  no_mail m there = subst (λ xs. Member m (map (mail_of (calls_in f) f.pairs.keys q) xs)) empty.given there
+
+  empty_indexed : IsIndexed f
+  empty_indexed = record {
+    placed = λ x m. absurd (subst (Member x) empty.given m);
+    calls_once = subst NoneTwice (sym empty.calls) tt;
+    pairs_once = subst NoneTwice (sym empty.pairs) tt;
+    exits_once = λ a. subst NoneTwice (sym (empty.exits a)) tt;
+    exit = λ a at m. absurd (subst (Member at) (empty.exits a) m);
+    listed = λ a b m. absurd (no_exit a b m);
+  }
 
   pub empty_grounded : IsGrounded graph q f es
   empty_grounded = record {
     edge = λ a n v m. absurd (no_edge (triple a n v) m);
     site = λ s e a n v m. absurd (no_site s e (site a n v) m);
     exit = λ a b m. absurd (no_exit a b m);
-    given = λ s k m. absurd (subst (Member (mail s (due_of k))) empty.given m);
+    given = λ s k m. absurd (no_mail (mail s (due_of k)) m);
     pending = λ a n v m. absurd (subst (Member (edge a n v)) empty.pending m);
     callers_once = λ a. subst NoneTwice (sym (empty.entries a)) tt;
-    exits_once = λ a. subst NoneTwice (sym (empty.exits a)) tt;
+    indexed = empty_indexed;
   }
 
   pub empty_complete : IsSaturated graph q f es (λ t. ⊥)
@@ -347,5 +376,4 @@ module _ {A G : Type 0} (graph : Graph G) (q : ℕ) (f : Found A) (es : List Tri
     ended = λ s e b a n v back at enters taken. absurd (no_site s e (site a n v) at);
     asks = λ s e a n v m. absurd (no_site s e (site a n v) m);
     tells = λ a b c m h. absurd (no_exit a b m);
-    pairs = λ a b. (λ m. absurd (subst (Member (pair a b)) empty.pairs m), λ m. absurd (no_exit a b m));
   }

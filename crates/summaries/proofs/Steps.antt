@@ -27,12 +27,11 @@ use Rattle.flow_graph.proofs.Taking.{there_too}
 use Rattle.summaries.specs.declared.due.Caller.TheVariants.{Starter, Proc}
 use Rattle.summaries.specs.declared.due.Due.{Due}
 use Rattle.summaries.specs.declared.due.Due.TheVariants.{Entry, Summary}
-use Rattle.summaries.specs.declared.given.Mail.{Mail}
 use Rattle.summaries.specs.declared.table.Table.{Table}
 use Rattle.summaries.specs.declared.table_fault.TableFault.{TableFault}
 use Rattle.summaries.specs.declared.table_fault.TableFault.TheVariants.{Memory, EdgeLimit}
 use Rattle.summaries.specs.declared.no_verdict.NoVerdict.TheVariants as verdict
-use Rattle.summaries.specs.Mails.{mail}
+use Rattle.summaries.specs.Mails.{Mail, mail}
 use Rattle.summaries.specs.Dues.{due_of}
 use Rattle.summaries.specs.Found.{left, TookMessage}
 use Rattle.summaries.specs.Tables.{graph_of, answers_of, IsTable, IsQuiet, IsAnswer, KeepsTable, StaysAs, TookAlso, TookOnly, TookSame}

@@ -9,9 +9,9 @@ use Rattle.path_sets.specs.Triples.{Triple}
 use Rattle.flow_graph.specs.Graphs.{AreDrawnFrom}
 use Rattle.flow_graph.specs.Numbers.{NumberedMessage, numbered_entry, numbered_summary, IsNumberOf}
 use Rattle.summaries.specs.declared.found.Found.{Found}
-use Rattle.summaries.specs.declared.given.Mail.{Mail}
 use Rattle.summaries.specs.declared.table.Table.{Table}
 use Rattle.summaries.specs.Under.{under}
+use Rattle.summaries.specs.Mails.{Mail}
 use Rattle.summaries.specs.Dues.{caller_of}
 use Rattle.summaries.specs.Found.{call, call_eq, TookMessage}
 use Rattle.summaries.specs.Tables.{graph_of, answers_of, IsTable, StaysAs, TookSame}

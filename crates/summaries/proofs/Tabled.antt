@@ -10,22 +10,27 @@ use Rattle.flow_graph.specs.Numbers.{NumberedMessage, Sends, IsNumberOf, AreNumb
 use Rattle.flow_graph.proofs.Taking.{edges_reached, due_sent}
 use Rattle.flow_graph.proofs.Pairs.{edge_numbers}
 use Rattle.summaries.specs.declared.due.Due.{Due}
-use Rattle.summaries.specs.declared.given.Mail.{Mail}
 use Rattle.summaries.specs.declared.table.Table.{Table}
 use Rattle.summaries.specs.declared.table_fault.TableFault.TheVariants.{EdgeLimit}
-use Rattle.summaries.specs.Mails.{mail}
+use Rattle.summaries.specs.Mails.{Mail, mail}
 use Rattle.summaries.specs.Dues.{due_of}
-use Rattle.summaries.specs.Found.{TookMessage}
-use Rattle.summaries.specs.Tables.{answers_of, IsReached, IsAnswer}
+use Rattle.summaries.specs.Found.{calls_in, mails_in, TookMessage}
+use Rattle.summaries.specs.Tables.{answers_of, IsReached, IsAnswer, IsTable}
 use Rattle.summaries.specs.Tabulated.{HasMoreEdges}
 use Rattle.summaries.specs.Together.{IsTableOf}
 use Rattle.path_sets.specs.EdgeLimits.{most_of}
 use Rattle.summaries.proofs.Mails.{none_twice_first}
+use Rattle.summaries.proofs.Placed.{mails_once}
 use Rattle.summaries.proofs.Quiet.{owed_sent}
 
 -- no message is answered twice
-pub answers_once : {G A S : Type 0} (t : Table G A S) → NoneTwice (answers_of t)
-answers_once t = none_twice_first t.found.given.answered t.found.given.mails.items t.found.given.once
+pub answers_once : {G A S : Type 0} (members : S → List Triple) (t : Table G A S) → IsTable members t → t.fault ≡ None →
+    NoneTwice (answers_of t)
+answers_once members t is whole =
+    let kept = (is.holds whole).0.indexed in
+    none_twice_first t.found.given.answered (mails_in t.procedure t.found)
+    (mails_once t.procedure (calls_in t.found) t.found.pairs.keys kept.calls_once kept.pairs_once t.found.given.sent.items kept.placed
+    t.found.given.once)
 
 module _ {G A S : Type 0} (members : S → List Triple) (p : Program) (q : ℕ) (t : Table G A S) (is : IsTableOf members p q t) where
   -- what is reached are path edges
@@ -53,7 +58,7 @@ module _ {G A S : Type 0} (members : S → List Triple) (p : Program) (q : ℕ) 
   pub answered_due : t.fault ≡ None → (x : Mail) → Member x (answers_of t) → (k : NumberedMessage) → due_of k ≡ x.due →
       IsNumberOf (IsDue p x.to) k
   answered_due whole x m k e =
-      let keys = t.found.given.mails.items in
+      let keys = mails_in t.procedure t.found in
       let given : Member x keys = subst (Member x) (take-append-drop t.found.given.answered keys)
       (member_left x (answers_of t) (drop t.found.given.answered keys) m) in
       let sound = (is.table.holds whole).0 in

@@ -1,26 +1,28 @@
 -- What a table promises, between its calls.
-use Rattle.std.proofs.Common.{◌≡◌, ℕ, Option, Some, None, List, [], ◌∷◌, ◌++◌, inl, refl, sym, subst, take, drop}
-use Rattle.std.specs.Option.{IfSome}
-use Rattle.std.proofs.lemmas.List.{take-append-drop}
-use Rattle.language.specs.Lists.{Member}
+use Rattle.std.proofs.Common.{◌≡◌, ℕ, None, List, [], ◌∷◌, ◌++◌, inl, refl, sym, ap, ◌∙◌, subst, take, drop, map}
+use Rattle.std.proofs.lemmas.List.{take-append-drop, take-map, map-append}
+use Rattle.language.specs.Lists.{Member, NoneTwice}
 use Rattle.language.proofs.Members.{member_left, member_right}
 use Rattle.path_sets.specs.Triples.{Triple}
 use Rattle.flow_graph.specs.Numbers.{NumberedMessage}
 use Rattle.flow_graph.proofs.Holding.{reaches_more}
-use Rattle.summaries.specs.declared.due.Due.{Due}
+use Rattle.summaries.specs.declared.edge.Call.{Call}
 use Rattle.summaries.specs.declared.found.Found.{Found}
-use Rattle.summaries.specs.declared.given.Mail.{Mail}
+use Rattle.summaries.specs.declared.given.Sent.{Sent}
+use Rattle.summaries.specs.declared.pair.Pair.{Pair}
 use Rattle.summaries.specs.declared.table.Table.{Table}
 use Rattle.summaries.specs.Mails.{mail}
 use Rattle.summaries.specs.Dues.{due_of}
-use Rattle.summaries.specs.Found.{answers_in, TookMessage, HasGiven, IsGrounded, IsSaturated}
+use Rattle.summaries.specs.Found.{mail_of, mails_in, TookMessage, IsPlaced, IsGrounded, IsSaturated}
 use Rattle.summaries.specs.Tables as tables
 use Rattle.summaries.specs.Tables.{answers_of, IsReached, IsTable, KeepsTable}
+use Rattle.summaries.proofs.Mails.{next_new}
+use Rattle.summaries.proofs.Placed.{mails_once}
 use Rattle.summaries.proofs.Quiet.{is_exact, is_left}
 use Rattle.summaries.proofs.Stepping.{same_to, same_step, still_holds}
 
 module _ {G A S : Type 0} (members : S → List Triple) (t : Table G A S) (g : Found A)
-    (paired : g.pairs.keys ≡ t.found.pairs.keys) (gave : g.given.mails.items ≡ t.found.given.mails.items)
+    (paired : g.pairs.keys ≡ t.found.pairs.keys) (gave : g.given.sent.items ≡ t.found.given.sent.items)
     (pended : g.pending.items ≡ t.found.pending.items) where
   abbrev there : Found A
   there = same_to t.graph.now t.procedure t.found g (members t.edges) paired gave pended
@@ -49,7 +51,7 @@ module _ {G A S : Type 0} (members : S → List Triple) (t : Table G A S) (g : F
   }
 
 module _ {G A S : Type 0} (members : S → List Triple) (t : Table G A S) (g : Found A)
-    (paired : g.pairs.keys ≡ t.found.pairs.keys) (gave : g.given.mails.items ≡ t.found.given.mails.items)
+    (paired : g.pairs.keys ≡ t.found.pairs.keys) (gave : g.given.sent.items ≡ t.found.given.sent.items)
     (pended : g.pending.items ≡ t.found.pending.items) where
   -- and keeps what it has taken
   pub same_keeps : IsTable members t → t.fault ≡ None →
@@ -68,26 +70,29 @@ module _ {G A S : Type 0} (members : S → List Triple) (t : Table G A S) (g : F
     fault = none;
   }
 
--- the message that is answered next is given, so it is sent
-pub next_sent : {A : Type 0} (f : Found A) (r : Option (ℕ × Due)) (n : ℕ) (keys : List Mail)
-    → keys ≡ f.given.mails.items →
-    IfSome r (λ m. take n keys ≡ answers_in f.given ++ mail m.0 m.1 ∷ []) → (P : ℕ → NumberedMessage → Type 0) →
-    ((s : ℕ) (k : NumberedMessage) → HasGiven f s k → P s k) →
-    IfSome r (λ m. (k : NumberedMessage) → due_of k ≡ m.1 → P m.0 k)
-next_sent f None n keys same next P gives = tt
-next_sent f (Some (to, due)) n keys same next P gives = λ k is.
-    let there : Member (mail to due) (take n keys) =
-    subst (Member (mail to due)) (sym next)
-    (member_right (mail to due) (answers_in f.given) (mail to due ∷ []) (inl refl)) in
-    let all : Member (mail to due) keys =
-    subst (Member (mail to due)) (take-append-drop n keys) (member_left (mail to due) (take n keys) (drop n keys) there) in
-    gives to k (subst (λ d. Member (mail to d) f.given.mails.items) (sym is) (subst (Member (mail to due)) same all))
+-- the message that is answered next comes behind those answered, and is none of them
+module _ (q : ℕ) (cs : List Call) (ps : List Pair) (xs : List Sent) (n m : ℕ) (x : Sent) (next : take m xs ≡ take n xs ++ x ∷ []) where
+  pub next_behind : take m (map (mail_of cs ps q) xs) ≡ take n (map (mail_of cs ps q) xs) ++ mail_of cs ps q x ∷ []
+  next_behind =
+      take-map (mail_of cs ps q) m xs ∙ ap (map (mail_of cs ps q)) next ∙ map-append (mail_of cs ps q) (take n xs) (x ∷ [])
+      ∙ ap (λ l. l ++ mail_of cs ps q x ∷ []) (sym (take-map (mail_of cs ps q) n xs))
+
+  -- it is given
+  pub next_given : Member x xs
+  next_given =
+      subst (Member x) (take-append-drop m xs)
+      (member_left x (take m xs) (drop m xs) (subst (Member x) (sym next) (member_right x (take n xs) (x ∷ []) (inl refl))))
+
+  pub next_once : NoneTwice cs → NoneTwice ps → ((y : Sent) → Member y xs → IsPlaced cs ps y) → NoneTwice xs
+      → Member (mail_of cs ps q x) (take n (map (mail_of cs ps q) xs)) → ⊥
+  next_once calls pairs placed once =
+      next_new (map (mail_of cs ps q) xs) n m (mail_of cs ps q x) next_behind (mails_once q cs ps calls pairs xs placed once)
 
 -- a table with nothing pending that has answered all it gave is quiet
 pub quiet_table : {G A S : Type 0} (members : S → List Triple) (t : Table G A S) →
     IsGrounded t.graph.now t.procedure t.found (members t.edges) →
     IsSaturated t.graph.now t.procedure t.found (members t.edges) (λ x. ⊥) →
-    t.found.pending.items ≡ [] → answers_of t ≡ t.found.given.mails.items → tables.IsQuiet members t
+    t.found.pending.items ≡ [] → answers_of t ≡ mails_in t.procedure t.found → tables.IsQuiet members t
 quiet_table members t sound complete none all =
     let quiet = is_exact t.graph.now t.procedure t.found (members t.edges) complete none sound in record {
       edges = quiet.0;
@@ -96,8 +101,5 @@ quiet_table members t sound complete none all =
             λ h. subst (Member (mail s (due_of k))) (sym all) ((quiet.1 s k).0 h),
             λ m. (quiet.1 s k).1 (subst (Member (mail s (due_of k))) all m),
           );
-      leaves = λ a b. (
-        λ m. sound.exit a b ((complete.pairs a b).0 m),
-        λ h. (complete.pairs a b).1 (is_left t.graph.now t.procedure t.found (members t.edges) complete none a b h),
-      );
+      leaves = λ a b. (sound.exit a b, is_left t.graph.now t.procedure t.found (members t.edges) complete none a b);
     }

@@ -13,10 +13,11 @@ use Rattle.summaries.specs.declared.due.Caller.{Caller}
 use Rattle.summaries.specs.declared.due.Caller.TheVariants.{Proc}
 use Rattle.summaries.specs.declared.edge.Edge.{Edge}
 use Rattle.summaries.specs.declared.edge.Site.{Site}
-use Rattle.summaries.specs.declared.given.Mail.{Mail}
+use Rattle.summaries.specs.declared.given.Sent.{Sent}
+use Rattle.summaries.specs.declared.given.Sent.TheVariants.{Told}
 use Rattle.summaries.specs.declared.table_fault.TableFault.{TableFault}
 use Rattle.summaries.specs.declared.table_fault.TableFault.TheVariants.{EdgeLimit}
-use Rattle.summaries.specs.Mails.{mail, summary_due}
+use Rattle.summaries.specs.Mails.{Mail, mail, summary_due}
 
 -- the path edge as a triple
 abbrev pub triple_of : Edge → Triple
@@ -80,11 +81,15 @@ IsBehind graph site exit edge =
     (s : ℕ) × (e : ℕ) × (back : ℕ) × EntersAt graph site.point site.values s e back
     × (edge ≡ triple site.asked back (resumed_at graph site.point site.values exit))
 
--- The messages of which W holds are given after, beside those before, and no others; they come behind those before.
-pub record AddsMails (W : Mail → Type 0) (old new : List Mail) : Type 0 where
-  pub all : (x : Mail) → W x → Member x new
-  pub only : (x : Mail) → Member x new → W x ⊎ Member x old
-  pub behind : (more : List Mail) × (new ≡ old ++ more)
+-- The items of which W holds are there after, beside those before, and no others; they come behind those before.
+pub record AddsTo {X : Type 0} (W : X → Type 0) (old new : List X) : Type 0 where
+  pub all : (x : X) → W x → Member x new
+  pub only : (x : X) → Member x new → W x ⊎ Member x old
+  pub behind : (more : List X) × (new ≡ old ++ more)
+
+-- What is given is the summary of the pair at this place for this caller, which is not the starter.
+abbrev pub IsTold : ℕ → Caller → Sent → Type 0
+IsTold pair from sent = (c : ℕ) × (from ≡ Proc c) × (sent ≡ Told c pair)
 
 -- A message is the summary of the procedure for this caller, which is not the starter.
 abbrev pub IsSummaryTold : ℕ → ℕ → Left → Caller → Mail → Type 0

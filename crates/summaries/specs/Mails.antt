@@ -1,9 +1,15 @@
 -- Messages and the procedures that they go to.
-use Rattle.std.specs.Prelude.{ℕ}
-use Rattle.summaries.specs.declared.given.Mail.{Mail}
+use Rattle.std.specs.Prelude.{ℕ, List, take}
 use Rattle.flow_graph.specs.declared.left.Left.{Left}
 use Rattle.summaries.specs.declared.due.Due.{Due}
 use Rattle.summaries.specs.declared.due.Due.TheVariants.{Summary}
+use Rattle.summaries.specs.declared.given.Given.{Given}
+use Rattle.summaries.specs.declared.given.Sent.{Sent}
+
+-- a message and the procedure that it goes to
+pub record Mail : Type 0 where
+  pub to : ℕ
+  pub due : Due
 
 -- the message to a procedure
 abbrev pub mail : ℕ → Due → Mail
@@ -12,3 +18,7 @@ mail to due = record { to = to; due = due }
 -- the message that the procedure, where it was entered with this valuation, has left this
 abbrev pub summary_due : ℕ → ℕ → Left → Due
 summary_due procedure entry left = Summary procedure left.result entry left.globals
+
+-- the messages given that are answered, in order
+abbrev pub answered_in : {A : Type 0} → Given A → List Sent
+answered_in given = take given.answered given.sent.items

@@ -12,11 +12,10 @@ use Rattle.flow_graph.specs.Numbers.{NumberedMessage, GraphReaches, Sends, Leave
 use Rattle.summaries.specs.declared.due.Due.{Due}
 use Rattle.summaries.specs.declared.edge.Edge.{Edge}
 use Rattle.summaries.specs.declared.found.Found.{Found}
-use Rattle.summaries.specs.declared.given.Mail.{Mail}
 use Rattle.summaries.specs.declared.table.Table.{Table}
 use Rattle.summaries.specs.declared.table_fault.TableFault.{TableFault}
 use Rattle.summaries.specs.declared.table_fault.TableFault.TheVariants.{EdgeLimit}
-use Rattle.summaries.specs.Mails.{mail}
+use Rattle.summaries.specs.Mails.{Mail, mail}
 use Rattle.summaries.specs.Dues.{due_of}
 use Rattle.summaries.specs.Found.{pair, site, answers_in, TookMessage, HasSite, HasExit, IsGrounded, IsSaturated}
 use Rattle.path_sets.specs.EdgeLimits.{most_of}
@@ -40,7 +39,7 @@ module _ {G A S : Type 0} where
 
   -- the messages that it has answered, in order
   abbrev pub answers_of : Table G A S → List Mail
-  answers_of table = answers_in table.found.given
+  answers_of table = answers_in table.procedure table.found
 
   -- the fault that it has failed with
   abbrev pub failure : Table G A S → Option TableFault

@@ -1,8 +1,10 @@
 //! What the table of one procedure keeps beside its set of path edges.
 
-use crate::due::Caller;
+ghost use Rattle.std.specs.Prelude.{◌≡◌};
+
+use crate::due::{Caller, Due};
 use crate::edge::{Call, Edge, Site};
-use crate::given::Given;
+use crate::given::{Given, Sent};
 use crate::groups::Groups;
 use crate::pair::Pair;
 use flow_graph::Left;
@@ -20,10 +22,10 @@ pub(crate) struct Found<A: Allocator> {
     pub(crate) summaries: Groups<Call, Left, A>,
     /// Where calls stand, by call.
     pub(crate) sites: Groups<Call, Site, A>,
-    /// What the procedure leaves, each once, by the valuation on entry.
-    pub(crate) exits: Groups<Word, Left, A>,
-    /// The same exits, to tell whether one is new.
+    /// The pairs of the procedure.
     pub(crate) pairs: IndexSet<Pair, BuildHasherDefault<FoldHasher>, A>,
+    /// The places of the pairs, by the valuation on entry.
+    pub(crate) exits: Groups<Word, u32, A>,
     /// The messages given.
     pub(crate) given: Given<A>,
     /// The edges to work on.
@@ -31,7 +33,8 @@ pub(crate) struct Found<A: Allocator> {
 }
 
 impl<A: Allocator + Copy> Found<A> {
-    ghost use Rattle.summaries.specs.Found.{IsEmpty};
+    ghost use Rattle.summaries.specs.Mails.{mail};
+    ghost use Rattle.summaries.specs.Found.{calls_in, mail_of, IsPlaced, IsEmpty};
 
     /// Nothing is found, which takes no memory yet.
     pub(crate) fn new(alloc: A) -> Self
@@ -41,10 +44,39 @@ impl<A: Allocator + Copy> Found<A> {
             entries: Groups::new(alloc),
             summaries: Groups::new(alloc),
             sites: Groups::new(alloc),
-            exits: Groups::new(alloc),
             pairs: IndexSet::new(alloc),
+            exits: Groups::new(alloc),
             given: Given::new(alloc),
             pending: Vec::new(alloc),
+        }
+    }
+
+    /// A message given, by the number of the table's procedure, and the procedure that it goes to.
+    pub(crate) fn mail(&self, procedure: u8, message: Sent) -> (u8, Due)
+        requires { IsPlaced (calls_in self.now) self.now.pairs.keys message }
+        ensures { mail result.0 result.1
+            ≡ mail_of (calls_in self.now) self.now.pairs.keys procedure message }
+    {
+        match message {
+            Sent::Asked { call } => {
+                let calls = self.sites.by_key.keys();
+                let call = calls.as_slice()[call as usize];
+                let due = Due::Entry {
+                    caller: Caller::Proc(procedure),
+                    a: call.entered,
+                };
+                (call.callee, due)
+            }
+            Sent::Told { to, pair } => {
+                let pair = self.pairs.as_slice()[pair as usize];
+                let due = Due::Summary {
+                    p: procedure,
+                    r: pair.r,
+                    a: pair.a,
+                    b: pair.b,
+                };
+                (to, due)
+            }
         }
     }
 }

@@ -1,86 +1,96 @@
 //! The messages that a table has given.
 
-ghost use Rattle.std.specs.Prelude.{◌≡◌, ◌≤◌, ◌<◌, ◌^◌, ◌∷◌, [], ◌++◌, length, OnOk, OnErr, IfSome};
-ghost use Rattle.std.specs.Prelude.{IfNone};
+ghost use Rattle.std.specs.Prelude.{◌≡◌, ◌≤◌, ◌<◌, ◌^◌, ◌∷◌, [], ◌++◌, length, OnOk, OnErr, IfOk};
+ghost use Rattle.std.specs.Prelude.{IfSome, IfNone};
 ghost use Rattle.std.specs.Bool.{OnTrue, OnFalse};
 ghost use Rattle.language.specs.Lists.{Member, NoneTwice, NoneTwice-prop};
-ghost use Rattle.summaries.specs.Grows.{AddsMails};
-ghost use Rattle.summaries.specs.Mails.{mail};
 
-use crate::due::Due;
 use std::alloc::{AllocError, Allocator};
 
-/// A message and the procedure that it goes to.
+/// A message given, by the places of what its table holds.
 #[derive(Clone, Copy, Debug)]
-pub(crate) struct Mail {
-    pub(crate) to: u8,
-    pub(crate) due: Due,
+pub(crate) enum Sent {
+    /// The entry of a call that stands at a site: the place of the call.
+    Asked { call: u32 },
+    /// The summary of a pair, for a caller: the place of the pair.
+    Told { to: u8, pair: u32 },
 }
 
 /// The messages given, each once, in order; the first of them are answered.
 #[derive(Drop)]
 pub(crate) struct Given<A: Allocator> {
-    pub(crate) mails: Vec<Mail, A>,
+    pub(crate) sent: Vec<Sent, A>,
     pub(crate) answered: usize,
-    ghost within: { answered ≤ length mails.items },
+    ghost within: { answered ≤ length sent.items },
     ghost few: { answered < 2 ^ 64 },
-    ghost once: { NoneTwice mails.items } by { NoneTwice-prop mails.items },
+    ghost once: { NoneTwice sent.items } by { NoneTwice-prop sent.items },
+}
+
+/// A place as it is kept. One past what 32 bits hold counts as memory refused.
+pub(crate) fn place(at: usize) -> Result<u32, AllocError>
+    ensures { IfOk result (λ n. n ≡ at) }
+{
+    if at > u32::MAX as usize {
+        return Err(AllocError);
+    }
+    Ok(at as u32)
 }
 
 impl<A: Allocator + Copy> Given<A> {
-    ghost use Rattle.summaries.specs.Found.{answers_in};
+    ghost use Rattle.summaries.specs.declared.given.Sent.TheVariants.{Asked};
+    ghost use Rattle.summaries.specs.Mails.{answered_in};
 
     /// No message is given.
     pub(crate) fn new(alloc: A) -> Self
-        ensures { result.mails.items ≡ [] }
+        ensures { result.sent.items ≡ [] }
     {
         Given {
-            mails: Vec::new(alloc),
+            sent: Vec::new(alloc),
             answered: 0,
         }
     }
 
-    /// Gives a message to a procedure, which it was not given before. Where memory is refused, nothing changes.
-    pub(crate) fn give(&mut self, to: u8, due: Due) -> Result<(), AllocError>
-        requires { ¬ Member (mail to due) self.old.mails.items }
-        ensures ok { OnOk result (self.new.mails.items ≡ self.old.mails.items ++ mail to due ∷ []) }
-        ensures err { OnErr result (self.new.mails.items ≡ self.old.mails.items) }
+    /// Gives a message that was not given before. Where memory is refused, nothing changes.
+    pub(crate) fn give(&mut self, message: Sent) -> Result<(), AllocError>
+        requires { ¬ Member message self.old.sent.items }
+        ensures ok { OnOk result (self.new.sent.items ≡ self.old.sent.items ++ message ∷ []) }
+        ensures err { OnErr result (self.new.sent.items ≡ self.old.sent.items) }
         ensures answered { self.new.answered ≡ self.old.answered }
     {
-        self.mails.push(Mail { to, due })?;
+        self.sent.push(message)?;
         Ok(())
     }
 
-    /// Gives a message to a procedure, unless it was given before. Where memory is refused, nothing changes.
-    pub(crate) fn give_unless(&mut self, known: bool, to: u8, due: Due) -> Result<(), AllocError>
-        requires known { OnTrue known (Member (mail to due) self.old.mails.items) }
-        requires new { OnFalse known (¬ Member (mail to due) self.old.mails.items) }
-        ensures ok { OnOk result
-            (AddsMails (λ m. m ≡ mail to due) self.old.mails.items self.new.mails.items) }
-        ensures err { OnErr result (self.new.mails.items ≡ self.old.mails.items) }
+    /// Gives the entry of the call at a place, unless it is known. Where memory is refused, nothing changes.
+    pub(crate) fn ask(&mut self, known: bool, call: usize) -> Result<(), AllocError>
+        requires { OnFalse known (¬ Member (Asked call) self.old.sent.items) }
+        ensures known { OnOk result (OnTrue known (self.new.sent.items ≡ self.old.sent.items)) }
+        ensures new { OnOk result (OnFalse known
+            (self.new.sent.items ≡ self.old.sent.items ++ Asked call ∷ [])) }
+        ensures err { OnErr result (self.new.sent.items ≡ self.old.sent.items) }
         ensures answered { self.new.answered ≡ self.old.answered }
     {
         if !known {
-            self.give(to, due)?;
+            let call = place(call)?;
+            self.give(Sent::Asked { call })?;
         }
         Ok(())
     }
 
     /// The first message that is not answered yet, which then is.
-    pub(crate) fn next(&mut self) -> Option<(u8, Due)>
-        ensures some { IfSome result
-            (λ m. answers_in self.new ≡ answers_in self.old ++ mail m.0 m.1 ∷ []) }
-        ensures new { IfSome result (λ m. ¬ Member (mail m.0 m.1) (answers_in self.old)) }
-        ensures none { IfNone result (answers_in self.old ≡ self.old.mails.items) }
+    pub(crate) fn next(&mut self) -> Option<Sent>
+        ensures some { IfSome result (λ x. answered_in self.new ≡ answered_in self.old ++ x ∷ []) }
+        ensures new { IfSome result (λ x. ¬ Member x (answered_in self.old)) }
+        ensures none { IfNone result (answered_in self.old ≡ self.old.sent.items) }
         ensures same { IfNone result (self.new.answered ≡ self.old.answered) }
-        ensures given { self.new.mails.items ≡ self.old.mails.items }
+        ensures sent { self.new.sent.items ≡ self.old.sent.items }
     {
-        let mails = self.mails.as_slice();
-        if self.answered >= mails.len() {
+        let sent = self.sent.as_slice();
+        if self.answered >= sent.len() {
             return None;
         }
-        let mail = mails[self.answered];
+        let message = sent[self.answered];
         self.answered += 1;
-        Some((mail.to, mail.due))
+        Some(message)
     }
 }

@@ -1,8 +1,11 @@
 //! Values that are found by a key.
 
-ghost use Rattle.std.specs.Prelude.{◌≡◌, ◌≢◌, [], ◌∷◌, ◌++◌, false, OnOk, OnErr, IfOk};
+ghost use Rattle.std.specs.Prelude.{◌≡◌, ◌≢◌, [], ◌∷◌, ◌++◌, true, false, Some, slice_get};
+ghost use Rattle.std.specs.Prelude.{OnOk, OnErr, IfOk};
 ghost use Rattle.std.specs.Bool.{OnTrue, OnFalse};
 ghost use Rattle.std.specs.Mem.{FitsInMemory};
+ghost use Rattle.indexmap.specs.IndexMap.{keys};
+ghost use Rattle.indexmap.specs.IndexSet.{insert_key};
 ghost use Rattle.summaries.specs.Under.{under};
 
 use crate::values::Values;
@@ -10,7 +13,16 @@ use indexmap::IndexMap;
 use std::alloc::{AllocError, Allocator};
 use std::hash::{BuildHasherDefault, FoldHasher, Hash};
 
-/// For each key the values that were added to it, in the order of adding.
+/// A key to which a value was added.
+#[derive(Clone, Copy, Debug)]
+pub(crate) struct Added {
+    /// Whether it had a value before.
+    pub(crate) had: bool,
+    /// Its place among the keys.
+    pub(crate) at: usize,
+}
+
+/// For each key the values that were added to it, in the order of adding. Keys keep the order in which they came.
 #[derive(Drop)]
 pub(crate) struct Groups<K: Eq + Hash + Drop, V: Drop, A: Allocator> {
     pub(crate) by_key: IndexMap<K, Values<V, A>, BuildHasherDefault<FoldHasher>, A>,
@@ -19,19 +31,23 @@ pub(crate) struct Groups<K: Eq + Hash + Drop, V: Drop, A: Allocator> {
 impl<K: Eq + Hash + Copy, V: Copy, A: Allocator + Copy> Groups<K, V, A> {
     /// No values, which take no memory yet.
     pub(crate) fn new(alloc: A) -> Self
-        ensures { (k : K) → under K.eq result.by_key k ≡ [] }
+        ensures none { (k : K) → under K.eq result.by_key k ≡ [] }
+        ensures keys { keys result.by_key ≡ [] }
     {
         Groups {
             by_key: IndexMap::new(alloc),
         }
     }
 
-    /// Adds a value to those of a key. Answers whether the key had any. Where memory is refused, each key has the
-    /// values that it had.
-    pub(crate) fn add(&mut self, key: K, value: V) -> Result<bool, AllocError>
+    /// Adds a value to those of a key. Where memory is refused, each key has the values that it had.
+    pub(crate) fn add(&mut self, key: K, value: V) -> Result<Added, AllocError>
         requires { FitsInMemory V.row }
-        ensures had { IfOk result (λ had. OnTrue had (under K.eq self.old.by_key key ≢ [])) }
-        ensures none { IfOk result (λ had. OnFalse had (under K.eq self.old.by_key key ≡ [])) }
+        ensures had { IfOk result (λ r. OnTrue r.had (under K.eq self.old.by_key key ≢ [])) }
+        ensures none { IfOk result (λ r. OnFalse r.had (under K.eq self.old.by_key key ≡ [])) }
+        ensures at { IfOk result (λ r. (k : K)
+            × (slice_get (keys self.new.by_key) r.at ≡ Some k) × (K.eq key k ≡ true)) }
+        ensures keys { OnOk result
+            (keys self.new.by_key ≡ insert_key K.eq (keys self.old.by_key) key) }
         ensures added { OnOk result
             (under K.eq self.new.by_key key ≡ under K.eq self.old.by_key key ++ value ∷ []) }
         ensures others { OnOk result ((k : K) → K.eq key k ≡ false
@@ -44,11 +60,12 @@ impl<K: Eq + Hash + Copy, V: Copy, A: Allocator + Copy> Groups<K, V, A> {
                 let alloc = *self.by_key.allocator();
                 let had = !self.by_key[at].as_slice().is_empty();
                 self.by_key[at].add(alloc, value)?;
-                Ok(had)
+                Ok(Added { had, at })
             }
             None => {
+                let at = self.by_key.len();
                 self.by_key.insert(key, Values::one(value))?;
-                Ok(false)
+                Ok(Added { had: false, at })
             }
         }
     }

@@ -14,7 +14,7 @@ ghost use Rattle.summaries.specs.declared.due.Caller.TheVariants.{Starter};
 ghost use Rattle.summaries.specs.declared.due.Due.{Due};
 ghost use Rattle.summaries.specs.declared.due.Due.TheVariants.{Entry};
 ghost use Rattle.summaries.specs.Fitting.{FitsIn};
-ghost use Rattle.summaries.specs.declared.given.Mail.{Mail};
+ghost use Rattle.summaries.specs.Mails.{Mail};
 ghost use Rattle.summaries.specs.declared.table.Table.{Table};
 ghost use Rattle.summaries.specs.declared.table_fault.TableFault.TheVariants.{EdgeLimit};
 ghost use Rattle.summaries.specs.Dues.{due_of};

@@ -34,6 +34,7 @@ impl<'g, G: Allocator, A: Allocator + Copy, S: PathSet<A>> Table<'g, G, A, S> {
     ghost use Rattle.summaries.specs.Tables.{IsTable, IsNew, IsQuiet, IsAnswer, TableTakes};
     ghost use Rattle.summaries.specs.Tables.{KeepsTable};
     ghost use Rattle.summaries.specs.Tables.{failed_by, work_left};
+    ghost use Rattle.summaries.specs.Found.{mails_in};
 
     /// The table of a procedure, which has taken nothing yet, and takes no memory.
     pub fn new(alloc: A, graphs: &'g Graphs<G>, procedure: u8, limit: EdgeLimit) -> Self
@@ -120,11 +121,13 @@ impl<'g, G: Allocator, A: Allocator + Copy, S: PathSet<A>> Table<'g, G, A, S> {
         ensures keeps { KeepsTable S.members None self.old self.new }
         ensures some { IfSome result (λ m. IsAnswer self.old self.new m.0 m.1) }
         ensures none { IfNone result (answers_of self.new ≡ answers_of self.old) }
-        ensures all { IfNone result (answers_of self.new ≡ self.new.found.given.mails.items) }
+        ensures all { IfNone result
+            (answers_of self.new ≡ mails_in self.new.procedure self.new.found) }
         ensures pending { self.new.found.pending ≡ self.old.found.pending }
         ensures edges { self.new.edges ≡ self.old.edges }
     {
-        self.found.given.next()
+        let message = self.found.given.next()?;
+        Some(self.found.mail(self.procedure, message))
     }
 
     /// Works on one edge. Answers whether there was one.
@@ -136,8 +139,9 @@ impl<'g, G: Allocator, A: Allocator + Copy, S: PathSet<A>> Table<'g, G, A, S> {
         ensures less { IfOk result (λ worked. OnTrue worked
             (work_left S.members self.new < work_left S.members self.old)) }
         ensures none { IfOk result (λ worked. OnFalse worked (self.new.found.pending.items ≡ [])) }
-        ensures given { IfOk result
-            (λ worked. OnFalse worked (self.new.found.given ≡ self.old.found.given)) }
+        ensures given { IfOk result (λ worked. OnFalse worked
+            (mails_in self.new.procedure self.new.found
+            ≡ mails_in self.old.procedure self.old.found)) }
     {
         let Some(edge) = self.found.pending.pop() else {
             return Ok(false);

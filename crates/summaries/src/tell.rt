@@ -2,87 +2,70 @@
 
 ghost use Rattle.std.specs.Prelude.{◌≡◌, OnOk};
 ghost use Rattle.language.specs.Lists.{Member, NoneTwice};
-ghost use Rattle.summaries.specs.declared.given.Mail.{Mail};
-ghost use Rattle.summaries.specs.Grows.{AddsOnly, AddsMails, OfSome, IsSummaryTold};
+ghost use Rattle.summaries.specs.declared.given.Sent.{Sent};
+ghost use Rattle.summaries.specs.Grows.{AddsOnly, AddsTo, OfSome, IsTold};
 
-use crate::due::{Caller, Due};
-use crate::given::Given;
-use flow_graph::Left;
-use language::Word;
+use crate::due::Caller;
+use crate::given::{Given, Sent};
 use std::alloc::{AllocError, Allocator};
 
-/// Gives the summary of procedure `p` to a caller, who has not got it; the starter gets none.
+/// Gives the summary of a pair to a caller, who has not got it; the starter gets none.
 pub(crate) fn tell<A: Allocator + Copy>(
     given: &mut Given<A>,
-    p: u8,
-    a: Word,
-    left: Left,
+    pair: u32,
     caller: Caller,
 ) -> Result<(), AllocError>
-    requires { (x : Mail) → IsSummaryTold p a left caller x → ¬ Member x given.old.mails.items }
+    requires { (x : Sent) → IsTold pair caller x → ¬ Member x given.old.sent.items }
     ensures ok { OnOk result
-        (AddsMails (IsSummaryTold p a left caller) given.old.mails.items given.new.mails.items) }
-    ensures only { AddsOnly
-        (IsSummaryTold p a left caller) given.old.mails.items given.new.mails.items }
+        (AddsTo (IsTold pair caller) given.old.sent.items given.new.sent.items) }
+    ensures only { AddsOnly (IsTold pair caller) given.old.sent.items given.new.sent.items }
     ensures answered { given.new.answered ≡ given.old.answered }
 {
     if let Caller::Proc(to) = caller {
-        let due = Due::Summary {
-            p,
-            a,
-            b: left.globals,
-            r: left.result,
-        };
-        given.give(to, due)?;
+        given.give(Sent::Told { to, pair })?;
     }
     Ok(())
 }
 
-/// Gives the summary of procedure `p` to each of its callers but the starter, none of whom has it. At an error some
-/// have it.
+/// Gives the summary of a pair to each of its callers but the starter, none of whom has it. At an error some have it.
 pub(crate) fn tell_all<A: Allocator + Copy>(
     given: &mut Given<A>,
-    p: u8,
-    a: Word,
-    left: Left,
+    pair: u32,
     callers: &[Caller],
 ) -> Result<(), AllocError>
     requires once { NoneTwice callers.now }
-    requires new { (x : Mail) → OfSome (IsSummaryTold p a left) callers.now x
-        → ¬ Member x given.old.mails.items }
+    requires new { (x : Sent) → OfSome (IsTold pair) callers.now x
+        → ¬ Member x given.old.sent.items }
     ensures ok { OnOk result
-        (AddsMails
-        (OfSome (IsSummaryTold p a left) callers.now) given.old.mails.items given.new.mails.items) }
+        (AddsTo (OfSome (IsTold pair) callers.now) given.old.sent.items given.new.sent.items) }
     ensures only { AddsOnly
-        (OfSome (IsSummaryTold p a left) callers.now) given.old.mails.items given.new.mails.items }
+        (OfSome (IsTold pair) callers.now) given.old.sent.items given.new.sent.items }
     ensures answered { given.new.answered ≡ given.old.answered }
 {
     for caller in callers {
-        tell(given, p, a, left, *caller)?;
+        tell(given, pair, *caller)?;
     }
     Ok(())
 }
 
-/// Gives a caller the summaries of procedure `p` for what it has left, of which the caller has none; the starter gets
-/// none. At an error it has some.
+/// Gives a caller the summaries of these pairs, of which the caller has none; the starter gets none. At an error it has
+/// some.
 pub(crate) fn tell_exits<A: Allocator + Copy>(
     given: &mut Given<A>,
-    p: u8,
-    a: Word,
-    exits: &[Left],
+    pairs: &[u32],
     caller: Caller,
 ) -> Result<(), AllocError>
-    requires once { NoneTwice exits.now }
-    requires new { (x : Mail) → OfSome (λ left. IsSummaryTold p a left caller) exits.now x
-        → ¬ Member x given.old.mails.items }
-    ensures ok { OnOk result (AddsMails (OfSome (λ left. IsSummaryTold p a left caller) exits.now)
-        given.old.mails.items given.new.mails.items) }
-    ensures only { AddsOnly (OfSome (λ left. IsSummaryTold p a left caller) exits.now)
-        given.old.mails.items given.new.mails.items }
+    requires once { NoneTwice pairs.now }
+    requires new { (x : Sent) → OfSome (λ pair. IsTold pair caller) pairs.now x
+        → ¬ Member x given.old.sent.items }
+    ensures ok { OnOk result (AddsTo (OfSome (λ pair. IsTold pair caller) pairs.now)
+        given.old.sent.items given.new.sent.items) }
+    ensures only { AddsOnly (OfSome (λ pair. IsTold pair caller) pairs.now)
+        given.old.sent.items given.new.sent.items }
     ensures answered { given.new.answered ≡ given.old.answered }
 {
-    for left in exits {
-        tell(given, p, a, *left, caller)?;
+    for pair in pairs {
+        tell(given, *pair, caller)?;
     }
     Ok(())
 }

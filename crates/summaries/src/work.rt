@@ -11,9 +11,10 @@ ghost use Rattle.summaries.specs.Tables.{answers_of, graph_of, limit_of, HasLeft
 ghost use Rattle.summaries.specs.Tables.{Worked, StaysAs, IsLess, TookAlso};
 ghost use Rattle.summaries.specs.Tables.{TookOnly, TookSame};
 
-use crate::due::{Caller, Due};
+use crate::due::Caller;
 use crate::edge::{Call, Edge, Site};
 use crate::frontier::Frontier;
+use crate::given::place;
 use crate::pair::Pair;
 use crate::table::Table;
 use crate::table_fault::TableFault;
@@ -46,15 +47,12 @@ impl<'g, G: Allocator, A: Allocator + Copy, S: PathSet<A>> Table<'g, G, A, S> {
             b: left.globals,
             r: left.result,
         };
-        if self.found.pairs.insert(pair)? {
-            self.found.exits.add(edge.entry, left)?;
-            tell_all(
-                &mut self.found.given,
-                self.procedure,
-                edge.entry,
-                left,
-                self.found.entries.of(edge.entry),
-            )?;
+        let (at, new) = self.found.pairs.insert_full(pair)?;
+        if new {
+            let exit = place(at)?;
+            self.found.exits.add(edge.entry, exit)?;
+            let callers = self.found.entries.of(edge.entry);
+            tell_all(&mut self.found.given, exit, callers)?;
         }
         Ok(())
     }
@@ -69,7 +67,7 @@ impl<'g, G: Allocator, A: Allocator + Copy, S: PathSet<A>> Table<'g, G, A, S> {
         ensures worked { Worked S.members (λ t. t ≡ triple_of edge) result self.old self.new }
         ensures asked { OnOk result (HasAsked self.new edge call.now) }
         ensures taken { TookSame self.old.found self.new.found }
-        ensures exits { self.new.found.exits ≡ self.old.found.exits }
+        ensures pairs { self.new.found.pairs ≡ self.old.found.pairs }
         ensures less { OnOk result (IsLess S.members self.old self.new) }
     {
         let key = Call {
@@ -81,12 +79,8 @@ impl<'g, G: Allocator, A: Allocator + Copy, S: PathSet<A>> Table<'g, G, A, S> {
             point: edge.point,
             values: edge.values,
         };
-        let due = Due::Entry {
-            caller: Caller::Proc(self.procedure),
-            a: key.entered,
-        };
-        let known = self.found.sites.add(key, site)?;
-        self.found.given.give_unless(known, key.callee, due)?;
+        let added = self.found.sites.add(key, site)?;
+        self.found.given.ask(added.had, added.at)?;
         let mut frontier = Frontier {
             edges: &mut self.edges,
             pending: &mut self.found.pending,
@@ -145,13 +139,8 @@ impl<'g, G: Allocator, A: Allocator + Copy, S: PathSet<A>> Table<'g, G, A, S> {
             limit: self.limit,
         };
         frontier.reach(start)?;
-        tell_exits(
-            &mut self.found.given,
-            self.procedure,
-            a,
-            self.found.exits.of(a),
-            caller,
-        )?;
+        let exits = self.found.exits.of(a);
+        tell_exits(&mut self.found.given, exits, caller)?;
         Ok(())
     }
 

@@ -1,9 +1,9 @@
 use Rattle.std.proofs.Common.{◌≡◌, take}
-use Rattle.summaries.specs.Grows.{AddsMails, OfSome, IsSummaryTold}
+use Rattle.summaries.specs.Grows.{AddsTo, OfSome, IsTold}
 use Rattle.summaries.proofs.tell.tell_exits.Given as goal
 
-abbrev pub invariant-loop-left : goal.invariant-loop-left
-invariant-loop-left g l =
-    AddsMails (OfSome (λ b. IsSummaryTold l.p l.a b l.caller)
-    (take l.left-index l.exits)) l.initial.given.mails.items l.given.mails.items
+abbrev pub invariant-loop-pair : goal.invariant-loop-pair
+invariant-loop-pair g l =
+    AddsTo (OfSome (λ pair. IsTold pair l.caller)
+    (take l.pair-index l.pairs)) l.initial.given.sent.items l.given.sent.items
     × (l.given.answered ≡ l.initial.given.answered)

@@ -3,10 +3,11 @@ use Rattle.language.specs.Lists.{Member, NoneTwice}
 use Rattle.path_sets.specs.Triples.{triple}
 use Rattle.summaries.specs.Found.{TookDue}
 use Rattle.summaries.specs.Under.{under}
-use Rattle.summaries.specs.Grows.{Grows, AddsMails, OfSome, IsSummaryTold}
-use Rattle.summaries.proofs.Entering.{entered_also, enter_only, enter_step, start_reached, none_told}
+use Rattle.summaries.specs.Grows.{Grows}
+use Rattle.summaries.proofs.Entering.{entered_also, enter_only, enter_step, start_reached, none_told, exits_placed, exits_told}
 use Rattle.summaries.proofs.Growing.{ok_err, fault_of}
-use Rattle.summaries.proofs.Mails.{caller_known, caller_new, answers_still}
+use Rattle.summaries.proofs.Mails.{caller_known, caller_new}
+use Rattle.summaries.proofs.Telling.{answers_kept}
 use Rattle.summaries.proofs.Stepping.{grown_to, still_holds, all_reached, taken_as, has_more}
 use Rattle.summaries.proofs.Worked.{failed_worked, refused_worked}
 use Rattle.summaries.proofs.table.Table.enter.Given.{Over}
@@ -48,9 +49,9 @@ pub tell_exits-requires : goal.tell_exits-requires
 tell_exits-requires g c =
     let self = c.args.self.now in
     record {
-      once = subst NoneTwice (sym c.of-2.ensures) (c.requires.holds.0.exits_once c.args.a);
+      once = subst NoneTwice (sym c.of-exits.ensures) (c.requires.holds.0.indexed.exits_once c.args.a);
       new = none_told self.graph.now self.procedure self.found (g.S.PathSet.members self.edges)
-          c.requires.holds.0 c.args.a c.args.caller _ (is_new g (goal.at.tell_exits-requires g c).After-add);
+          c.requires.holds.0 c.args.a c.args.caller _ c.of-exits.ensures (is_new g (goal.at.tell_exits-requires g c).After-add);
     }
 
 pub returns-in_err-add-clause-worked : goal.returns-in_err-add-clause-worked
@@ -106,22 +107,22 @@ returns-clause-worked g c =
     let ds = g.S.PathSet.members c.reach.new.self.edges.now in
     let grown =
     subst (λ n. Grows (λ t. t ≡ triple a n a) es ds f.pending.items pending.items) c.start.ensures c.in_ok-reach.ensures.adds.ok in
-    let gave = subst
-    (λ bs. AddsMails
-    (OfSome (λ b. IsSummaryTold self.procedure a b c.args.caller) bs) f.given.mails.items
-    c.tell_exits.new.given.mails.items) c.of-2.ensures c.in_ok-tell_exits.ensures.ok in
+    let told = c.in_ok-tell_exits.ensures.ok in
+    let gave = exits_told self.procedure f c.requires.holds.0.indexed c.tell_exits.new.given a c.args.caller c.of-exits.result.now
+    c.of-exits.ensures told in
     let step = enter_step self.graph.now self.procedure f c.add.new.self c.tell_exits.new.given pending a
     c.args.caller c.in_ok-add.ensures.added c.in_ok-add.ensures.others es ds c.requires.holds.0
-    (is_new g (goal.at.returns-clause-worked g c).After-add) grown gave in record {
+    (is_new g (goal.at.returns-clause-worked g c).After-add) grown
+    (λ x old. exits_placed self.procedure f old c.tell_exits.new.given a c.args.caller c.of-exits.result.now c.of-exits.ensures told x)
+    gave in record {
       holds =
           still_holds self.graph.now self.procedure f _ es ds step (λ t. ⊥) c.requires.holds;
       edges = enter_only self.graph.now self.procedure f c.add.new.self c.tell_exits.new.given pending a
           c.args.caller c.in_ok-add.ensures.added c.in_ok-add.ensures.others es ds c.requires.holds.0 grown.only;
       within = c.in_ok-reach.ensures.adds.within;
       many = λ is. absurd (ok_err is);
-      answers = answers_still f.given.mails.items c.tell_exits.new.given.mails.items f.given.answered
-          c.tell_exits.new.given.answered f.given.within c.in_ok-tell_exits.ensures.answered
-          c.in_ok-tell_exits.ensures.ok.behind;
+      answers = answers_kept self.procedure f (grown_to self.graph.now self.procedure f c.add.new.self f.summaries c.tell_exits.new.given
+          pending) _ c.in_ok-tell_exits.ensures.answered gave;
       stays = record { graph = refl; procedure = refl; limit = refl };
       fault = refl;
     }

@@ -1,48 +1,85 @@
-use Rattle.std.proofs.Common.{◌≡◌, ◌∷◌, [], nat_eq, true, false, inl, refl, sym, subst}
+use Rattle.std.proofs.Common.{◌≡◌, ◌∷◌, ◌++◌, [], true, false, inl, refl, sym, ap, ◌∙◌, subst, Some, slice_get}
 use Rattle.std.specs.List.{list_any}
-use Rattle.language.specs.Lists.{Member, NoneTwice}
+use Rattle.language.specs.Lists.{Member}
 use Rattle.language.proofs.Members.{member_right}
 use Rattle.path_sets.specs.Triples.{triple}
 use Rattle.summaries.proofs.Keys.{found_is_in}
-use Rattle.summaries.specs.Under.{under}
-use Rattle.summaries.specs.Found.{pair, pair_eq}
-use Rattle.summaries.specs.Grows.{AddsMails, OfSome, IsSummaryTold, triple_of}
+use Rattle.summaries.specs.declared.found.Found.{Found}
+use Rattle.summaries.specs.Found.{pair, pair_eq, mails_in, IsIndexed}
+use Rattle.summaries.specs.Grows.{AddsTo, OfSome, IsSummaryTold, triple_of}
 use Rattle.summaries.proofs.Adding.{same_pair}
-use Rattle.summaries.proofs.Mails.{inserted_new, inserted_known, inserted_apart, answers_still}
-use Rattle.summaries.proofs.Leaving.{leave_step, none_told}
+use Rattle.summaries.proofs.Mails.{inserted_new, inserted_known, inserted_apart}
+use Rattle.summaries.proofs.Leaving.{leave_step, left_indexed, left_told, none_told}
 use Rattle.summaries.proofs.Stepping.{still_holds, same_step}
+use Rattle.summaries.proofs.Telling.{answers_kept}
 use Rattle.summaries.specs.contracts.pair.PairEq.TheImpl.Laws.{laws-law}
 use Rattle.summaries.proofs.table.Table.leave.Given.{Over}
 use Rattle.summaries.proofs.table.Table.leave.Goals as goal
-use Rattle.summaries.proofs.table.Table.leave.Goals.{In_ok-insert}
+use Rattle.summaries.proofs.table.Table.leave.Goals.{In_ok-at, In_ok-exit, In_ok-tell_all}
 
 -- the pair is new
-is_new : (g : Over) (c : In_ok-insert g) → c.in_ok-insert.field-0 ≡ true →
+is_new : (g : Over) (c : In_ok-at g) → c.in_ok-at.new ≡ true →
     Member (pair c.args.edge.entry c.left-left.result) c.args.self.now.found.pairs.keys → ⊥
 is_new g c =
     inserted_apart pair_eq
-    (pair c.args.edge.entry c.left-left.result) c.args.self.now.found.pairs.keys c.insert.new.self.keys
-    c.in_ok-insert.field-0 c.in_ok-insert.ensures.added c.in_ok-insert.ensures.keys laws-law.refl
+    (pair c.args.edge.entry c.left-left.result) c.args.self.now.found.pairs.keys c.insert_full.new.self.keys
+    c.in_ok-at.new c.in_ok-at.ensures.added c.in_ok-at.ensures.keys laws-law.refl
 
 -- the pair is known
-is_known : (g : Over) (c : In_ok-insert g) → c.in_ok-insert.field-0 ≡ false →
-    (c.insert.new.self.keys ≡ c.args.self.now.found.pairs.keys)
+is_known : (g : Over) (c : In_ok-at g) → c.in_ok-at.new ≡ false →
+    (c.insert_full.new.self.keys ≡ c.args.self.now.found.pairs.keys)
     × (list_any (pair_eq (pair c.args.edge.entry c.left-left.result)) c.args.self.now.found.pairs.keys ≡ true)
 is_known g c =
     inserted_known pair_eq
-    (pair c.args.edge.entry c.left-left.result) c.args.self.now.found.pairs.keys c.insert.new.self.keys
-    c.in_ok-insert.field-0 c.in_ok-insert.ensures.added c.in_ok-insert.ensures.keys
+    (pair c.args.edge.entry c.left-left.result) c.args.self.now.found.pairs.keys c.insert_full.new.self.keys
+    c.in_ok-at.new c.in_ok-at.ensures.added c.in_ok-at.ensures.keys
 
-pub tell_all-requires : goal.tell_all-requires
-tell_all-requires g c =
+-- one that is new stands behind the others
+is_last : (g : Over) (c : In_ok-at g) → c.in_ok-at.new ≡ true →
+    c.insert_full.new.self.keys ≡ c.args.self.now.found.pairs.keys ++ pair c.args.edge.entry c.left-left.result ∷ []
+is_last g c =
+    inserted_new pair_eq (pair c.args.edge.entry c.left-left.result) c.args.self.now.found.pairs.keys c.insert_full.new.self.keys
+    c.in_ok-at.new c.in_ok-at.ensures.added c.in_ok-at.ensures.keys
+
+-- at its place
+stands : (g : Over) (c : In_ok-exit g) →
+    slice_get c.insert_full.new.self.keys c.in_ok-exit.exit ≡ Some (pair c.args.edge.entry c.left-left.result)
+stands g c =
+    let (k, here, same) = c.in_ok-at.ensures.stored in
+    ap (slice_get c.insert_full.new.self.keys) c.in_ok-exit.ensures
+    ∙ here ∙ ap Some (sym (same_pair (pair c.args.edge.entry c.left-left.result) k same))
+
+pub tell_all-requires-clause-new : goal.tell_all-requires-clause-new
+tell_all-requires-clause-new g c =
+    let at = (goal.at.tell_all-requires-clause-new g c).In_ok-at in
+    none_told c.args.self.now.found c.requires.holds.0.indexed (pair c.args.edge.entry c.left-left.result) c.insert_full.new.self.keys
+    c.in_ok-exit.exit c.of-callers.result.now (is_new g at c.if-new.true) (is_last g at c.if-new.true)
+    (stands g (goal.at.tell_all-requires-clause-new g c).In_ok-exit)
+
+-- what is found where the pair is new
+abbrev after : (g : Over) → In_ok-tell_all g → Found g.row.A.Denot
+after g c = record c.args.self.now.found { exits = c.add.new.self; pairs = c.insert_full.new.self; given = c.tell_all.new.given }
+
+-- its place is kept
+kept : (g : Over) (c : In_ok-tell_all g) → (Member (pair c.args.edge.entry c.left-left.result) c.args.self.now.found.pairs.keys → ⊥) →
+    c.insert_full.new.self.keys ≡ c.args.self.now.found.pairs.keys ++ pair c.args.edge.entry c.left-left.result ∷ [] →
+    slice_get c.insert_full.new.self.keys c.in_ok-exit.exit ≡ Some (pair c.args.edge.entry c.left-left.result) →
+    IsIndexed c.args.self.now.found → IsIndexed (after g c)
+kept g c new last here old =
+    left_indexed c.args.self.now.procedure c.args.self.now.found (after g c) c.args.edge.entry c.left-left.result c.in_ok-exit.exit
+    c.of-callers.result.now old new last here c.in_ok-add.ensures.added c.in_ok-add.ensures.others c.in_ok-tell_all.ensures.ok
+
+-- and its summary is given to the callers
+gave : (g : Over) (c : In_ok-tell_all g) → (Member (pair c.args.edge.entry c.left-left.result) c.args.self.now.found.pairs.keys → ⊥) →
+    c.insert_full.new.self.keys ≡ c.args.self.now.found.pairs.keys ++ pair c.args.edge.entry c.left-left.result ∷ [] →
+    slice_get c.insert_full.new.self.keys c.in_ok-exit.exit ≡ Some (pair c.args.edge.entry c.left-left.result) →
     let self = c.args.self.now in
-    let e = c.args.edge in
-    let b = c.left-left.result in
-    let new = is_new g (goal.at.tell_all-requires g c).In_ok-insert c.if-branch.true in record {
-      once = subst NoneTwice (sym c.of.ensures) (c.requires.holds.0.callers_once e.entry);
-      new = none_told self.graph.now self.procedure self.found (g.S.PathSet.members self.edges) (λ t. t ≡ triple_of e)
-          c.requires.holds.0 c.requires.holds.1 e.entry b c.of.result.now new;
-    }
+    AddsTo (OfSome (IsSummaryTold self.procedure c.args.edge.entry c.left-left.result) c.of-callers.result.now)
+    (mails_in self.procedure self.found) (mails_in self.procedure (after g c))
+gave g c new last here =
+    left_told c.args.self.now.procedure c.args.self.now.found (after g c) c.args.edge.entry c.left-left.result c.in_ok-exit.exit
+    c.of-callers.result.now c.requires.holds.0.indexed new last here c.in_ok-add.ensures.added c.in_ok-add.ensures.others
+    c.in_ok-tell_all.ensures.ok
 
 pub returns-in_ok-tell_all-clause-ok : goal.returns-in_ok-tell_all-clause-ok
 returns-in_ok-tell_all-clause-ok g c =
@@ -51,48 +88,49 @@ returns-in_ok-tell_all-clause-ok g c =
     let e = c.args.edge in
     let b = c.left-left.result in
     let es = g.S.PathSet.members self.edges in
-    let h = record f { exits = c.add.new.self; pairs = c.insert.new.self; given = c.tell_all.new.given } in
+    let at = goal.at.returns-in_ok-tell_all-clause-ok g c in
+    let new = is_new g at.In_ok-at c.if-new.true in
+    let last = is_last g at.In_ok-at c.if-new.true in
+    let here = stands g at.In_ok-exit in
+    let h = after g at.In_ok-tell_all in
     let there = subst (λ n. Member (triple e.entry n e.values) es) c.if-edge-ne-EXIT.false c.requires.edge in
-    let keys = inserted_new pair_eq (pair e.entry b) f.pairs.keys c.insert.new.self.keys
-    c.in_ok-insert.field-0 c.in_ok-insert.ensures.added c.in_ok-insert.ensures.keys c.if-branch.true in
-    let gave = subst (λ cs. AddsMails (OfSome (IsSummaryTold self.procedure e.entry b) cs) f.given.mails.items h.given.mails.items)
-    c.of.ensures c.in_ok-tell_all.ensures.ok in
+    let told = subst (λ cs. AddsTo (OfSome (IsSummaryTold self.procedure e.entry b) cs) (mails_in self.procedure f) (mails_in self.procedure h))
+    c.of-callers.ensures (gave g at.In_ok-tell_all new last here) in
     let step = leave_step self.graph.now self.procedure f h es e.entry e.values b c.left-left.ensures.number
-    c.requires.holds.0 there keys c.in_ok-add.ensures.added c.in_ok-add.ensures.others
-    (λ left. is_new g (goal.at.returns-in_ok-tell_all-clause-ok g c).In_ok-insert c.if-branch.true
-    ((c.requires.holds.1.pairs e.entry b).1 left)) gave in
+    c.requires.holds.0 there last (kept g at.In_ok-tell_all new last here) told in
     still_holds self.graph.now self.procedure f h es es step (λ t. t ≡ triple_of e) c.requires.holds
 
 pub returns-in_ok-tell_all-clause-left : goal.returns-in_ok-tell_all-clause-left
 returns-in_ok-tell_all-clause-left g c = λ _.
     let entry = c.args.edge.entry in
     let b = c.left-left.result in
-    subst (λ y. Member y (under nat_eq c.add.new.self.by_key entry)) c.left-left.ensures.number
-    (subst (Member b) (sym c.in_ok-add.ensures.added)
-    (member_right b (under nat_eq c.args.self.now.found.exits.by_key entry) (b ∷ []) (inl refl)))
+    let keys = is_last g (goal.at.returns-in_ok-tell_all-clause-left g c).In_ok-at c.if-new.true in
+    subst (λ y. Member (pair entry y) c.insert_full.new.self.keys) c.left-left.ensures.number
+    (subst (Member (pair entry b)) (sym keys) (member_right (pair entry b) c.args.self.now.found.pairs.keys (pair entry b ∷ []) (inl refl)))
 
 pub returns-in_ok-tell_all-clause-answers : goal.returns-in_ok-tell_all-clause-answers
 returns-in_ok-tell_all-clause-answers g c =
-    let f = c.args.self.now.found in
-    answers_still f.given.mails.items c.tell_all.new.given.mails.items f.given.answered c.tell_all.new.given.answered
-    f.given.within c.in_ok-tell_all.ensures.answered c.in_ok-tell_all.ensures.ok.behind
+    let self = c.args.self.now in
+    let at = goal.at.returns-in_ok-tell_all-clause-answers g c in
+    answers_kept self.procedure self.found (after g at.In_ok-tell_all) _ c.in_ok-tell_all.ensures.answered
+    (gave g at.In_ok-tell_all (is_new g at.In_ok-at c.if-new.true) (is_last g at.In_ok-at c.if-new.true) (stands g at.In_ok-exit))
 
-pub returns-else-branch-clause-ok : goal.returns-else-branch-clause-ok
-returns-else-branch-clause-ok g c =
+pub returns-else-new-clause-ok : goal.returns-else-new-clause-ok
+returns-else-new-clause-ok g c =
     let self = c.args.self.now in
     let f = self.found in
     let e = c.args.edge in
     let es = g.S.PathSet.members self.edges in
-    let h = record f { pairs = c.insert.new.self } in
-    let known = is_known g (goal.at.returns-else-branch-clause-ok g c).In_ok-insert c.if-branch.false in
+    let h = record f { pairs = c.insert_full.new.self } in
+    let known = is_known g (goal.at.returns-else-new-clause-ok g c).In_ok-at c.if-new.false in
     let step = same_step self.graph.now self.procedure f h es known.0 refl refl in
     still_holds self.graph.now self.procedure f h es es step (λ t. t ≡ triple_of e) c.requires.holds
 
-pub returns-else-branch-clause-left : goal.returns-else-branch-clause-left
-returns-else-branch-clause-left g c = λ _.
+pub returns-else-new-clause-left : goal.returns-else-new-clause-left
+returns-else-new-clause-left g c = λ _.
     let f = c.args.self.now.found in
     let entry = c.args.edge.entry in
     let both = pair entry c.left-left.result in
-    let known = is_known g (goal.at.returns-else-branch-clause-left g c).In_ok-insert c.if-branch.false in
-    subst (λ b. Member b (under nat_eq f.exits.by_key entry)) c.left-left.ensures.number
-    ((c.requires.holds.1.pairs entry c.left-left.result).0 (found_is_in pair_eq same_pair both f.pairs.keys known.1))
+    let known = is_known g (goal.at.returns-else-new-clause-left g c).In_ok-at c.if-new.false in
+    subst (λ b. Member (pair entry b) c.insert_full.new.self.keys) c.left-left.ensures.number
+    (subst (Member both) (sym known.0) (found_is_in pair_eq same_pair both f.pairs.keys known.1))

@@ -1,10 +1,16 @@
-use Rattle.std.proofs.Common.{length, refl, sym, ap, ◌∙◌, subst, arith}
+use Rattle.std.proofs.Common.{◌≡◌, ℕ, [], length, map, refl, sym, ap, ◌∙◌, subst, arith}
 use Rattle.std.proofs.lemmas.Option.{none-some}
 use Rattle.language.specs.Lists.{Member}
+use Rattle.summaries.specs.declared.found.Found.{Found}
+use Rattle.summaries.specs.Found.{mail_of, calls_in, mails_in, IsEmpty}
 use Rattle.summaries.proofs.Mails.{answers_none}
 use Rattle.summaries.proofs.Stepping.{no_message, empty_grounded, empty_complete}
 use Rattle.summaries.proofs.Tabling.{quiet_table}
 use Rattle.summaries.proofs.table.Table.new.Goals as goal
+
+-- no message is given
+none_sent : {A : Type 0} (q : ℕ) (f : Found A) → IsEmpty f → mails_in q f ≡ []
+none_sent q f empty = ap (map (mail_of (calls_in f) f.pairs.keys q)) empty.given
 
 pub returns-clause-new : goal.returns-clause-new
 returns-clause-new g c =
@@ -20,7 +26,7 @@ returns-clause-new g c =
         many = λ is. absurd (none-some _ is);
       };
       nothing = no_message graph c.args.procedure found es empty none;
-      answered = answers_none found.given.mails.items found.given.answered empty.given;
+      answered = answers_none (mails_in c.args.procedure found) found.given.answered (none_sent c.args.procedure found empty);
       fault = refl;
     }
 
@@ -28,4 +34,4 @@ pub returns-clause-quiet : goal.returns-clause-quiet
 returns-clause-quiet g c =
     let new = returns-clause-new g c in
     let held = new.table.holds refl in
-    quiet_table g.S.PathSet.members _ held.0 held.1 c.new.ensures.pending (new.answered ∙ sym c.new.ensures.given)
+    quiet_table g.S.PathSet.members _ held.0 held.1 c.new.ensures.pending (new.answered ∙ sym (none_sent c.args.procedure c.new.result c.new.ensures))

@@ -1,6 +1,8 @@
-use Rattle.std.proofs.Common.{◌≡◌, ◌<◌, ◌^◌, [], sym, subst, take, length}
+use Rattle.std.proofs.Common.{◌≡◌, ◌<◌, ◌^◌, ℕ, [], sym, ◌∙◌, subst, length, arith}
 use Rattle.std.specs.Bool.{OnFalse}
-use Rattle.summaries.specs.declared.given.Given.{Given}
+use Rattle.std.proofs.lemmas.List.{length-map}
+use Rattle.summaries.specs.declared.found.Found.{Found}
+use Rattle.summaries.specs.Found.{mail_of, calls_in, mails_in, answers_in}
 use Rattle.summaries.proofs.Mails.{answers_few}
 use Rattle.summaries.proofs.Tabling.{quiet_table}
 use Rattle.summaries.proofs.table.Table.next.Goals as goal
@@ -11,22 +13,25 @@ returns-then-not-branch-clause-quiet g c =
     let step = c.in_ok-step.ensures in
     let held = step.keeps.table.holds step.keeps.fault in
     let none = subst (λ b. OnFalse b (t.found.pending.items ≡ [])) c.if-not-branch.true step.none in
-    let given = subst (λ b. OnFalse b (t.found.given ≡ c.answer.new.self.found.given)) c.if-not-branch.true step.given in
-    quiet_table g.S.PathSet.members t held.0 held.1 none
-    (subst (λ gv. take gv.answered gv.mails.items ≡ gv.mails.items) (sym given) c.in_default-answer.ensures.all)
+    let old = c.answer.new.self in
+    let given = subst (λ b. OnFalse b (mails_in t.procedure t.found ≡ mails_in old.procedure old.found)) c.if-not-branch.true step.given in
+    quiet_table g.S.PathSet.members t held.0 held.1 none (step.answers ∙ c.in_default-answer.ensures.all ∙ sym given)
 
 -- fewer than 2^64 messages are answered
-few : {A : Type 0} (gv : Given A) → length (take gv.answered gv.mails.items) < 2 ^ 64
-few gv = answers_few gv.mails.items gv.answered (2 ^ 64) gv.within gv.few
+few : {A : Type 0} (q : ℕ) (f : Found A) → length (answers_in q f) < 2 ^ 64
+few q f =
+    let long = length-map f.given.sent.items (mail_of (calls_in f) f.pairs.keys q) in
+    let within = f.given.within in
+    answers_few (mails_in q f) f.given.answered (2 ^ 64) (omega (arith, long, within)) f.given.few
 
 pub returns-in-Some-clause-few : goal.returns-in-Some-clause-few
-returns-in-Some-clause-few g c = few c.args.self.now.found.given
+returns-in-Some-clause-few g c = few c.args.self.now.procedure c.args.self.now.found
 
 pub returns-in-Some-answer-clause-few : goal.returns-in-Some-answer-clause-few
-returns-in-Some-answer-clause-few g c = few c.answer.new.self.found.given
+returns-in-Some-answer-clause-few g c = few c.answer.new.self.procedure c.answer.new.self.found
 
 pub returns-in_err-step-clause-few : goal.returns-in_err-step-clause-few
-returns-in_err-step-clause-few g c = few c.step.new.self.found.given
+returns-in_err-step-clause-few g c = few c.step.new.self.procedure c.step.new.self.found
 
 pub returns-then-not-branch-clause-few : goal.returns-then-not-branch-clause-few
-returns-then-not-branch-clause-few g c = few c.step.new.self.found.given
+returns-then-not-branch-clause-few g c = few c.step.new.self.procedure c.step.new.self.found

@@ -5,7 +5,7 @@ use Rattle.flow_graph.specs.Numbers.{GraphReaches}
 use Rattle.flow_graph.specs.Returns.{left_by}
 use Rattle.flow_graph.specs.declared.flow.Flow.TheVariants.{Call}
 use Rattle.summaries.specs.Under.{under}
-use Rattle.summaries.specs.Found.{call_eq, TookMessage, HasExit}
+use Rattle.summaries.specs.Found.{call_eq, pair, TookMessage, HasExit}
 use Rattle.summaries.specs.Grows.{triple_of, IsNext}
 use Rattle.summaries.proofs.Growing.{ok_err}
 use Rattle.summaries.proofs.Leading.{led_to, lead_only, lead_step, next_reached}
@@ -66,7 +66,7 @@ returns-in-Call-clause-worked g c =
     let here = subst (λ graph. slice_get graph.flows.items e.point ≡ Some (Call call)) same (c.flow.ensures ∙ ap Some c.in-Call.is) in
     let leaves : e.point ≡ 0 → HasExit last.found e.entry (left_by last.graph.now e.values) =
     λ is. subst (λ graph. HasExit last.found e.entry (left_by graph e.values)) same
-    (subst (λ x. Member (left_by new.graph.now e.values) (under nat_eq x.by_key e.entry)) (sym c.ask.ensures.exits) (was.left is)) in
+    (subst (λ x. Member (pair e.entry (left_by new.graph.now e.values)) x.keys) (sym c.ask.ensures.pairs) (was.left is)) in
     then_worked g.S.PathSet.members (λ t. t ≡ triple_of e) (λ t. ⊥) c.ask.result old new last was.stays was.fault was.answers
     (both_ok c.ask.result
     (λ holds site. (
