@@ -6,6 +6,7 @@ use Rattle.std.specs.Map.{lookup}
 use Rattle.path_sets.specs.declared.node.Node.{Node}
 use Rattle.path_sets.specs.declared.quad.Quad.{Quad}
 use Rattle.path_sets.specs.declared.rows.Row.{Row}
+use Rattle.path_sets.specs.declared.cell.Cell.{Cell}
 use Rattle.path_sets.specs.declared.place.Place.{Place}
 use Rattle.path_sets.specs.Masks.{bit_of}
 use Rattle.path_sets.specs.Triples.{Triple}
@@ -58,8 +59,8 @@ pub record Roots (old : List (Row × ℕ)) (row : Row) (number : ℕ) (new : Lis
 abbrev pub row_of : Place → Row
 row_of place = record { entry = place.entry; block = place.block }
 
--- a path edge of a row, by the valuations and the masks of these places
-abbrev pub InRun : Row → List (Place × ℕ) → Triple → Type 0
+-- a path edge of a row, by the valuations and the masks of these cells
+abbrev pub InRun : Row → List Cell → Triple → Type 0
 InRun row cells edge = (edge.entry ≡ row.entry) × (edge.point / 64 ≡ row.block) × Given cells 0 edge.values (edge.point % 64)
 
 -- whether a path edge is in the diagrams: its point is among those of its valuation

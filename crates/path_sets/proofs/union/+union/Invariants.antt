@@ -4,7 +4,7 @@ use Rattle.path_sets.specs.Quads.{AreInside, Given, KeepQuads, points_of, sees}
 use Rattle.path_sets.proofs.union.+union.Given as goal
 
 abbrev pub decreases-union : goal.decreases-union
-decreases-union g l = 32 - l.level
+decreases-union g l = 64 - l.level
 
 abbrev pub decreases-loop-left : goal.decreases-loop-left
 decreases-loop-left g l = length l.left
