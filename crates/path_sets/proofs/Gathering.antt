@@ -18,7 +18,6 @@ use Rattle.path_sets.specs.Masks.{bit_of, bits_below}
 use Rattle.path_sets.specs.Triples.{Triple}
 use Rattle.path_sets.specs.Edges.{edge_at, edges_in, edges}
 use Rattle.path_sets.specs.Diagrams.{InRun, TakesGiven, merged_has, row_of}
-use Rattle.path_sets.specs.Halves.{values_of}
 use Rattle.path_sets.specs.Cells.{AreCells, InCells, IsCellOf, row_at}
 use Rattle.path_sets.proofs.Taken.{takes_on, takes_of}
 use Rattle.path_sets.proofs.Masks.{bits_known, bits_hold}

@@ -2,6 +2,10 @@
 use Rattle.std.specs.Prelude.{◌≡◌, ◌+◌, ◌*◌, ◌/◌, ◌%◌, ◌^◌, ℕ}
 use Rattle.path_sets.specs.declared.cell.Cell.{Cell}
 
+-- how many levels a half has, two bits at each
+abbrev pub half_levels : ℕ
+half_levels = 32
+
 -- the valuation of a cell, of which it has the low 64 bits and those above
 abbrev pub values_of : Cell → ℕ
 values_of cell = cell.low + 2 ^ 64 * cell.high

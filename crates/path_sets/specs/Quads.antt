@@ -3,11 +3,16 @@ use Rattle.std.specs.Prelude.{◌≡◌, ◌≢◌, ◌+◌, ◌/◌, ◌%◌, �
 use Rattle.std.specs.Prelude.{List, Some, slice_get, length}
 use Rattle.std.specs.Option.{option_map_or}
 use Rattle.language.specs.Lists.{Member}
+use Rattle.language.specs.Words.{word_bits}
 use Rattle.path_sets.specs.declared.quad.Quad.{Quad}
 use Rattle.path_sets.specs.declared.cell.Cell.{Cell}
 use Rattle.path_sets.specs.Masks.{bit_of}
 use Rattle.path_sets.specs.Halves.{values_of}
 use Rattle.path_sets.specs.Walks.{node_at, IsNumber}
+
+-- how many levels there are, two bits of a valuation at each
+abbrev pub levels : ℕ
+levels = word_bits / 2
 
 -- the number that a valuation goes on to from a node, by its two low bits
 abbrev pub turn : Quad → ℕ → ℕ

@@ -1,11 +1,11 @@
 //! Places as they go into the diagrams: the index of a row, and a valuation in two halves.
 
-ghost use Rattle.std.specs.Prelude.{◌≡◌, ◌≤◌, ◌<◌, ◌/◌, ◌^◌, Some, length, slice_get, IfSome, IsNone};
-ghost use Rattle.path_sets.specs.Halves.{GoesOn, values_of};
+ghost use Rattle.std.specs.Prelude.{◌≡◌, ◌*◌, ◌≤◌, ◌<◌, ◌/◌, ◌^◌, Some, length, slice_get, IfSome, IsNone};
+ghost use Rattle.path_sets.specs.Halves.{GoesOn, half_levels, values_of};
 
 use language::Word;
 
-/// How many levels a half of a valuation has, with two bits at each.
+/// How many levels a half of a valuation has, two bits at each, which `specs/Halves.antt` has for contracts.
 const HALF: u8 = 32;
 
 /// The index of a place's row, the low 64 bits of its valuation and those above, and the mask of its points.
@@ -42,10 +42,10 @@ pub(crate) fn cell_at(cells: &[Cell], at: usize) -> Cell
 
 /// The two bits that a cell's valuation goes on by at a level; `None` where nothing is left of it.
 pub(crate) fn way(cell: &Cell, level: u8) -> Option<u8>
-    requires { level ≤ 64 }
+    requires { level ≤ 2 * half_levels }
     ensures some { IfSome result (λ w. GoesOn (values_of cell.now) level w) }
     ensures none { IsNone result → values_of cell.now / 4 ^ level ≡ 0 }
-    ensures level { IfSome result (λ w. level < 64) }
+    ensures level { IfSome result (λ w. level < 2 * half_levels) }
 {
     if level < HALF {
         let rest = cell.low >> (2 * level);

@@ -2,6 +2,7 @@
 
 ghost use Rattle.std.specs.Prelude.{◌≡◌, ℕ, ◌+◌, ◌*◌, ◌<◌, ◌/◌, ◌%◌, ◌^◌, ◌⊎◌, true, false, IfOk};
 ghost use Rattle.std.specs.Prelude.{Some, slice_get, OnOk};
+ghost use Rattle.language.specs.Words.{word_bits};
 ghost use Rattle.path_sets.specs.Suffixes.{HasNodes};
 ghost use Rattle.std.proofs.lemmas.Map.Keys.{IsDistinct-prop};
 ghost use Rattle.indexmap.specs.IndexMap.{IsUnique, index_map_len, keys};
@@ -114,8 +115,8 @@ impl<A: Allocator + Copy> Merged<A> {
     pub(crate) fn count(&self, row: &Row, bit: usize) -> Result<u64, AllocError>
         requires { bit < 64 }
         ensures { IfOk result
-            (HasNodes 64
-            (λ v. (v < 2 ^ 64) × (merged_has self.now.nodes.kept.keys self.now.rows.entries
+            (HasNodes word_bits
+            (λ v. (v < 2 ^ word_bits) × (merged_has self.now.nodes.kept.keys self.now.rows.entries
             (triple row.now.entry (64 * row.now.block + bit) v) ≡ true))) }
     {
         let (nodes, number) = binary(&self.nodes, root(&self.rows, self.last, row), bit)?;

@@ -1,9 +1,9 @@
 //! The points of cells put into a diagram, many at a time.
 
-ghost use Rattle.std.specs.Prelude.{◌≡◌, ℕ, ◌<◌, ◌≤◌, IfOk, length, Some, slice_get};
+ghost use Rattle.std.specs.Prelude.{◌≡◌, ℕ, ◌*◌, ◌<◌, ◌≤◌, IfOk, length, Some, slice_get};
 ghost use Rattle.path_sets.specs.declared.cell.Cell.{Cell};
 ghost use Rattle.path_sets.specs.Walks.{IsNumber};
-ghost use Rattle.path_sets.specs.Halves.{GoesOn, values_of};
+ghost use Rattle.path_sets.specs.Halves.{GoesOn, half_levels, values_of};
 ghost use Rattle.path_sets.specs.Quads.{Joins, KeepQuads, points_of};
 
 use crate::cell::{Cell, cell_at, way};
@@ -16,7 +16,7 @@ use std::alloc::{AllocError, Allocator};
 /// first does.
 fn run_of(cells: &[Cell], level: u8, two: u8) -> usize
     requires some { 0 < length cells.now }
-    requires level { level ≤ 64 }
+    requires level { level ≤ 2 * half_levels }
     ensures within { result ≤ length cells.now }
     ensures some { 0 < result }
     ensures all { (i : ℕ) (c : Cell) → 0 < i → i < result → slice_get cells.now i ≡ Some c
@@ -40,7 +40,7 @@ pub(crate) fn union<A: Allocator + Copy>(
     number: u32,
     level: u8,
 ) -> Result<u32, AllocError>
-    requires level { level ≤ 64 }
+    requires level { level ≤ 2 * half_levels }
     requires inside { IsNumber nodes.old.kept.keys number }
     ensures keeps { KeepQuads nodes.old.kept.keys nodes.new.kept.keys }
     ensures inside { IfOk result (λ r. IsNumber nodes.new.kept.keys r) }

@@ -2,8 +2,6 @@ use Rattle.std.proofs.Common.{◌≡◌, ℕ, ◌+◌, List, ◌++◌, ◌∷◌
 use Rattle.std.proofs.lemmas.List.{take_more}
 use Rattle.std.proofs.lemmas.Option.{get_or_from_slice_get, slice_get_within}
 use Rattle.indexmap.specs.IndexMap.{keys}
-use Rattle.path_sets.specs.declared.cell.Cell.{Cell}
-use Rattle.path_sets.specs.declared.place.Place.{Place}
 use Rattle.path_sets.specs.Cells.{AreCells}
 use Rattle.path_sets.proofs.Gathering.{one_more}
 use Rattle.path_sets.proofs.gathered.cells_of.Goals as goal

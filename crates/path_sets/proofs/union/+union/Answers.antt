@@ -1,13 +1,12 @@
-use Rattle.std.proofs.Common.{◌≡◌, ℕ, ◌+◌, ◌/◌, ◌%◌, ◌^◌, true, ◌⊎◌, ◌↔◌, ◌∷◌, ◌++◌}
+use Rattle.std.proofs.Common.{◌≡◌, ℕ, ◌+◌, ◌/◌, ◌^◌, true, ◌⊎◌, ◌↔◌, ◌∷◌, ◌++◌}
 use Rattle.std.proofs.Common.{sym, ap, ◌∙◌, subst, length, refl}
 use Rattle.std.proofs.lemmas.Bool.{eqb-true}
 use Rattle.language.specs.Lists.{Member}
 use Rattle.path_sets.specs.declared.cell.Cell.{Cell}
 use Rattle.path_sets.specs.Masks.{bit_of}
-use Rattle.path_sets.specs.Walks.{IsNumber}
 use Rattle.path_sets.specs.Halves.{GoesOn, values_of}
 use Rattle.path_sets.specs.Quads.{Given, Joins, points_of, sees}
-use Rattle.path_sets.proofs.TwoBits.{keeps_on, stays_inside, turn_inside}
+use Rattle.path_sets.proofs.TwoBits.{keeps_on, stays_inside}
 use Rattle.path_sets.proofs.Unions.{all_alike, all_put, first_and_rest, goes_on, iff_on, led_inside, of_ok, stops}
 use Rattle.path_sets.proofs.union.+union.Goals as goal
 

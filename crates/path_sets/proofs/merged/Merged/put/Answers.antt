@@ -1,4 +1,4 @@
-use Rattle.std.proofs.Common.{◌≡◌, sym, ap, subst}
+use Rattle.std.proofs.Common.{sym, subst}
 use Rattle.path_sets.specs.Walks.{IsNumber}
 use Rattle.path_sets.specs.Quads.{Joins, points_of}
 use Rattle.path_sets.proofs.Rooted.{row_there}
