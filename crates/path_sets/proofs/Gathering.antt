@@ -6,6 +6,7 @@ use Rattle.std.specs.Prelude.{Result, Ok, Err, OnOk, IsPermutation}
 use Rattle.std.specs.List.{Contains}
 use Rattle.std.specs.Map.{keys_of}
 use Rattle.std.proofs.lemmas.Bool.{cases_eq}
+use Rattle.std.proofs.lemmas.List.{take_more}
 use Rattle.std.proofs.lemmas.List.Sorted.{Contains-permutation, IsPermutation-sym}
 use Rattle.std.proofs.lemmas.Option.{get_or_from_slice_get, same_Some, slice_get-get_or, slice_get_within}
 use Rattle.language.specs.Lists.{Member}
@@ -128,7 +129,7 @@ cells_within rs gs cs are c there = let (p, m, is) = are.no_more c there in row_
 module _ (ks ls : List Row) (gs : Groups) (cs : List Cell) (p : Place × ℕ) (c : Cell)
     (stay : (i : ℕ) (row : Row) → slice_get ks i ≡ Some row → slice_get ls i ≡ Some row) (are : AreCells ks gs cs)
     (is : IsCellOf ls p c) where
-  pub one_more : AreCells ls (gs ++ p ∷ []) (cs ++ c ∷ [])
+  one_more : AreCells ls (gs ++ p ∷ []) (cs ++ c ∷ [])
   one_more = record {
     each = λ q there. elim (member_append q gs (p ∷ []) there) [
       | inl was ↦ let (d, m, own) = are.each q was in (d, member_left d cs (c ∷ []) m, (stay d.row (row_of q.0) own.0, own.1, own.2))
@@ -145,6 +146,23 @@ module _ (ks ls : List Row) (gs : Groups) (cs : List Cell) (p : Place × ℕ) (c
       ]
     ];
   }
+
+-- the first items of a list, with the next one
+next_item : {A : Type 0} (xs : List A) (i : ℕ) (x : A) → slice_get xs i ≡ Some x → take i xs ++ x ∷ [] ≡ take (i + 1) xs
+next_item xs i x at =
+    ap (λ y. take i xs ++ y ∷ []) (sym (get_or_from_slice_get xs i x x at)) ∙ sym (take_more xs i x (slice_get_within xs i x at))
+
+-- the cells of the first places, with that of the next one
+pub next_cell : (ks ls : List Row) (gs : Groups) (i : ℕ) (cs ds : List Cell) (p : Place × ℕ) (c : Cell)
+    → slice_get gs i ≡ Some p
+    → ds ≡ cs ++ c ∷ []
+    → ((k : ℕ) (row : Row) → slice_get ks k ≡ Some row → slice_get ls k ≡ Some row)
+    → AreCells ks (take i gs) cs
+    → IsCellOf ls p c
+    → AreCells ls (take (i + 1) gs) ds
+next_cell ks ls gs i cs ds p c at more stay are is =
+    subst (λ xs. AreCells ls xs ds) (next_item gs i p at)
+    (subst (AreCells ls (take i gs ++ p ∷ [])) (sym more) (one_more ks ls (take i gs) cs p c stay are is))
 
 -- cells of which the first is of a row, and those behind it too, are of that row
 pub of_row : (left : List Cell) (n : ℕ) (first : Cell) → slice_get left 0 ≡ Some first

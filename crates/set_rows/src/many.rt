@@ -27,8 +27,8 @@ fn scattered(shape: Shape, number: u64) -> (Word, usize, Word) {
     };
     let point = (mixed >> 40).checked_rem(shape.points).unwrap_or(0);
     let turns = number.checked_div(shape.turn).unwrap_or(0);
-    let entry = turns << 3 | mixed >> 61;
-    (entry as Word, point as usize, kept as Word)
+    let entry = (turns as Word) << 3 | (mixed >> 61) as Word;
+    (entry, point as usize, kept as Word)
 }
 
 /// Whether two sets have as many members, and the same of the edges of the numbers below this one.
