@@ -2,6 +2,7 @@
 use Rattle.std.proofs.Common.{◌≡◌, ℕ, ◌+◌, ◌*◌, ◌/◌, ◌%◌, ◌^◌, ◌<◌, true, ◌↔◌, inl, inr, List, [], ◌∷◌, sym, ap, ◌∙◌, subst, arith}
 use Rattle.std.specs.Prelude.{Result, IfOk}
 use Rattle.language.specs.Lists.{Member}
+use Rattle.language.specs.Words.{word_bits}
 use Rattle.path_sets.specs.declared.node.Node.{Node}
 use Rattle.path_sets.specs.declared.quad.Quad.{Quad}
 use Rattle.path_sets.specs.declared.place.Place.{Place}
@@ -60,30 +61,30 @@ bit_at_point ns rs e b i v small =
 pub point_nodes : (qs : List Quad) (rs : List (Row × ℕ)) (e b i root : ℕ) (ns : List Node) (n : ℕ) {E : Type 0} (r : Result ℕ E)
     → i < 64
     → root ≡ root_of rs e b
-    → ((v : ℕ) → v < 2 ^ 64 → accepts ns n v ≡ bit_of (points_of qs root v) i)
-    → IfOk r (HasNodes 64 (λ v. (v < 2 ^ 64) × (accepts ns n v ≡ true)))
-    → IfOk r (HasNodes 64 (λ v. (v < 2 ^ 64) × (merged_has qs rs (triple e (64 * b + i) v) ≡ true)))
+    → ((v : ℕ) → v < 2 ^ word_bits → accepts ns n v ≡ bit_of (points_of qs root v) i)
+    → IfOk r (HasNodes word_bits (λ v. (v < 2 ^ word_bits) × (accepts ns n v ≡ true)))
+    → IfOk r (HasNodes word_bits (λ v. (v < 2 ^ word_bits) × (merged_has qs rs (triple e (64 * b + i) v) ≡ true)))
 point_nodes qs rs e b i root ns n r small at same has =
-    of_ok (HasNodes 64 S) (HasNodes 64 T) r
-    (λ k. alike_nodes 64 k S T (λ v. (λ h. (h.0, is v h.0 ∙ h.1), λ h. (h.0, sym (is v h.0) ∙ h.1)))) has
+    of_ok (HasNodes word_bits S) (HasNodes word_bits T) r
+    (λ k. alike_nodes word_bits k S T (λ v. (λ h. (h.0, is v h.0 ∙ h.1), λ h. (h.0, sym (is v h.0) ∙ h.1)))) has
   where
     S : ℕ → Type 0
-    S v = (v < 2 ^ 64) × (accepts ns n v ≡ true)
+    S v = (v < 2 ^ word_bits) × (accepts ns n v ≡ true)
 
     T : ℕ → Type 0
-    T v = (v < 2 ^ 64) × (merged_has qs rs (triple e (64 * b + i) v) ≡ true)
+    T v = (v < 2 ^ word_bits) × (merged_has qs rs (triple e (64 * b + i) v) ≡ true)
 
-    is : (v : ℕ) → v < 2 ^ 64 → merged_has qs rs (triple e (64 * b + i) v) ≡ accepts ns n v
+    is : (v : ℕ) → v < 2 ^ word_bits → merged_has qs rs (triple e (64 * b + i) v) ≡ accepts ns n v
     is v less = bit_at_point qs rs e b i v small ∙ ap (λ k. bit_of (points_of qs k v) i) (sym at) ∙ sym (same v less)
 
-module _ (ns ms os : List Quad) (rs ss ts : List (Row × ℕ)) (masks : List (Place × ℕ)) (e p : ℕ) (entry : e < 2 ^ 64)
+module _ (ns ms os : List Quad) (rs ss ts : List (Row × ℕ)) (masks : List (Place × ℕ)) (e p : ℕ) (entry : e < 2 ^ word_bits)
     (point : p < 2 ^ 64)
     (alone : (v : ℕ) → merged_has ms ss (triple e p v) ≡ merged_has ns rs (triple e p v))
     (takes : TakesGiven (λ t. Member t (edges masks)) ms os ss ts)
     (all : (t : Triple) → Member t (edges masks) → merged_has os ts t ≡ true) where
   -- a point's set alone, with what is gathered put in, has the members at that point
   members_there : (v : ℕ)
-      → ((v < 2 ^ 64) × (merged_has os ts (triple e p v) ≡ true)) ↔ Member (triple e p v) (all_edges ns rs masks)
+      → ((v < 2 ^ word_bits) × (merged_has os ts (triple e p v) ≡ true)) ↔ Member (triple e p v) (all_edges ns rs masks)
   members_there v = (
     λ h.
         let fits : Fits (triple e p v) = record { entry = entry; point = point; values = h.0 } in
@@ -103,7 +104,7 @@ module _ (ns ms os : List Quad) (rs ss ts : List (Row × ℕ)) (masks : List (Pl
 
 -- so the diagram there is that of the members
 pub member_nodes : (ns ms os : List Quad) (rs ss ts : List (Row × ℕ)) (masks : List (Place × ℕ)) (place : Place)
-    (i e p v : ℕ) {E : Type 0} (r : Result ℕ E) → e < 2 ^ 64
+    (i e p v : ℕ) {E : Type 0} (r : Result ℕ E) → e < 2 ^ word_bits
     → p < 2 ^ 64
     → i < 64
     → edge_at place i ≡ triple e p v
@@ -111,15 +112,15 @@ pub member_nodes : (ns ms os : List Quad) (rs ss ts : List (Row × ℕ)) (masks 
     → merged_has ms ss (triple e (64 * place.block + j) v) ≡ merged_has ns rs (triple e (64 * place.block + j) v))
     → TakesGiven (λ t. Member t (edges masks)) ms os ss ts
     → ((t : Triple) → Member t (edges masks) → merged_has os ts t ≡ true)
-    → IfOk r (HasNodes 64 (λ v. (v < 2 ^ 64) × (merged_has os ts (triple e (64 * place.block + i) v) ≡ true)))
-    → IfOk r (HasNodes 64 (λ v. Member (triple e p v) (all_edges ns rs masks)))
+    → IfOk r (HasNodes word_bits (λ v. (v < 2 ^ word_bits) × (merged_has os ts (triple e (64 * place.block + i) v) ≡ true)))
+    → IfOk r (HasNodes word_bits (λ v. Member (triple e p v) (all_edges ns rs masks)))
 member_nodes ns ms os rs ss ts masks place i e p v r entry point small at alone takes all has =
-    of_ok (HasNodes 64 S) (HasNodes 64 T) r
-    (λ n. alike_nodes 64 n S T (members_there ns ms os rs ss ts masks e p entry point alone' takes all))
-    (subst (λ q. IfOk r (HasNodes 64 (λ v. (v < 2 ^ 64) × (merged_has os ts (triple e q v) ≡ true)))) there has)
+    of_ok (HasNodes word_bits S) (HasNodes word_bits T) r
+    (λ n. alike_nodes word_bits n S T (members_there ns ms os rs ss ts masks e p entry point alone' takes all))
+    (subst (λ q. IfOk r (HasNodes word_bits (λ v. (v < 2 ^ word_bits) × (merged_has os ts (triple e q v) ≡ true)))) there has)
   where
     S : ℕ → Type 0
-    S v = (v < 2 ^ 64) × (merged_has os ts (triple e p v) ≡ true)
+    S v = (v < 2 ^ word_bits) × (merged_has os ts (triple e p v) ≡ true)
 
     T : ℕ → Type 0
     T v = Member (triple e p v) (all_edges ns rs masks)

@@ -5,6 +5,7 @@ use Rattle.std.proofs.Common.{true≢false}
 use Rattle.std.specs.Option.{option_map_or}
 use Rattle.std.proofs.lemmas.Bool.{ltb-true, ltb-false, cases_lt}
 use Rattle.std.proofs.lemmas.Option.{slice_get_cases}
+use Rattle.language.specs.Words.{word_bits}
 use Rattle.path_sets.specs.declared.node.Node.{Node}
 use Rattle.path_sets.specs.Masks.{bit_of}
 use Rattle.path_sets.specs.Walks.{IsNumber, node_at}
@@ -17,14 +18,14 @@ use Rattle.path_sets.proofs.Shifted.{with_bit, bit_here, bits_same}
 module _ (ns : List Node) where
   -- the level of a number with a node is that node's
   pub level_is : (n : ℕ) (x : Node) → node_at ns n ≡ Some x → level_of ns n ≡ x.level
-  level_is n x h = ap (λ o. option_map_or (λ (y : Node). y.level) o 64) h
+  level_is n x h = ap (λ o. option_map_or (λ (y : Node). y.level) o word_bits) h
 
   -- a number has a node, or it is 0 or 1, whose level is behind the last
-  pub kind : (n : ℕ) → IsNumber ns n → ((x : Node) × (node_at ns n ≡ Some x)) ⊎ ((n ≤ 1) × (level_of ns n ≡ 64))
+  pub kind : (n : ℕ) → IsNumber ns n → ((x : Node) × (node_at ns n ≡ Some x)) ⊎ ((n ≤ 1) × (level_of ns n ≡ word_bits))
   kind n inside = by (nat_lt n 2) refl
     where
       by : (b : Bool) → nat_lt n 2 ≡ b → ((x : Node) × (cond b None (slice_get ns (n - 2)) ≡ Some x))
-          ⊎ ((n ≤ 1) × (option_map_or (λ (y : Node). y.level) (cond b None (slice_get ns (n - 2))) 64 ≡ 64))
+          ⊎ ((n ≤ 1) × (option_map_or (λ (y : Node). y.level) (cond b None (slice_get ns (n - 2))) word_bits ≡ word_bits))
       by true e = let less = ltb-true n 2 e in inr (omega (arith, less), refl)
       by false e =
           let least = ltb-false n 2 e in
@@ -44,14 +45,14 @@ module _ (ns : List Node) (down : GoDown ns) (ordered : AreOrdered ns) where
       let big = k.0 in
       by b big d o
     where
-      by : (b : Bool) → 1 < n → (x.level < 64) × (x.low < n - 2 + 2) × (x.high < n - 2 + 2)
+      by : (b : Bool) → 1 < n → (x.level < word_bits) × (x.low < n - 2 + 2) × (x.high < n - 2 + 2)
           → (x.level < level_of ns x.low) × (x.level < level_of ns x.high)
           → (x.level < level_of ns (cond b x.high x.low)) × IsNumber ns (cond b x.high x.low) × (cond b x.high x.low < n)
       by true big d o = (o.1, omega (arith, d, big, inside), omega (arith, d, big))
       by false big d o = (o.0, omega (arith, d, big, inside), omega (arith, d, big))
 
   -- a set depends on no bit in front of its number's level
-  within' : (f n v w : ℕ) → n ≤ f → IsNumber ns n → ((i : ℕ) → level_of ns n ≤ i → i < 64 → bit_of v i ≡ bit_of w i)
+  within' : (f n v w : ℕ) → n ≤ f → IsNumber ns n → ((i : ℕ) → level_of ns n ≤ i → i < word_bits → bit_of v i ≡ bit_of w i)
       → accepts ns n v ≡ accepts ns n w
   within' zero n v w fits inside same = at_leaf child ns n v (omega (arith, fits)) ∙ sym (at_leaf child ns n w (omega (arith, fits)))
   within' (suc f) n v w fits inside same = elim (kind ns n inside) [
@@ -67,7 +68,7 @@ module _ (ns : List Node) (down : GoDown ns) (ordered : AreOrdered ns) where
         ∙ sym (goes_on child ns (descends ns down) n w x at)
   ]
 
-  pub within : (n v w : ℕ) → IsNumber ns n → ((i : ℕ) → level_of ns n ≤ i → i < 64 → bit_of v i ≡ bit_of w i)
+  pub within : (n v w : ℕ) → IsNumber ns n → ((i : ℕ) → level_of ns n ≤ i → i < word_bits → bit_of v i ≡ bit_of w i)
       → accepts ns n v ≡ accepts ns n w
   within n v w = within' n n v w (omega arith)
 

@@ -3,6 +3,7 @@ use Rattle.std.proofs.Common.{◌≡◌, ℕ, suc, ◌+◌, ◌-◌, ◌*◌, �
 use Rattle.std.proofs.Common.{List, [], ◌∷◌, Some, length, get_or, refl, sym, ap, ◌∙◌, subst, arith}
 use Rattle.std.proofs.lemmas.Bool.{cases_lt}
 use Rattle.language.specs.Lists.{Member, NoneTwice}
+use Rattle.language.specs.Words.{word_bits}
 use Rattle.path_sets.specs.declared.node.Node.{Node}
 use Rattle.path_sets.specs.Walks.{IsNumber, node_at}
 use Rattle.path_sets.specs.Diagrams.{AreOrdered, AreReduced, GoDown, level_of}
@@ -15,7 +16,7 @@ use Rattle.path_sets.proofs.Marked.{Marked}
 
 module _ (ns : List Node) (down : GoDown ns) (ordered : AreOrdered ns) (reduced : AreReduced ns) (once : StandOnce ns) (root : ℕ) where
   -- no level is behind the last
-  level_most : (n : ℕ) → IsNumber ns n → level_of ns n ≤ 64
+  level_most : (n : ℕ) → IsNumber ns n → level_of ns n ≤ word_bits
   level_most n inside = elim (kind ns n inside) [
     | inr (_, far) ↦ omega (arith, far)
     | inl (x, at) ↦
@@ -90,7 +91,7 @@ module _ (ns : List Node) (down : GoDown ns) (ordered : AreOrdered ns) (reduced 
       (subst (λ q. Leads ns root (x.level + 1) q x.low) zero_on low) (subst (λ q. Leads ns root (x.level + 1) q x.high) one_on high) same)
 
   -- where a number's level is a later one, they do not depend on this bit
-  depends_not : (l p n : ℕ) → l < 64 → Leads ns root l p n → l < level_of ns n → Depends (Word ns root down ordered) l p → ⊥
+  depends_not : (l p n : ℕ) → l < word_bits → Leads ns root l p n → l < level_of ns n → Depends (Word ns root down ordered) l p → ⊥
   depends_not l p n early leads later depends =
       let zero_on : p + 0 * 2 ^ l ≡ p = omega arith in
       let one_on : p + 1 * 2 ^ l ≡ p + 2 ^ l = omega arith in
@@ -105,7 +106,7 @@ module _ (ns : List Node) (down : GoDown ns) (ordered : AreOrdered ns) (reduced 
     abbrev S : ℕ → Type 0
     S = Word ns root down ordered
 
-    each_is : (y : Prefix) → Member y prefixes → (y.level < 64) × (y.bits < 2 ^ y.level) × Depends S y.level y.bits
+    each_is : (y : Prefix) → Member y prefixes → (y.level < word_bits) × (y.bits < 2 ^ y.level) × Depends S y.level y.bits
     each_is y m =
         let (n, in_found, level, leads) = named.each y m in
         let inner = ((all n).0 in_found).1 in
@@ -120,7 +121,7 @@ module _ (ns : List Node) (down : GoDown ns) (ordered : AreOrdered ns) (reduced 
               )
         ]
 
-    all_are : (level p : ℕ) → level < 64 → p < 2 ^ level → Depends S level p
+    all_are : (level p : ℕ) → level < word_bits → p < 2 ^ level → Depends S level p
         → (q : ℕ) × Member (prefix level q) prefixes × SameSuffixes S level p q
     all_are level p early short depends =
         let (n, among, leads) = led ns root down ordered (λ m. get_or marks m false ≡ true) inside is.first
@@ -144,12 +145,12 @@ module _ (ns : List Node) (down : GoDown ns) (ordered : AreOrdered ns) (reduced 
               ]
         ]
 
-    are_nodes : AreNodes 64 S prefixes
+    are_nodes : AreNodes word_bits S prefixes
     are_nodes = record { each = each_is; all = all_are; apart = named.apart }
 
   -- what is marked and counted down to 1 is the diagram
   pub all_counted : (marks : List Bool) (at count : ℕ) → IsNumber ns root → Marked ns down ordered root marks at count → at ≤ 1
-      → HasNodes 64 (Word ns root down ordered) count
+      → HasNodes word_bits (Word ns root down ordered) count
   all_counted marks at count inside is end =
       let (found, none_twice, count_is, all) = is.counted in
       let (ps, named) = name_all found none_twice (λ n m. (is.led n ((all n).0 m).2).1) in

@@ -13,7 +13,7 @@ use Rattle.path_sets.specs.Edges.{edge_at, edges_in, edges, place_eq}
 use Rattle.path_sets.specs.Inserts.{Inserts}
 use Rattle.path_sets.specs.Masks.{bits_below}
 use Rattle.path_sets.proofs.Inserted.{behind, before, mapped}
-use Rattle.path_sets.proofs.Places.{same_place, eq_place, own_edge}
+use Rattle.path_sets.proofs.Places.{eq_place, own_edge}
 
 -- the places, each with its mask
 abbrev pub Groups : Type 0

@@ -3,6 +3,7 @@ use Rattle.std.proofs.Common.{◌≡◌, ℕ, zero, suc, ◌+◌, ◌-◌, ◌*�
 use Rattle.std.proofs.Common.{inl, inr, List, Some, sym, ap, ◌∙◌, subst, arith}
 use Rattle.std.proofs.lemmas.Bool.{cases_lt}
 use Rattle.std.proofs.lemmas.Nat.{pow_pos, pow-add, mul-add-lt, shr_split, shr_high, shr_below, mod_below, div_below}
+use Rattle.language.specs.Words.{word_bits}
 use Rattle.path_sets.specs.declared.node.Node.{Node}
 use Rattle.path_sets.specs.Walks.{IsNumber, node_at}
 use Rattle.path_sets.specs.Diagrams.{accepts, AreOrdered, AreReduced, GoDown, level_of}
@@ -110,7 +111,7 @@ module _ (ns : List Node) (root : ℕ) where
     -- numbers among which the root is, and with each node its children
     module _ (Among : ℕ → Type 0) (inside : IsNumber ns root) (first : Among root)
         (closed : (n : ℕ) (x : Node) → Among n → node_at ns n ≡ Some x → (b : Bool) → Among (cond b x.high x.low)) where
-      next : (l p : ℕ) → ((n : ℕ) × Among n × Leads l p n) → l < 64 → (b : ℕ) → b < 2
+      next : (l p : ℕ) → ((n : ℕ) × Among n × Leads l p n) → l < word_bits → (b : ℕ) → b < 2
           → (m : ℕ) × Among m × Leads (l + 1) (p + b * 2 ^ l) m
       next l p (n, among, leads) early b small = elim (cases_lt l (level_of ns n)) [
         | inl later ↦ (n, among, to_same l p n leads later b small)
@@ -130,7 +131,7 @@ module _ (ns : List Node) (root : ℕ) where
       ]
 
       -- have one to which each prefix leads
-      pub led : (l p : ℕ) → l ≤ 64 → p < 2 ^ l → (n : ℕ) × Among n × Leads l p n
+      pub led : (l p : ℕ) → l ≤ word_bits → p < 2 ^ l → (n : ℕ) × Among n × Leads l p n
       led zero p most short =
           let none : 0 ≡ p = omega (arith, short) in (root, first, subst (λ q. Leads 0 q root) none (leads_first inside))
       led (suc l) p most short =
@@ -145,34 +146,34 @@ module _ (ns : List Node) (root : ℕ) where
 
     -- the words in the set of the root
     abbrev pub Word : ℕ → Type 0
-    Word v = (v < 2 ^ 64) × (accepts ns root v ≡ true)
+    Word v = (v < 2 ^ word_bits) × (accepts ns root v ≡ true)
 
-    carried : (l p q n u : ℕ) → l ≤ 64 → Leads l p n → Leads l q n → Word (p + u * 2 ^ l) → Word (q + u * 2 ^ l)
+    carried : (l p q n u : ℕ) → l ≤ word_bits → Leads l p n → Leads l q n → Word (p + u * 2 ^ l) → Word (q + u * 2 ^ l)
     carried l p q n u most a b (fits, in_set) = (
-      fits_from 64 l q u most b.short (fits_to 64 l p u most a.short fits),
+      fits_from word_bits l q u most b.short (fits_to word_bits l p u most a.short fits),
       b.same u ∙ sym (a.same u) ∙ in_set,
     )
 
     -- prefixes that lead to one number have the same suffixes
-    pub same_suffixes : (l p q n : ℕ) → l ≤ 64 → Leads l p n → Leads l q n → SameSuffixes Word l p q
+    pub same_suffixes : (l p q n : ℕ) → l ≤ word_bits → Leads l p n → Leads l q n → SameSuffixes Word l p q
     same_suffixes l p q n most a b u = (carried l p q n u most a b, carried l q p n u most b a)
 
     -- and prefixes that have the same suffixes lead to one number
-    pub one_number : AreReduced ns → StandOnce ns → (l p q n m : ℕ) → l ≤ 64 → Leads l p n → Leads l q m
+    pub one_number : AreReduced ns → StandOnce ns → (l p q n m : ℕ) → l ≤ word_bits → Leads l p n → Leads l q m
         → SameSuffixes Word l p q
         → n ≡ m
     one_number reduced once l p q n m most a b same = canonical ns down ordered reduced once n m a.inside b.inside agree
       where
         agree : (v : ℕ) → accepts ns n v ≡ accepts ns m v
         agree v =
-            let u = v / 2 ^ l % 2 ^ (64 - l) in
-            let small = mod_below (v / 2 ^ l) (2 ^ (64 - l)) (pow_pos (64 - l)) in
+            let u = v / 2 ^ l % 2 ^ (word_bits - l) in
+            let small = mod_below (v / 2 ^ l) (2 ^ (word_bits - l)) (pow_pos (word_bits - l)) in
             let deep = a.deep in
             let deep' = b.deep in
-            within ns down ordered n v (u * 2 ^ l) a.inside (λ i least less. sym (bits_within v l 64 i (omega (arith, deep, least)) less))
+            within ns down ordered n v (u * 2 ^ l) a.inside (λ i least less. sym (bits_within v l word_bits i (omega (arith, deep, least)) less))
             ∙ sym (a.same u)
             ∙ same_test (accepts ns root (p + u * 2 ^ l)) (accepts ns root (q + u * 2 ^ l))
-            (λ h. ((same u).0 (fits_from 64 l p u most a.short small, h)).1)
-            (λ h. ((same u).1 (fits_from 64 l q u most b.short small, h)).1)
+            (λ h. ((same u).0 (fits_from word_bits l p u most a.short small, h)).1)
+            (λ h. ((same u).1 (fits_from word_bits l q u most b.short small, h)).1)
             ∙ b.same u
-            ∙ within ns down ordered m (u * 2 ^ l) v b.inside (λ i least less. bits_within v l 64 i (omega (arith, deep', least)) less)
+            ∙ within ns down ordered m (u * 2 ^ l) v b.inside (λ i least less. bits_within v l word_bits i (omega (arith, deep', least)) less)

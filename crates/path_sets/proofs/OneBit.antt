@@ -1,6 +1,7 @@
 -- Nodes that test one bit, and one more of them.
 use Rattle.std.proofs.Common.{◌≡◌, ◌≢◌, ℕ, ◌+◌, ◌<◌, Bool, true, false, cond, List, [], ◌∷◌, ◌++◌}
 use Rattle.std.proofs.Common.{Some, slice_get, sym, ◌∙◌, subst, refl, arith, inl, inr}
+use Rattle.language.specs.Words.{word_bits}
 use Rattle.path_sets.specs.declared.node.Node.{Node}
 use Rattle.path_sets.specs.Masks.{bit_of}
 use Rattle.path_sets.specs.Walks.{Descends, IsGrown, IsNumber}
@@ -15,12 +16,12 @@ descends ns down i v x h = by (bit_of v x.level)
     by true = let d = down i x h in omega (arith, d)
     by false = let d = down i x h in omega (arith, d)
 
-module _ (ns : List Node) (down : GoDown ns) (x : Node) (small : x.level < 64) (low : IsNumber ns x.low) (high : IsNumber ns x.high) where
+module _ (ns : List Node) (down : GoDown ns) (x : Node) (small : x.level < word_bits) (low : IsNumber ns x.low) (high : IsNumber ns x.high) where
   -- children of the nodes that there are come before the new one
   down_more : GoDown (ns ++ x ∷ [])
   down_more i y h = elim (got_from ns x y i h) [
     | inl (less, was) ↦ down i y was
-    | inr (at, is) ↦ subst (λ (z : Node). (z.level < 64) × (z.low < i + 2) × (z.high < i + 2)) (sym is)
+    | inr (at, is) ↦ subst (λ (z : Node). (z.level < word_bits) × (z.low < i + 2) × (z.high < i + 2)) (sym is)
         (small, omega (arith, at, low), omega (arith, at, high))
   ]
 
@@ -29,7 +30,7 @@ module _ (ns : List Node) (down : GoDown ns) (x : Node) (small : x.level < 64) (
   still_down new (inr more) = subst GoDown (sym more.0) down_more
 
   pub node_keeps : (new : List Node) → IsGrown x ns new → KeepsNodes ns new
-  node_keeps new grown = keeps_grown child (λ y. y.level) 64 ns (descends ns down) x new grown
+  node_keeps new grown = keeps_grown child (λ y. y.level) word_bits ns (descends ns down) x new grown
 
   -- the new node's children test later levels
   pub still_ordered : (x.level < level_of ns x.low) × (x.level < level_of ns x.high) → AreOrdered ns
@@ -38,7 +39,7 @@ module _ (ns : List Node) (down : GoDown ns) (x : Node) (small : x.level < 64) (
   still_ordered own ordered new (inr more) = subst AreOrdered (sym more.0) all
     where
       k : KeepsNodes ns (ns ++ x ∷ [])
-      k = keeps_more child (λ y. y.level) 64 ns (x ∷ []) (descends ns down)
+      k = keeps_more child (λ y. y.level) word_bits ns (x ∷ []) (descends ns down)
 
       all : AreOrdered (ns ++ x ∷ [])
       all i y h = elim (got_from ns x y i h) [
@@ -67,7 +68,7 @@ module _ (ns : List Node) (down : GoDown ns) (x : Node) (small : x.level < 64) (
   pub node_joined : (new : List Node) → IsGrown x ns new → (i v : ℕ) → slice_get new i ≡ Some x
       → accepts new (i + 2) v ≡ cond (bit_of v x.level) (accepts ns x.high v) (accepts ns x.low v)
   node_joined new grown i v at =
-      joined child (λ y. y.level) 64 ns (descends ns down) x new (descends new (still_down new grown)) grown i v at
+      joined child (λ y. y.level) word_bits ns (descends ns down) x new (descends new (still_down new grown)) grown i v at
       (inside (bit_of v x.level)) ∙ by (bit_of v x.level)
     where
       inside : (b : Bool) → IsNumber ns (cond b x.high x.low)

@@ -7,12 +7,13 @@ use Rattle.std.specs.Map.{lookup}
 use Rattle.std.proofs.lemmas.Bool.{cases_eq, eqb-true, ne_eqb}
 use Rattle.std.proofs.lemmas.Nat.Bits.{bit_at_lowest, bit_at-suc, bit_at-zero}
 use Rattle.std.proofs.lemmas.Option.{same_Some}
+use Rattle.language.specs.Words.{word_bits}
 use Rattle.path_sets.specs.declared.node.Node.{Node}
 use Rattle.path_sets.specs.declared.quad.Quad.{Quad}
 use Rattle.path_sets.specs.declared.binary.Asked.{Asked}
 use Rattle.path_sets.specs.Masks.{bit_of}
 use Rattle.path_sets.specs.Walks.{IsNumber}
-use Rattle.path_sets.specs.Quads.{is_at, points_of, sees, turn}
+use Rattle.path_sets.specs.Quads.{is_at, levels, points_of, sees, turn}
 use Rattle.path_sets.specs.Diagrams.{accepts, child, KeepsNodes, level_of}
 use Rattle.path_sets.specs.Binary.{HasAskedSet, AreFound, asked_eq}
 use Rattle.path_sets.proofs.Grown.{keeps_on}
@@ -22,7 +23,7 @@ use Rattle.path_sets.proofs.TwoBits.{no_points}
 use Rattle.path_sets.proofs.Walks.{at_leaf}
 
 -- nothing is left behind the last level
-no_rest : (v l : ℕ) → l ≡ 32 → v < 2 ^ 64 → v / 4 ^ l ≡ 0
+no_rest : (v l : ℕ) → l ≡ levels → v < 2 ^ word_bits → v / 4 ^ l ≡ 0
 no_rest v l last less = ap (λ k. v / 4 ^ k) last ∙ omega (arith, less)
 
 -- the two bits of a level are the lowest of what is left there
@@ -58,10 +59,10 @@ by_four w P none first second both = elim (cases_eq (w % 4) 0) [
 
 -- nodes that are kept twice are kept
 pub on : (ns ms os : List Node) → KeepsNodes ns ms → KeepsNodes ms os → KeepsNodes ns os
-on ns ms os a b = keeps_on child (λ (x : Node). x.level) 64 ns ms os a b
+on ns ms os a b = keeps_on child (λ (x : Node). x.level) word_bits ns ms os a b
 
 -- 0 and 1 have no node
-leaf_level : (ns : List Node) (n : ℕ) → n ≤ 1 → level_of ns n ≡ 64
+leaf_level : (ns : List Node) (n : ℕ) → n ≤ 1 → level_of ns n ≡ word_bits
 leaf_level ns zero h = refl
 leaf_level ns (suc zero) h = refl
 leaf_level ns (suc (suc n)) h = absurd (omega (arith, h))
@@ -135,8 +136,8 @@ module _ (qs : List Quad) (bit : ℕ) where
   ]
 
   -- the nodes of a number that has what is asked for
-  at_leaf_answers : (ns : List Node) (asked : Asked) (n : ℕ) → n ≤ 1 → asked.level ≤ 32
-      → ((v : ℕ) → v < 2 ^ 64 → is_at qs asked.number asked.zero bit (v / 4 ^ asked.level) ≡ nat_eq n 1)
+  at_leaf_answers : (ns : List Node) (asked : Asked) (n : ℕ) → n ≤ 1 → asked.level ≤ levels
+      → ((v : ℕ) → v < 2 ^ word_bits → is_at qs asked.number asked.zero bit (v / 4 ^ asked.level) ≡ nat_eq n 1)
       → HasAskedSet qs bit ns asked n
   at_leaf_answers ns asked n small most same = record {
     inside = omega (arith, small);
@@ -145,14 +146,14 @@ module _ (qs : List Quad) (bit : ℕ) where
   }
 
   -- behind the last level there is nothing left
-  pub last_answers : (ns : List Node) (asked : Asked) (n : ℕ) → n ≤ 1 → asked.level ≡ 32 → asked.zero ≡ nat_eq n 1
+  pub last_answers : (ns : List Node) (asked : Asked) (n : ℕ) → n ≤ 1 → asked.level ≡ levels → asked.zero ≡ nat_eq n 1
       → HasAskedSet qs bit ns asked n
   last_answers ns asked n small last told =
       at_leaf_answers ns asked n small (omega (arith, last))
       (λ v less. at_zero asked.number asked.zero (v / 4 ^ asked.level) (no_rest v asked.level last less) ∙ told)
 
   -- no valuation is at the point by a number without points
-  pub none_answers : (ns : List Node) (asked : Asked) → asked.level ≤ 32 → asked.number ≤ 1 → asked.zero ≡ false
+  pub none_answers : (ns : List Node) (asked : Asked) → asked.level ≤ levels → asked.number ≤ 1 → asked.zero ≡ false
       → HasAskedSet qs bit ns asked 0
   none_answers ns asked most small told =
       at_leaf_answers ns asked 0 (omega arith) most (λ v less.
@@ -194,7 +195,7 @@ module _ (qs : List Quad) (bit : ℕ) where
   abbrev pub Begins : ℕ → ℕ → Asked → Type 0
   Begins n l asked = (asked.number ≡ n) × (asked.zero ≡ bit_of (points_of qs n 0) bit) × (asked.level ≡ l)
 
-  begun_same : (ns : List Node) (asked : Asked) (m n l v : ℕ) → HasAskedSet qs bit ns asked m → Begins n (l + 1) asked → v < 2 ^ 64
+  begun_same : (ns : List Node) (asked : Asked) (m n l v : ℕ) → HasAskedSet qs bit ns asked m → Begins n (l + 1) asked → v < 2 ^ word_bits
       → accepts ns m v ≡ bit_of (points_of qs n (v / 4 ^ l / 4)) bit
   begun_same ns asked m n l v a (number, nought, level) less =
       a.same v less ∙ (λ j. is_at qs (number j) (nought j) bit (v / 4 ^ (level j))) ∙ at_all n (v / 4 ^ (l + 1))
@@ -213,7 +214,7 @@ module _ (qs : List Quad) (bit : ℕ) where
       (high-is : (v : ℕ) → accepts n6 high v ≡ cond (bit_of v (2 * asked.level + 1)) (accepts n5 both v) (accepts n5 first v))
     where
       -- those without the bit at the level
-      lower : (v : ℕ) → v < 2 ^ 64 → accepts n6 low v ≡ cond (v / 4 ^ asked.level / 2 % 2 == 1)
+      lower : (v : ℕ) → v < 2 ^ word_bits → accepts n6 low v ≡ cond (v / 4 ^ asked.level / 2 % 2 == 1)
           (bit_of (points_of qs x.second (v / 4 ^ asked.level / 4)) bit) (is_at qs x.none asked.zero bit (v / 4 ^ asked.level / 4))
       lower v less =
           let other = answers_on n3 n4 k34 b second second-is in
@@ -225,7 +226,7 @@ module _ (qs : List Quad) (bit : ℕ) where
           k56.same low v inside ∙ low-is v ∙ (λ j. cond (second_bit v asked.level j) (there j) (here j))
 
       -- and those with it
-      upper : (v : ℕ) → v < 2 ^ 64 → accepts n6 high v ≡ cond (v / 4 ^ asked.level / 2 % 2 == 1)
+      upper : (v : ℕ) → v < 2 ^ word_bits → accepts n6 high v ≡ cond (v / 4 ^ asked.level / 2 % 2 == 1)
           (bit_of (points_of qs x.both (v / 4 ^ asked.level / 4)) bit) (bit_of (points_of qs x.first (v / 4 ^ asked.level / 4)) bit)
       upper v less =
           let other = answers_on n4 n5 k45 c both both-is in

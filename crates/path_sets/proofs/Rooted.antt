@@ -1,12 +1,15 @@
--- The numbers of rows after one is given.
-use Rattle.std.proofs.Common.{◌≡◌, ℕ, Bool, true, false, cond, ◌&&◌, nat_eq, List, Option, None, Some, IfSome, get_or}
+-- The numbers of rows after one is given, and their indexes.
+use Rattle.std.proofs.Common.{◌≡◌, ℕ, zero, suc, ◌<◌, Bool, true, false, cond, ◌&&◌, nat_eq, List, [], ◌∷◌, ◌++◌, Option, None}
+use Rattle.std.proofs.Common.{Some, IfSome, get_or, length, is_some, ◌⊎◌, inl, inr, subst, arith}
 use Rattle.std.proofs.Common.{slice_get, position, refl, sym, ap, ap₂, ◌∙◌, true≢false, eq-eqb}
-use Rattle.std.specs.Option.{option_map_or}
-use Rattle.std.specs.Map.{lookup}
+use Rattle.std.specs.Option.{option_map, option_map_or}
+use Rattle.std.proofs.lemmas.Bool.{cases_eq}
+use Rattle.std.specs.Map.{keys_of, lookup}
 use Rattle.std.specs.Cmp.{IsEquivalence}
 use Rattle.std.proofs.lemmas.Map.Views.{exact_unsigned_eq}
 use Rattle.path_sets.specs.declared.rows.Row.{Row}
 use Rattle.path_sets.specs.Diagrams.{row_eq, root_of, Roots}
+use Rattle.path_sets.specs.Cells.{RowsStay}
 use Rattle.std.proofs.lemmas.List.Quantifiers.{position-Some}
 use Rattle.std.proofs.lemmas.Option.{slice_get-get_or}
 use Rattle.path_sets.proofs.Places.{both}
@@ -69,3 +72,55 @@ module _ (old new : List (Row × ℕ)) (own : Row) (number : ℕ)
         (updates own ∙ ap (λ b. cond b (Some number) (lookup (row_eq own) old)) (row_self own));
     others = others';
   }
+
+-- a number is that of a row's point, or it is not
+pub is_row : (e b : ℕ) (row : Row) → ((e ≡ row.entry) × (b ≡ row.block)) ⊎ ((e ≡ row.entry) × (b ≡ row.block) → ⊥)
+is_row e b row = elim (cases_eq e row.entry) [
+  | inr ne ↦ inr (λ h. ne h.0)
+  | inl same ↦ elim (cases_eq b row.block) [ inr ne ↦ inr (λ h. ne h.1) | inl same' ↦ inl (same, same') ]
+]
+
+-- a key stands where it stood when entries are put at the end
+still_at : {K V : Type 0} (es fs : List (K × V)) (i : ℕ) (k : K) → slice_get (keys_of es) i ≡ Some k
+    → slice_get (keys_of (es ++ fs)) i ≡ Some k
+still_at [] fs i k h = absurd (true≢false (ap is_some (sym h)))
+still_at (e ∷ es) fs zero k h = h
+still_at (e ∷ es) fs (suc i) k h = still_at es fs i k h
+
+-- the key of an entry
+pub key_at : {K V : Type 0} (es : List (K × V)) (i : ℕ) (e : K × V) → slice_get es i ≡ Some e → slice_get (keys_of es) i ≡ Some e.0
+key_at [] i e h = absurd (true≢false (ap is_some (sym h)))
+key_at (x ∷ xs) zero e h = ap (λ (o : Option _). option_map (λ y. y.0) o) h
+key_at (x ∷ xs) (suc i) e h = key_at xs i e h
+
+-- there is a row at each index
+pub row_there : (rs : List (Row × ℕ)) (i : ℕ) → i < length rs → (row : Row) × (slice_get (keys_of rs) i ≡ Some row)
+row_there [] i less = absurd (omega (arith, less))
+row_there (r ∷ rs) zero less = (r.0, refl)
+row_there (r ∷ rs) (suc i) less = row_there rs i (omega (arith, less))
+
+-- and at no other
+pub row_within : (rs : List (Row × ℕ)) (i : ℕ) (row : Row) → slice_get (keys_of rs) i ≡ Some row → i < length rs
+row_within [] i row h = absurd (true≢false (ap is_some (sym h)))
+row_within (r ∷ rs) zero row h = omega arith
+row_within (r ∷ rs) (suc i) row h = let less = row_within rs i row h in omega (arith, less)
+
+-- a row that had no diagram gets the one with nothing, and each row has the number that it had
+pub row_begins : (old new : List (Row × ℕ)) (row : Row) → lookup (row_eq row) old ≡ None → new ≡ old ++ (row, 0) ∷ []
+    → Roots old row 0 new
+    → RowsStay old new
+row_begins old new row none is given = record {
+  indexes = λ i r h. subst (λ es. slice_get (keys_of es) i ≡ Some r) (sym is) (still_at old ((row, 0) ∷ []) i r h);
+  numbers = λ e b. elim (is_row e b row) [
+    | inl (at, at') ↦
+        (λ j. root_of new (at j) (at' j)) ∙ given.here ∙ sym (ap (λ o. option_map_or (λ n. n) o 0) none)
+        ∙ sym (λ j. root_of old (at j) (at' j))
+    | inr ne ↦ given.others e b ne
+  ];
+}
+
+-- rows that are the same have the same indexes
+pub same_within : (rs ss : List (Row × ℕ)) (i : ℕ) → keys_of ss ≡ keys_of rs → i < length rs → i < length ss
+same_within rs ss i same less =
+    let (row, there) = row_there rs i less in
+    row_within ss i row (ap (λ ks. slice_get ks i) same ∙ there)

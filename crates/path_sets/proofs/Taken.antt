@@ -1,15 +1,15 @@
 -- Diagrams that take path edges, one time after another.
-use Rattle.std.proofs.Common.{◌≡◌, ℕ, ◌/◌, ◌%◌, ◌⊎◌, true, List, inl, inr, sym, ap, ◌∙◌, subst, arith}
-use Rattle.std.specs.Prelude.{Result, Ok, Err, OnOk, OnErr}
-use Rattle.std.proofs.lemmas.Bool.{cases_eq}
+use Rattle.std.proofs.Common.{◌≡◌, ℕ, ◌/◌, ◌%◌, true, List, inl, inr, sym, ap, ◌∙◌, subst, arith}
 use Rattle.path_sets.specs.declared.quad.Quad.{Quad}
-use Rattle.path_sets.specs.declared.place.Place.{Place}
+use Rattle.path_sets.specs.declared.cell.Cell.{Cell}
 use Rattle.path_sets.specs.declared.rows.Row.{Row}
 use Rattle.path_sets.specs.Masks.{bit_of}
 use Rattle.path_sets.specs.Triples.{Triple}
 use Rattle.path_sets.specs.Walks.{IsNumber}
 use Rattle.path_sets.specs.Quads.{Joins, KeepQuads, points_of}
+use Rattle.path_sets.specs.Cells.{RowsStay}
 use Rattle.path_sets.specs.Diagrams.{HaveNumbers, InRun, Roots, TakesGiven, merged_has, root_of}
+use Rattle.path_sets.proofs.Rooted.{is_row}
 
 -- more is taken
 pub takes_on : (given : Triple → Type 0) (ns ms os : List Quad) (rs ss ts : List (Row × ℕ)) → TakesGiven given ns ms rs ss
@@ -28,13 +28,6 @@ takes_of few more ns ms rs ss wider a = record {
   sound = λ t h. elim (a.sound t h) [ inl was ↦ inl was | inr new ↦ inr (wider t new) ];
 }
 
--- a number is that of a row's point, or it is not
-is_row : (e b : ℕ) (row : Row) → ((e ≡ row.entry) × (b ≡ row.block)) ⊎ ((e ≡ row.entry) × (b ≡ row.block) → ⊥)
-is_row e b row = elim (cases_eq e row.entry) [
-  | inr ne ↦ inr (λ h. ne h.0)
-  | inl same ↦ elim (cases_eq b row.block) [ inr ne ↦ inr (λ h. ne h.1) | inl same' ↦ inl (same, same') ]
-]
-
 -- more nodes leave each row its number
 pub numbers_stay : (ns ms : List Quad) (rs : List (Row × ℕ)) → KeepQuads ns ms → HaveNumbers ns rs → HaveNumbers ms rs
 numbers_stay ns ms rs keeps numbers e b =
@@ -50,21 +43,17 @@ takes_none given ns ms rs keeps numbers =
     (keeps.same (root_of rs t.entry (t.point / 64)) t.values (numbers t.entry (t.point / 64))) in
     record { kept = λ t h. same t ∙ h; sound = λ t h. inl (sym (same t) ∙ h) }
 
--- whether a row is given a number or not, each has one
-pub numbers_on : {T E : Type 0} (ms : List Quad) (rs ss : List (Row × ℕ)) (row : Row) (number : ℕ) (r : Result T E)
-    → HaveNumbers ms rs
-    → IsNumber ms number
-    → OnOk r (Roots rs row number ss)
-    → OnErr r (ss ≡ rs)
+-- a row that is given a number has one, and so have the others
+pub numbers_on : (ms : List Quad) (rs ss : List (Row × ℕ)) (row : Row) (number : ℕ) → HaveNumbers ms rs → IsNumber ms number
+    → Roots rs row number ss
     → HaveNumbers ms ss
-numbers_on ms rs ss row number (Ok x) have inside roots same e b = elim (is_row e b row) [
+numbers_on ms rs ss row number have inside roots e b = elim (is_row e b row) [
   | inl (at, at') ↦ subst (IsNumber ms) (sym ((λ j. root_of ss (at j) (at' j)) ∙ roots.here)) inside
   | inr ne ↦ subst (IsNumber ms) (sym (roots.others e b ne)) (have e b)
 ]
-numbers_on ms rs ss row number (Err x) have inside roots same e b = subst (λ xs. IsNumber ms (root_of xs e b)) (sym same) (have e b)
 
--- a row's diagram takes the points of places, and the others stay
-module _ (row : Row) (cells : List (Place × ℕ)) (number : ℕ) (ns ms : List Quad) (rs ss : List (Row × ℕ)) (keeps : KeepQuads ns ms)
+-- a row's diagram takes the points of cells, and the others stay
+module _ (row : Row) (cells : List Cell) (number : ℕ) (ns ms : List Quad) (rs ss : List (Row × ℕ)) (keeps : KeepQuads ns ms)
     (have : HaveNumbers ns rs)
     (joins : Joins cells 0 (points_of ns (root_of rs row.entry row.block)) (points_of ms number)) (roots : Roots rs row number ss) where
   here : (t : Triple) → (t.entry ≡ row.entry) × (t.point / 64 ≡ row.block)
@@ -102,25 +91,12 @@ module _ (row : Row) (cells : List (Place × ℕ)) (number : ℕ) (ns ms : List 
       let e = here t (entry, block) in
       e.0 ∙ (joins t.values (t.point % 64)).1 (inr given)
 
--- where the number is refused, the diagrams stay
-pub takes_or_stays : {T E : Type 0} (r : Result T E) (row : Row) (cells : List (Place × ℕ)) (number : ℕ) (ns ms : List Quad)
-    (rs ss : List (Row × ℕ)) → KeepQuads ns ms
-    → HaveNumbers ns rs
-    → Joins cells 0 (points_of ns (root_of rs row.entry row.block)) (points_of ms number)
-    → OnOk r (Roots rs row number ss)
-    → OnErr r (ss ≡ rs)
-    → TakesGiven (InRun row cells) ns ms rs ss
-takes_or_stays (Ok x) row cells number ns ms rs ss keeps have joins roots same =
-    takes_row row cells number ns ms rs ss keeps have joins roots
-takes_or_stays (Err x) row cells number ns ms rs ss keeps have joins roots same =
-    subst (λ xs. TakesGiven (InRun row cells) ns ms rs xs) (sym same) (takes_none (InRun row cells) ns ms rs keeps have)
+-- rows that stay leave the diagrams as they are
+pub takes_nothing : (given : Triple → Type 0) (ns : List Quad) (rs ss : List (Row × ℕ)) → RowsStay rs ss → TakesGiven given ns ns rs ss
+takes_nothing given ns rs ss stay =
+    let same = λ (t : Triple). ap (λ n. bit_of (points_of ns n t.values) (t.point % 64)) (stay.numbers t.entry (t.point / 64)) in
+    record { kept = λ t h. same t ∙ h; sound = λ t h. inl (sym (same t) ∙ h) }
 
-pub all_or_none : {T E : Type 0} (r : Result T E) (row : Row) (cells : List (Place × ℕ)) (number : ℕ) (ns ms : List Quad)
-    (rs ss : List (Row × ℕ)) → KeepQuads ns ms
-    → HaveNumbers ns rs
-    → Joins cells 0 (points_of ns (root_of rs row.entry row.block)) (points_of ms number)
-    → OnOk r (Roots rs row number ss)
-    → OnOk r ((t : Triple) → InRun row cells t → merged_has ms ss t ≡ true)
-all_or_none (Ok x) row cells number ns ms rs ss keeps have joins roots =
-    all_in_row row cells number ns ms rs ss keeps have joins roots
-all_or_none (Err x) row cells number ns ms rs ss keeps have joins roots = tt
+-- and each has a number
+pub numbers_as_they_were : (ns : List Quad) (rs ss : List (Row × ℕ)) → RowsStay rs ss → HaveNumbers ns rs → HaveNumbers ns ss
+numbers_as_they_were ns rs ss stay have e b = subst (IsNumber ns) (sym (stay.numbers e b)) (have e b)

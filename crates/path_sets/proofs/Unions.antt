@@ -1,5 +1,5 @@
--- Places put into a diagram, one run after another.
-use Rattle.std.proofs.Common.{bit_or, ◌≡◌, ℕ, zero, suc, ◌+◌, ◌/◌, ◌%◌, ◌^◌, ◌<◌, ◌≤◌, Bool, true, false, cond, max, ◌==◌}
+-- Cells put into a diagram, one run after another.
+use Rattle.std.proofs.Common.{bit_or, ◌≡◌, ℕ, zero, suc, ◌+◌, ◌/◌, ◌%◌, ◌^◌, ◌<◌, Bool, true, false, cond, max, ◌==◌}
 use Rattle.std.proofs.Common.{List, [], ◌∷◌, ◌++◌, take, drop, length, Some, slice_get, ◌⊎◌, ◌↔◌, inl, inr}
 use Rattle.std.proofs.Common.{refl, sym, ap, ◌∙◌, subst, arith, true≢false, is_some}
 use Rattle.std.specs.Prelude.{Result, Ok, Err, IfOk}
@@ -10,19 +10,13 @@ use Rattle.std.proofs.lemmas.Option.{same_Some}
 use Rattle.language.specs.Lists.{Member}
 use Rattle.language.proofs.Members.{member_append, member_left, member_right}
 use Rattle.path_sets.specs.declared.quad.Quad.{Quad}
-use Rattle.path_sets.specs.declared.place.Place.{Place}
+use Rattle.path_sets.specs.declared.cell.Cell.{Cell}
 use Rattle.path_sets.specs.Masks.{bit_of}
 use Rattle.path_sets.specs.Walks.{IsNumber}
+use Rattle.path_sets.specs.Halves.{GoesOn, values_of}
 use Rattle.path_sets.specs.Quads.{AreInside, Given, Joins, KeepQuads, points_of, sees, turn}
 use Rattle.path_sets.proofs.Shifted.{next_rest}
 use Rattle.path_sets.proofs.TwoBits.{further, here_sees, turn_inside, turn_same}
-
--- where something is left of a word, there is a next level
-pub not_last : (v l : ℕ) → v < 2 ^ 64 → l ≤ 32 → (v / 4 ^ l ≡ 0 → ⊥) → l + 1 ≤ 32
-not_last v l fits most some = elim (cases_eq l 32) [
-  | inl is ↦ absurd (some (ap (λ k. v / 4 ^ k) is ∙ omega (arith, fits)))
-  | inr ne ↦ omega (arith, most, ne)
-]
 
 -- what follows where a call succeeds
 pub of_ok : {T E : Type 0} (P Q : T → Type 0) (r : Result T E) → ((x : T) → P x → Q x) → IfOk r P → IfOk r Q
@@ -78,22 +72,22 @@ either_mask m w i =
     by true b c is = (λ h. inl refl, λ h. is)
     by false b c is = (λ h. inr (sym is ∙ h), λ h. elim h [ inl never ↦ absurd (true≢false (sym never)) | inr set ↦ is ∙ set ])
 
--- the points of a place and of those behind it
-first_given : (place : Place) (mask : ℕ) (more : List (Place × ℕ)) (l v i : ℕ) → Given ((place, mask) ∷ more) l v i
-    ↔ (((place.values / 4 ^ l ≡ v) × (bit_of mask i ≡ true)) ⊎ Given more l v i)
-first_given place mask more l v i = (
+-- the points of a cell and of those behind it
+first_given : (cell : Cell) (more : List Cell) (l v i : ℕ) → Given (cell ∷ more) l v i
+    ↔ (((values_of cell / 4 ^ l ≡ v) × (bit_of cell.mask i ≡ true)) ⊎ Given more l v i)
+first_given cell more l v i = (
   λ h. let (c, m, is, set) = h in elim m [
-    | inl same ↦ inl (ap (λ (d : Place × ℕ). d.0.values / 4 ^ l) (sym same) ∙ is, ap (λ (d : Place × ℕ). bit_of d.1 i) (sym same) ∙ set)
+    | inl same ↦ inl (ap (λ d. values_of d / 4 ^ l) (sym same) ∙ is, ap (λ (d : Cell). bit_of d.mask i) (sym same) ∙ set)
     | inr later ↦ inr (c, later, is, set)
   ],
   λ h. elim h [
-    | inl own ↦ ((place, mask), inl refl, own.0, own.1)
+    | inl own ↦ (cell, inl refl, own.0, own.1)
     | inr later ↦ let (c, m, is, set) = later in (c, inr m, is, set)
   ],
 )
 
--- those of a run and of the places behind it
-pub run_given : (run more : List (Place × ℕ)) (l v i : ℕ) → Given (run ++ more) l v i ↔ (Given run l v i ⊎ Given more l v i)
+-- those of a run and of the cells behind it
+pub run_given : (run more : List Cell) (l v i : ℕ) → Given (run ++ more) l v i ↔ (Given run l v i ⊎ Given more l v i)
 run_given run more l v i = (
   λ h. let (c, m, is, set) = h in elim (member_append c run more m) [
     | inl own ↦ inl (c, own, is, set)
@@ -105,18 +99,18 @@ run_given run more l v i = (
   ],
 )
 
--- a place of whose valuation nothing is left gives its points to the node
-module _ (ns : List Quad) (x : Quad) (place : Place) (mask l : ℕ) (more : List (Place × ℕ)) (done : place.values / 4 ^ l ≡ 0) where
+-- a cell of whose valuation nothing is left gives its points to the node
+module _ (ns : List Quad) (x : Quad) (cell : Cell) (l : ℕ) (more : List Cell) (done : values_of cell / 4 ^ l ≡ 0) where
   abbrev pub marked : Quad
-  marked = record { points = bit_or x.points mask; none = x.none; first = x.first; second = x.second; both = x.both }
+  marked = record { points = bit_or x.points cell.mask; none = x.none; first = x.first; second = x.second; both = x.both }
 
   node_marked : (v i : ℕ) → (bit_of (sees ns marked v) i ≡ true)
-      ↔ ((bit_of (sees ns x v) i ≡ true) ⊎ ((place.values / 4 ^ l ≡ v) × (bit_of mask i ≡ true)))
+      ↔ ((bit_of (sees ns x v) i ≡ true) ⊎ ((values_of cell / 4 ^ l ≡ v) × (bit_of cell.mask i ≡ true)))
   node_marked v i = elim (cases_eq v 0) [
     | inl is ↦
-        let new : sees ns marked v ≡ bit_or x.points mask = here_sees ns marked v is in
+        let new : sees ns marked v ≡ bit_or x.points cell.mask = here_sees ns marked v is in
         let old : sees ns x v ≡ x.points = here_sees ns x v is in
-        let both = either_mask x.points mask i in (
+        let both = either_mask x.points cell.mask i in (
           λ h. elim (both.0 (ap (λ m. bit_of m i) (sym new) ∙ h)) [
             | inl was ↦ inl (ap (λ m. bit_of m i) old ∙ was)
             | inr set ↦ inr (done ∙ sym is, set)
@@ -137,13 +131,13 @@ module _ (ns : List Quad) (x : Quad) (place : Place) (mask l : ℕ) (more : List
   ]
 
   pub stops : (v i : ℕ) → ((bit_of (sees ns marked v) i ≡ true) ⊎ Given more l v i)
-      ↔ ((bit_of (sees ns x v) i ≡ true) ⊎ Given ((place, mask) ∷ more) l v i)
-  stops v i = regroup _ _ _ _ _ (node_marked v i) (first_given place mask more l v i)
+      ↔ ((bit_of (sees ns x v) i ≡ true) ⊎ Given (cell ∷ more) l v i)
+  stops v i = regroup _ _ _ _ _ (node_marked v i) (first_given cell more l v i)
 
--- a run of places whose valuations go on alike gives its points to the child that they go on to
-module _ (ns ms : List Quad) (x y : Quad) (run more : List (Place × ℕ)) (l rest child : ℕ) (keeps : KeepQuads ns ms)
-    (inside : AreInside ns x) (some : rest ≡ 0 → ⊥)
-    (alike : (c : Place × ℕ) → Member c run → (c.0.values / 4 ^ l % 4 ≡ rest % 4) × (c.0.values / 4 ^ l ≡ 0 → ⊥))
+-- a run of cells whose valuations go on alike gives its points to the child that they go on to
+module _ (ns ms : List Quad) (x y : Quad) (run more : List Cell) (l rest child : ℕ) (keeps : KeepQuads ns ms)
+    (inside : AreInside ns x)
+    (alike : (c : Cell) → Member c run → GoesOn (values_of c) l rest)
     (joins : Joins run (l + 1) (points_of ns (turn x rest)) (points_of ms child))
     (points : y.points ≡ x.points) (here : (v : ℕ) → v % 4 ≡ rest % 4 → turn y v ≡ child)
     (others : (v : ℕ) → (v % 4 ≡ rest % 4 → ⊥) → turn y v ≡ turn x v) where
@@ -152,10 +146,10 @@ module _ (ns ms : List Quad) (x y : Quad) (run more : List (Place × ℕ)) (l re
   below_run v i way ne = (
     λ h.
         let (c, m, is, set) = h in
-        let next = sym (next_rest c.0.values l) ∙ is in
+        let next = sym (next_rest (values_of c) l) ∙ is in
         let own = (alike c m).0 ∙ sym way in
         (c, m, omega (arith, next, own), set),
-    λ h. let (c, m, is, set) = h in (c, m, next_rest c.0.values l ∙ ap (λ k. k / 4) is, set),
+    λ h. let (c, m, is, set) = h in (c, m, next_rest (values_of c) l ∙ ap (λ k. k / 4) is, set),
   )
 
   node_led : (v i : ℕ) → (bit_of (sees ms y v) i ≡ true) ↔ ((bit_of (sees ns x v) i ≡ true) ⊎ Given run l v i)
@@ -210,25 +204,21 @@ module _ (ns ms : List Quad) (x y : Quad) (run more : List (Place × ℕ)) (l re
       ↔ ((bit_of (sees ns x v) i ≡ true) ⊎ Given (run ++ more) l v i)
   goes_on v i = regroup _ _ _ _ _ (node_led v i) (run_given run more l v i)
 
--- the first places go on alike: the first of all, and those behind it
-pub all_alike : (left : List (Place × ℕ)) (n l rest : ℕ) (first : Place × ℕ) → slice_get left 0 ≡ Some first
-    → rest ≡ first.0.values / 4 ^ l
-    → (rest ≡ 0 → ⊥)
-    → ((i : ℕ) (c : Place × ℕ) → 0 < i → i < n → slice_get left i ≡ Some c
-    → (c.0.values / 4 ^ l % 4 ≡ rest % 4) × (c.0.values / 4 ^ l ≡ 0 → ⊥))
-    → (c : Place × ℕ) → Member c (take n left)
-    → (c.0.values / 4 ^ l % 4 ≡ rest % 4) × (c.0.values / 4 ^ l ≡ 0 → ⊥)
-all_alike left n l rest first at is some all c m =
+-- the first cells go on alike: the first of all, and those behind it
+pub all_alike : (left : List Cell) (n l way : ℕ) (first : Cell) → slice_get left 0 ≡ Some first
+    → GoesOn (values_of first) l way
+    → ((i : ℕ) (c : Cell) → 0 < i → i < n → slice_get left i ≡ Some c → GoesOn (values_of c) l way)
+    → (c : Cell) → Member c (take n left) → GoesOn (values_of c) l way
+all_alike left n l way first at is all c m =
     let (i, less, there) = in_first n left c m in elim (cases_eq i 0) [
       | inl zeroth ↦
           let same : first ≡ c = same_Some first c (sym at ∙ ap (slice_get left) (sym zeroth) ∙ there) in
-          let own : rest ≡ c.0.values / 4 ^ l = is ∙ ap (λ (d : Place × ℕ). d.0.values / 4 ^ l) same in
-          (ap (λ k. k % 4) (sym own), λ none. some (own ∙ none))
+          subst (λ d. GoesOn (values_of d) l way) same is
       | inr later ↦ all i c (omega (arith, later)) less there
     ]
 
--- where no place is left, all are put in
-pub all_put : (left : List (Place × ℕ)) → length left ≡ 0 → (l v i new seen : ℕ) → new ≡ seen → (Q : Type 0)
+-- where no cell is left, all are put in
+pub all_put : (left : List Cell) → length left ≡ 0 → (l v i new seen : ℕ) → new ≡ seen → (Q : Type 0)
     → ((bit_of seen i ≡ true) ⊎ Given left l v i) ↔ Q
     → (bit_of new i ≡ true) ↔ Q
 all_put [] none l v i new seen is Q joins = (

@@ -1,9 +1,10 @@
 -- Members of sets that are decision diagrams.
-use Rattle.std.proofs.Common.{◌≡◌, ℕ, ◌+◌, ◌<◌, ◌^◌, Bool, true, false, ◌&&◌, ◌||◌, nat_eq, List, [], ◌∷◌}
+use Rattle.std.proofs.Common.{◌≡◌, ℕ, ◌+◌, ◌<◌, ◌^◌, Bool, true, false, ◌||◌, List, [], ◌∷◌}
 use Rattle.std.proofs.Common.{map, filter, length, ◌⊎◌, ◌↔◌, inl, inr, refl, sym, ap, ◌∙◌, subst, true≢false}
 use Rattle.std.specs.List.{list_any}
 use Rattle.language.specs.Lists.{Member, NoneTwice}
 use Rattle.language.proofs.Members.{member_map, map_member}
+use Rattle.language.specs.Words.{word_bits}
 use Rattle.path_sets.specs.declared.quad.Quad.{Quad}
 use Rattle.path_sets.specs.declared.place.Place.{Place}
 use Rattle.path_sets.specs.declared.rows.Row.{Row}
@@ -17,12 +18,12 @@ use Rattle.path_sets.proofs.Filtered.{of_each, each_none_twice, map_none_twice, 
 
 -- a path edge of words
 pub record Fits (t : Triple) : Type 0 where
-  pub entry : t.entry < 2 ^ 64
+  pub entry : t.entry < 2 ^ word_bits
   pub point : t.point < 2 ^ 64
-  pub values : t.values < 2 ^ 64
+  pub values : t.values < 2 ^ word_bits
 
 at_point : ℕ → ℕ → List Triple
-at_point e p = map (triple e p) (below (2 ^ 64))
+at_point e p = map (triple e p) (below (2 ^ word_bits))
 
 at_entry : ℕ → List Triple
 at_entry e = each (at_point e) (below (2 ^ 64))
@@ -30,29 +31,29 @@ at_entry e = each (at_point e) (below (2 ^ 64))
 pub in_universe : (t : Triple) → Fits t → Member t universe
 unfolding universe at_entry at_point
 in_universe t f =
-    in_each at_entry (below (2 ^ 64)) t.entry t (in_below t.entry (2 ^ 64) f.entry)
+    in_each at_entry (below (2 ^ word_bits)) t.entry t (in_below t.entry (2 ^ word_bits) f.entry)
     (in_each (at_point t.entry) (below (2 ^ 64)) t.point t (in_below t.point (2 ^ 64) f.point)
-    (member_map (triple t.entry t.point) (below (2 ^ 64)) t.values (in_below t.values (2 ^ 64) f.values)))
+    (member_map (triple t.entry t.point) (below (2 ^ word_bits)) t.values (in_below t.values (2 ^ word_bits) f.values)))
 
 entry_is : (e : ℕ) (t : Triple) → Member t (at_entry e) → t.entry ≡ e
 unfolding at_entry at_point
 entry_is e t h =
     let (p, there, m) = of_each (at_point e) (below (2 ^ 64)) t h in
-    let (v, there', is) = map_member (triple e p) (below (2 ^ 64)) t m in
+    let (v, there', is) = map_member (triple e p) (below (2 ^ word_bits)) t m in
     ap (λ (k : Triple). k.entry) is
 
 point_is : (e p : ℕ) (t : Triple) → Member t (at_point e p) → t.point ≡ p
 unfolding at_point
 point_is e p t m =
-    let (v, there, is) = map_member (triple e p) (below (2 ^ 64)) t m in
+    let (v, there, is) = map_member (triple e p) (below (2 ^ word_bits)) t m in
     ap (λ (k : Triple). k.point) is
 
 pub universe_none_twice : NoneTwice universe
 unfolding universe at_entry at_point
 universe_none_twice =
-    each_none_twice at_entry (below (2 ^ 64)) (below_none_twice (2 ^ 64))
+    each_none_twice at_entry (below (2 ^ word_bits)) (below_none_twice (2 ^ word_bits))
     (λ e. each_none_twice (at_point e) (below (2 ^ 64)) (below_none_twice (2 ^ 64))
-    (λ p. map_none_twice (triple e p) (below (2 ^ 64)) (λ x y same. ap (λ (k : Triple). k.values) same) (below_none_twice (2 ^ 64)))
+    (λ p. map_none_twice (triple e p) (below (2 ^ word_bits)) (λ x y same. ap (λ (k : Triple). k.values) same) (below_none_twice (2 ^ word_bits)))
     (λ p q t a b. sym (point_is e p t a) ∙ point_is e q t b))
     (λ d e t a b. sym (entry_is d t a) ∙ entry_is e t b)
 
@@ -131,15 +132,15 @@ module _ (nodes : List Quad) (rows : List (Row × ℕ)) (masks : List (Place × 
   all_none_twice = kept_none_twice (has_edge nodes rows masks) universe universe_none_twice
 
 -- the valuations there are words
-pub values_fit : (t : Triple) → Member t universe → t.values < 2 ^ 64
+pub values_fit : (t : Triple) → Member t universe → t.values < 2 ^ word_bits
 unfolding universe at_entry at_point
 values_fit t h =
-    let (e, _, m) = of_each at_entry (below (2 ^ 64)) t h in
+    let (e, _, m) = of_each at_entry (below (2 ^ word_bits)) t h in
     let (p, _, m') = of_each (at_point e) (below (2 ^ 64)) t m in
-    let (v, there, is) = map_member (triple e p) (below (2 ^ 64)) t m' in
-    let small = of_below v (2 ^ 64) there in
+    let (v, there, is) = map_member (triple e p) (below (2 ^ word_bits)) t m' in
+    let small = of_below v (2 ^ word_bits) there in
     let same : t.values ≡ v = ap (λ (k : Triple). k.values) is in
-    subst (λ k. k < 2 ^ 64) (sym same) small
+    subst (λ k. k < 2 ^ word_bits) (sym same) small
 
 module _ (ns ms : List Quad) (rs ss : List (Row × ℕ)) (masks masks' : List (Place × ℕ)) where
   -- sets that have just the same path edges have the same members

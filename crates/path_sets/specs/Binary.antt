@@ -2,6 +2,7 @@
 use Rattle.std.specs.Prelude.{◌≡◌, ◌*◌, ◌/◌, ◌^◌, ◌<◌, ◌≤◌, ℕ, Bool, ◌&&◌, nat_eq, List, Some}
 use Rattle.std.specs.Bool.{beq}
 use Rattle.std.specs.Map.{lookup}
+use Rattle.language.specs.Words.{word_bits}
 use Rattle.path_sets.specs.declared.node.Node.{Node}
 use Rattle.path_sets.specs.declared.quad.Quad.{Quad}
 use Rattle.path_sets.specs.declared.binary.Asked.{Asked}
@@ -18,7 +19,7 @@ asked_eq x y = nat_eq x.number y.number && (beq x.zero y.zero && nat_eq x.level 
 pub record HasAskedSet (quads : List Quad) (point : ℕ) (nodes : List Node) (asked : Asked) (number : ℕ) : Type 0 where
   pub inside : IsNumber nodes number
   pub deep : 2 * asked.level ≤ level_of nodes number
-  pub same : (v : ℕ) → v < 2 ^ 64 → accepts nodes number v ≡ is_at quads asked.number asked.zero point (v / 4 ^ asked.level)
+  pub same : (v : ℕ) → v < 2 ^ word_bits → accepts nodes number v ≡ is_at quads asked.number asked.zero point (v / 4 ^ asked.level)
 
 -- the numbers that were found have the sets that were asked for
 abbrev pub AreFound : List Quad → ℕ → List Node → List (Asked × ℕ) → Type 0

@@ -3,9 +3,11 @@ use Rattle.std.specs.Prelude.{◌≡◌, ◌≢◌, ◌+◌, ◌/◌, ◌%◌, �
 use Rattle.std.specs.Prelude.{◌⊎◌, Some, slice_get}
 use Rattle.std.specs.Option.{option_map_or}
 use Rattle.std.specs.Map.{lookup}
+use Rattle.language.specs.Words.{word_bits}
 use Rattle.path_sets.specs.declared.node.Node.{Node}
 use Rattle.path_sets.specs.declared.quad.Quad.{Quad}
 use Rattle.path_sets.specs.declared.rows.Row.{Row}
+use Rattle.path_sets.specs.declared.cell.Cell.{Cell}
 use Rattle.path_sets.specs.declared.place.Place.{Place}
 use Rattle.path_sets.specs.Masks.{bit_of}
 use Rattle.path_sets.specs.Triples.{Triple}
@@ -20,13 +22,13 @@ child node valuation = cond (bit_of valuation node.level) node.high node.low
 abbrev pub accepts : List Node → ℕ → ℕ → Bool
 accepts nodes number valuation = reaches child nodes number valuation
 
--- each node tests one of 64 bits, and its children have smaller numbers, so each walk ends
+-- each node tests one of the bits, and its children have smaller numbers, so each walk ends
 abbrev pub GoDown : List Node → Type 0
-GoDown nodes = (i : ℕ) (x : Node) → slice_get nodes i ≡ Some x → (x.level < 64) × (x.low < i + 2) × (x.high < i + 2)
+GoDown nodes = (i : ℕ) (x : Node) → slice_get nodes i ≡ Some x → (x.level < word_bits) × (x.low < i + 2) × (x.high < i + 2)
 
 -- the level that a number's node tests; behind the last for 0 and 1, which have none
 abbrev pub level_of : List Node → ℕ → ℕ
-level_of nodes number = level_at (λ x. x.level) 64 nodes number
+level_of nodes number = level_at (λ x. x.level) word_bits nodes number
 
 -- a node's children test later levels, so that on each way the levels ascend
 abbrev pub AreOrdered : List Node → Type 0
@@ -39,7 +41,7 @@ AreReduced nodes = (i : ℕ) (x : Node) → slice_get nodes i ≡ Some x → x.l
 
 -- more nodes, and the sets and the levels of the numbers that there were are the same
 abbrev pub KeepsNodes : List Node → List Node → Type 0
-KeepsNodes old new = Preserves child (λ x. x.level) 64 old new
+KeepsNodes old new = Preserves child (λ x. x.level) word_bits old new
 
 -- whether two rows are the same
 abbrev pub row_eq : Row → Row → Bool
@@ -58,8 +60,8 @@ pub record Roots (old : List (Row × ℕ)) (row : Row) (number : ℕ) (new : Lis
 abbrev pub row_of : Place → Row
 row_of place = record { entry = place.entry; block = place.block }
 
--- a path edge of a row, by the valuations and the masks of these places
-abbrev pub InRun : Row → List (Place × ℕ) → Triple → Type 0
+-- a path edge of a row, by the valuations and the masks of these cells
+abbrev pub InRun : Row → List Cell → Triple → Type 0
 InRun row cells edge = (edge.entry ≡ row.entry) × (edge.point / 64 ≡ row.block) × Given cells 0 edge.values (edge.point % 64)
 
 -- whether a path edge is in the diagrams: its point is among those of its valuation

@@ -6,8 +6,10 @@ pub mod Masks
 pub mod Edges
 pub mod Shards
 pub mod Walks
+pub mod Halves
 pub mod Quads
 pub mod Diagrams
+pub mod Cells
 pub mod Binary
 pub mod Members
 pub mod Suffixes

@@ -3,6 +3,7 @@ use Rattle.std.specs.Prelude.{◌≡◌, ◌<◌, ◌↔◌, ◌⊎◌, ℕ, zer
 use Rattle.std.specs.Prelude.{List, [], ◌∷◌, ◌++◌, map, filter}
 use Rattle.std.specs.Map.{keys_of}
 use Rattle.language.specs.Lists.{Member}
+use Rattle.language.specs.Words.{word_bits}
 use Rattle.std.specs.List.{list_any}
 use Rattle.path_sets.specs.declared.quad.Quad.{Quad}
 use Rattle.path_sets.specs.declared.place.Place.{Place}
@@ -22,9 +23,9 @@ unfoldable pub each : {A B : Type 0} → (A → List B) → List A → List B
 each f [] = []
 each f (x ∷ xs) = f x ++ each f xs
 
--- all path edges whose entry, point and valuation are words of 64 bits
+-- all path edges whose entry and valuation are words, and whose point is below 2 ^ 64
 unfoldable pub universe : List Triple
-universe = each (λ e. each (λ p. map (triple e p) (below (2 ^ 64))) (below (2 ^ 64))) (below (2 ^ 64))
+universe = each (λ e. each (λ p. map (triple e p) (below (2 ^ word_bits))) (below (2 ^ 64))) (below (2 ^ word_bits))
 
 -- whether two path edges are the same
 abbrev pub triple_eq : Triple → Triple → Bool

@@ -3,10 +3,16 @@ use Rattle.std.specs.Prelude.{◌≡◌, ◌≢◌, ◌+◌, ◌/◌, ◌%◌, �
 use Rattle.std.specs.Prelude.{List, Some, slice_get, length}
 use Rattle.std.specs.Option.{option_map_or}
 use Rattle.language.specs.Lists.{Member}
+use Rattle.language.specs.Words.{word_bits}
 use Rattle.path_sets.specs.declared.quad.Quad.{Quad}
-use Rattle.path_sets.specs.declared.place.Place.{Place}
+use Rattle.path_sets.specs.declared.cell.Cell.{Cell}
 use Rattle.path_sets.specs.Masks.{bit_of}
+use Rattle.path_sets.specs.Halves.{values_of}
 use Rattle.path_sets.specs.Walks.{node_at, IsNumber}
+
+-- how many levels there are, two bits of a valuation at each
+abbrev pub levels : ℕ
+levels = word_bits / 2
 
 -- the number that a valuation goes on to from a node, by its two low bits
 abbrev pub turn : Quad → ℕ → ℕ
@@ -58,11 +64,11 @@ pub record KeepQuads (old new : List Quad) : Type 0 where
   pub longer : length old ≤ length new
   pub same : (n v : ℕ) → IsNumber old n → points_of new n v ≡ points_of old n v
 
--- the point is in the mask of one of the places, of whose valuation this is left at a level
-abbrev pub Given : List (Place × ℕ) → ℕ → ℕ → ℕ → Type 0
-Given cells level valuation point = (c : Place × ℕ) × Member c cells × (c.0.values / 4 ^ level ≡ valuation) × (bit_of c.1 point ≡ true)
+-- the point is in the mask of one of the cells, of whose valuation this is left at a level
+abbrev pub Given : List Cell → ℕ → ℕ → ℕ → Type 0
+Given cells level valuation point = (c : Cell) × Member c cells × (values_of c / 4 ^ level ≡ valuation) × (bit_of c.mask point ≡ true)
 
--- the new diagram has the points of the old one and those of the places
-abbrev pub Joins : List (Place × ℕ) → ℕ → (ℕ → ℕ) → (ℕ → ℕ) → Type 0
+-- the new diagram has the points of the old one and those of the cells
+abbrev pub Joins : List Cell → ℕ → (ℕ → ℕ) → (ℕ → ℕ) → Type 0
 Joins cells level old new =
     (v point : ℕ) → (bit_of (new v) point ≡ true) ↔ ((bit_of (old v) point ≡ true) ⊎ Given cells level v point)

@@ -1,14 +1,16 @@
 //! The diagram of one point of a row, whose nodes test one bit each.
 
 ghost use Rattle.std.specs.Prelude.{◌≡◌, ℕ, ◌<◌, ◌≤◌, ◌^◌, IfOk};
+ghost use Rattle.language.specs.Words.{word_bits};
 ghost use Rattle.path_sets.specs.Masks.{bit_of};
 ghost use Rattle.path_sets.specs.Walks.{IsNumber};
-ghost use Rattle.path_sets.specs.Quads.{points_of};
+ghost use Rattle.path_sets.specs.Quads.{levels, points_of};
 ghost use Rattle.path_sets.specs.Diagrams.{accepts, KeepsNodes};
 ghost use Rattle.path_sets.specs.Binary.{AreFound, HasAskedSet};
 
 use crate::mask::has;
 use crate::nodes::{ALL, NONE, Nodes};
+use crate::quad::LEVELS;
 use crate::quads::Quads;
 use indexmap::IndexMap;
 use std::alloc::{AllocError, Allocator};
@@ -37,13 +39,13 @@ fn at_point<A: Allocator + Copy>(
 ) -> Result<u32, AllocError>
     requires inside { IsNumber quads.now.kept.keys asked.number }
     requires bit { bit < 64 }
-    requires level { asked.level ≤ 32 }
+    requires level { asked.level ≤ levels }
     requires found { AreFound quads.now.kept.keys bit nodes.old.kept.keys found.old.entries }
     ensures keeps { KeepsNodes nodes.old.kept.keys nodes.new.kept.keys }
     ensures found { AreFound quads.now.kept.keys bit nodes.new.kept.keys found.new.entries }
     ensures answers { IfOk result (HasAskedSet quads.now.kept.keys bit nodes.new.kept.keys asked) }
 {
-    if asked.level == 32 {
+    if asked.level == LEVELS {
         return Ok(if asked.zero { ALL } else { NONE });
     }
     if asked.number <= ALL && !asked.zero {
@@ -68,7 +70,7 @@ fn parted<A: Allocator + Copy>(
 ) -> Result<u32, AllocError>
     requires inside { IsNumber quads.now.kept.keys asked.number }
     requires bit { bit < 64 }
-    requires level { asked.level < 32 }
+    requires level { asked.level < levels }
     requires found { AreFound quads.now.kept.keys bit nodes.old.kept.keys found.old.entries }
     ensures keeps { KeepsNodes nodes.old.kept.keys nodes.new.kept.keys }
     ensures found { AreFound quads.now.kept.keys bit nodes.new.kept.keys found.new.entries }
@@ -118,7 +120,7 @@ pub(crate) fn binary<A: Allocator + Copy>(
     requires inside { IsNumber quads.now.kept.keys number }
     requires bit { bit < 64 }
     ensures inside { IfOk result (λ r. IsNumber r.0.kept.keys r.1) }
-    ensures same { IfOk result (λ r. (v : ℕ) → v < 2 ^ 64
+    ensures same { IfOk result (λ r. (v : ℕ) → v < 2 ^ word_bits
         → accepts r.0.kept.keys r.1 v ≡ bit_of (points_of quads.now.kept.keys number v) bit) }
 {
     let alloc = *quads.kept.allocator();

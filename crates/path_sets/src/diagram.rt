@@ -5,6 +5,7 @@ ghost use Rattle.std.specs.Map.{lookup};
 ghost use Rattle.std.proofs.lemmas.Map.Keys.{IsDistinct-prop};
 ghost use Rattle.indexmap.specs.IndexMap.{IsUnique, keys};
 ghost use Rattle.language.specs.Lists.{Member, NoneTwice, NoneTwice-prop};
+ghost use Rattle.language.specs.Words.{word_bits};
 ghost use Rattle.path_sets.specs.Edges.{edge_at, place_eq};
 ghost use Rattle.path_sets.specs.Suffixes.{HasNodes};
 ghost use Rattle.path_sets.specs.Triples.{triple};
@@ -64,7 +65,7 @@ impl<A: Allocator + Copy> DiagramEdges<A> {
     /// each level and each set of suffixes that some prefix of its members has there and that depends on the bit of the
     /// level. It takes memory in proportion to all diagrams; where memory is refused, the set stays as it is.
     pub fn nodes(&self, entry: Word, point: Point) -> Result<u64, AllocError>
-        ensures { IfOk result (HasNodes 64 (λ v. Member (triple entry point v)
+        ensures { IfOk result (HasNodes word_bits (λ v. Member (triple entry point v)
             (all_edges self.now.merged.nodes.kept.keys self.now.merged.rows.entries
             self.now.gathered.entries))) }
     {

@@ -2,16 +2,19 @@
 
 ghost use Rattle.std.specs.Prelude.{◌≡◌, ℕ, ◌<◌, ◌≤◌, true, Some, length, slice_get, IfOk, OnOk};
 ghost use Rattle.std.specs.Prelude.{IsPermutation};
+ghost use Rattle.indexmap.specs.IndexMap.{index_map_len, keys};
 ghost use Rattle.language.specs.Lists.{Member};
-ghost use Rattle.path_sets.specs.declared.place.Place.{Place};
+ghost use Rattle.path_sets.specs.declared.cell.Cell.{Cell};
 ghost use Rattle.path_sets.specs.Triples.{Triple};
 ghost use Rattle.path_sets.specs.Edges.{edges};
-ghost use Rattle.path_sets.specs.Diagrams.{TakesGiven, merged_has, row_of};
+ghost use Rattle.path_sets.specs.Diagrams.{TakesGiven, merged_has};
+ghost use Rattle.path_sets.specs.Cells.{AreCells, InCells, RowsStay};
 
+use crate::cell::{Cell, cell_at, cell_of, order_of};
 use crate::merged::Merged;
-use crate::place::{Place, cell_at};
+use crate::place::Place;
 use crate::points::Masks;
-use crate::rows::{Row, row_of};
+use crate::rows::row_of;
 use std::alloc::{AllocError, Allocator};
 
 /// The place at an index, and its mask.
@@ -25,32 +28,43 @@ fn place_at<A: Allocator + Copy>(masks: &Masks<A>, at: usize) -> (Place, u64)
     }
 }
 
-/// The places with their masks, those of a row one after another, and in a row those whose first bits are the same.
-fn in_order<A: Allocator + Copy>(masks: &Masks<A>) -> Result<Vec<(Place, u64), A>, AllocError>
-    ensures { IfOk result (λ cells. IsPermutation masks.now.entries cells.items) }
+/// The cells of the places, whose rows are among those of the diagrams from now on.
+fn cells_of<A: Allocator + Copy>(
+    merged: &mut Merged<A>,
+    masks: &Masks<A>,
+) -> Result<Vec<Cell, A>, AllocError>
+    ensures nodes { merged.new.nodes ≡ merged.old.nodes }
+    ensures rows { RowsStay merged.old.rows.entries merged.new.rows.entries }
+    ensures cells { IfOk result
+        (λ cells. AreCells (keys merged.new.rows) masks.now.entries cells.items) }
 {
     let mut cells = Vec::with_capacity(*masks.allocator(), masks.len())?;
     for at in 0..masks.len() {
-        cells.push(place_at(masks, at))?;
+        let (place, mask) = place_at(masks, at);
+        let row = merged.settle(row_of(&place))?;
+        cells.push(cell_of(row, place.values, mask))?;
     }
-    cells.sort_by_cached_key(|cell: &(Place, u64)| {
-        (cell.0.block, cell.0.entry, cell.0.values.reverse_bits())
-    })?;
     Ok(cells)
 }
 
-/// How many places there are, from the first on, that are of a row, of which the first is.
-fn run_of(cells: &[(Place, u64)], row: Row) -> usize
+/// Sorts cells, so that those of a row stand one after another, and in a row those whose first bits are the same.
+fn sort<A: Allocator + Copy>(cells: &mut Vec<Cell, A>) -> Result<(), AllocError>
+    ensures { IsPermutation cells.old.items cells.new.items }
+{
+    cells.sort_by_cached_key(order_of)
+}
+
+/// How many cells there are, from the first on, that are of the row at an index, of which the first is.
+fn run_of(cells: &[Cell], row: usize) -> usize
     requires { 0 < length cells.now }
     ensures within { result ≤ length cells.now }
     ensures some { 0 < result }
-    ensures all { (i : ℕ) (c : Place × ℕ) → 0 < i → i < result → slice_get cells.now i ≡ Some c
-        → row_of c.0 ≡ row }
+    ensures all { (i : ℕ) (c : Cell) → 0 < i → i < result → slice_get cells.now i ≡ Some c
+        → c.row ≡ row }
 {
     let mut end = 1;
     while end < cells.len() {
-        let (place, _) = cell_at(cells, end);
-        if row_of(&place) != row {
+        if cell_at(cells, end).row != row {
             return end;
         }
         end += 1;
@@ -58,21 +72,18 @@ fn run_of(cells: &[(Place, u64)], row: Row) -> usize
     end
 }
 
-/// Puts the path edges of these places into the diagrams, those of a row that stand one after another at once. Where
+/// Puts the path edges of these cells into the diagrams, those of a row that stand one after another at once. Where
 /// memory is refused, some of them may be in.
-fn put_cells<A: Allocator + Copy>(
-    merged: &mut Merged<A>,
-    cells: &[(Place, u64)],
-) -> Result<(), AllocError>
-    ensures takes { TakesGiven (λ t. Member t (edges cells.now))
+fn put_cells<A: Allocator + Copy>(merged: &mut Merged<A>, cells: &[Cell]) -> Result<(), AllocError>
+    requires { (c : Cell) → Member c cells.now → c.row < index_map_len merged.old.rows }
+    ensures takes { TakesGiven (InCells (keys merged.old.rows) cells.now)
         merged.old.nodes.kept.keys merged.new.nodes.kept.keys merged.old.rows.entries merged.new.rows.entries }
-    ensures all { OnOk result ((t : Triple) → Member t (edges cells.now)
+    ensures all { OnOk result ((t : Triple) → InCells (keys merged.old.rows) cells.now t
         → merged_has merged.new.nodes.kept.keys merged.new.rows.entries t ≡ true) }
 {
     let mut left = cells;
     while !left.is_empty() {
-        let (place, _) = cell_at(left, 0);
-        let row = row_of(&place);
+        let row = cell_at(left, 0).row;
         let (run, more) = left.split_at(run_of(left, row));
         merged.put(row, run)?;
         left = more;
@@ -90,6 +101,7 @@ pub(crate) fn put_all<A: Allocator + Copy>(
     ensures all { OnOk result ((t : Triple) → Member t (edges masks.now.entries)
         → merged_has merged.new.nodes.kept.keys merged.new.rows.entries t ≡ true) }
 {
-    let cells = in_order(masks)?;
+    let mut cells = cells_of(merged, masks)?;
+    sort(&mut cells)?;
     put_cells(merged, &cells)
 }

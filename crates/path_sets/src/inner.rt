@@ -1,6 +1,7 @@
 //! The inner nodes of a diagram.
 
 ghost use Rattle.std.specs.Prelude.{◌≡◌, ◌<◌, ◌^◌, true, IfOk};
+ghost use Rattle.language.specs.Words.{word_bits};
 ghost use Rattle.path_sets.specs.Walks.{IsNumber};
 ghost use Rattle.path_sets.specs.Diagrams.{accepts};
 ghost use Rattle.path_sets.specs.Suffixes.{HasNodes};
@@ -15,7 +16,7 @@ pub(crate) fn inner_nodes<A: Allocator + Copy>(
 ) -> Result<u64, AllocError>
     requires { IsNumber nodes.now.kept.keys number }
     ensures { IfOk result
-        (HasNodes 64 (λ v. (v < 2 ^ 64) × (accepts nodes.now.kept.keys number v ≡ true))) }
+        (HasNodes word_bits (λ v. (v < 2 ^ word_bits) × (accepts nodes.now.kept.keys number v ≡ true))) }
 {
     let mut reached = vec![in *nodes.kept.allocator(); false; number as usize + 1]?;
     reached[number as usize] = true;

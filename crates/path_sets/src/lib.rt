@@ -6,6 +6,7 @@
 #![tactic(auto)]
 
 mod binary;
+mod cell;
 mod diagram;
 mod edge_limit;
 mod gathered;

@@ -1,19 +1,22 @@
 //! Diagrams of valuations with their points, one for each row.
 
 ghost use Rattle.std.specs.Prelude.{◌≡◌, ℕ, ◌+◌, ◌*◌, ◌<◌, ◌/◌, ◌%◌, ◌^◌, ◌⊎◌, true, false, IfOk};
-ghost use Rattle.std.specs.Prelude.{OnOk};
+ghost use Rattle.std.specs.Prelude.{Some, slice_get, OnOk};
+ghost use Rattle.language.specs.Words.{word_bits};
 ghost use Rattle.path_sets.specs.Suffixes.{HasNodes};
 ghost use Rattle.std.proofs.lemmas.Map.Keys.{IsDistinct-prop};
-ghost use Rattle.indexmap.specs.IndexMap.{IsUnique, keys};
+ghost use Rattle.indexmap.specs.IndexMap.{IsUnique, index_map_len, keys};
 ghost use Rattle.path_sets.specs.Triples.{Triple, triple};
 ghost use Rattle.path_sets.specs.Masks.{bit_of};
+ghost use Rattle.path_sets.specs.declared.rows.Row.{Row};
+ghost use Rattle.path_sets.specs.Cells.{RowsStay};
 ghost use Rattle.path_sets.specs.Diagrams.{HaveNumbers, InRun, TakesGiven, merged_has, row_eq};
 
 use crate::binary::binary;
+use crate::cell::Cell;
 use crate::inner::inner_nodes;
-use crate::place::Place;
 use crate::quads::Quads;
-use crate::rows::{Row, Rows, root, set_root};
+use crate::rows::{Row, Rows, begin, index_of, root, root_at, set_root};
 use crate::seek::seek;
 use crate::union::union;
 use indexmap::IndexMap;
@@ -53,7 +56,7 @@ impl<A: Allocator + Copy> Merged<A> {
     {
         let nodes = self.nodes.copy()?;
         let mut rows = IndexMap::new(*self.rows.allocator());
-        set_root(&mut rows, row, root(&self.rows, self.last, &row))?;
+        begin(&mut rows, row, root(&self.rows, self.last, &row))?;
         Ok(Merged {
             nodes,
             rows,
@@ -78,25 +81,42 @@ impl<A: Allocator + Copy> Merged<A> {
         self.nodes.points(root(&self.rows, self.last, row), values)
     }
 
-    /// Puts the points of places, whatever their rows, into the diagram of one row. Where memory is refused, none of
-    /// them are in.
-    pub(crate) fn put(&mut self, row: Row, run: &[(Place, u64)]) -> Result<(), AllocError>
-        ensures takes { TakesGiven (InRun row run.now)
-            self.old.nodes.kept.keys self.new.nodes.kept.keys self.old.rows.entries self.new.rows.entries }
-        ensures all { OnOk result ((t : Triple) → InRun row run.now t
+    /// The index of a row, which has a diagram from now on, be it one with nothing. Where memory is refused, the rows
+    /// stay.
+    pub(crate) fn settle(&mut self, row: Row) -> Result<usize, AllocError>
+        ensures nodes { self.new.nodes ≡ self.old.nodes }
+        ensures at { IfOk result (λ at. slice_get (keys self.new.rows) at ≡ Some row) }
+        ensures stay { RowsStay self.old.rows.entries self.new.rows.entries }
+    {
+        let at = index_of(&mut self.rows, self.last, row)?;
+        self.last = at;
+        Ok(at)
+    }
+
+    /// Puts the points of cells, whatever their rows, into the diagram of the row at an index. Where memory is refused,
+    /// none of them are in.
+    pub(crate) fn put(&mut self, at: usize, run: &[Cell]) -> Result<(), AllocError>
+        requires { at < index_map_len self.old.rows }
+        ensures keys { keys self.new.rows ≡ keys self.old.rows }
+        ensures takes { (row : Row) → slice_get (keys self.old.rows) at ≡ Some row
+            → TakesGiven (InRun row run.now) self.old.nodes.kept.keys self.new.nodes.kept.keys
+            self.old.rows.entries self.new.rows.entries }
+        ensures all { OnOk result ((row : Row) (t : Triple) → slice_get (keys self.old.rows) at ≡ Some row
+            → InRun row run.now t
             → merged_has self.new.nodes.kept.keys self.new.rows.entries t ≡ true) }
     {
-        let root = root(&self.rows, self.last, &row);
+        let root = root_at(&self.rows, at);
         let number = union(&mut self.nodes, run, root, 0)?;
-        set_root(&mut self.rows, row, number)
+        set_root(&mut self.rows, at, number);
+        Ok(())
     }
 
     /// How many inner nodes the diagram of the set at a point has, which is a bit of a row.
     pub(crate) fn count(&self, row: &Row, bit: usize) -> Result<u64, AllocError>
         requires { bit < 64 }
         ensures { IfOk result
-            (HasNodes 64
-            (λ v. (v < 2 ^ 64) × (merged_has self.now.nodes.kept.keys self.now.rows.entries
+            (HasNodes word_bits
+            (λ v. (v < 2 ^ word_bits) × (merged_has self.now.nodes.kept.keys self.now.rows.entries
             (triple row.now.entry (64 * row.now.block + bit) v) ≡ true))) }
     {
         let (nodes, number) = binary(&self.nodes, root(&self.rows, self.last, row), bit)?;

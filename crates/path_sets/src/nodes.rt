@@ -2,6 +2,7 @@
 
 ghost use Rattle.std.specs.Prelude.{◌≡◌, ℕ, ◌+◌, ◌<◌, ◌^◌, Bool, cond, IfOk, Some, slice_get};
 ghost use Rattle.std.specs.Prelude.{length, ◌≤◌};
+ghost use Rattle.language.specs.Words.{word_bits};
 ghost use Rattle.path_sets.specs.Masks.{bit_of};
 ghost use Rattle.path_sets.specs.Walks.{IsGrown, IsNumber};
 ghost use Rattle.path_sets.specs.Diagrams.{accepts, AreOrdered, AreReduced, GoDown, KeepsNodes};
@@ -55,7 +56,7 @@ impl<A: Allocator + Copy> Nodes<A> {
     /// The number of the set that has, of the valuations with a 0 at the level, those of one number, and of those with
     /// a 1 those of another.
     pub(crate) fn make(&mut self, level: u8, low: u32, high: u32) -> Result<u32, AllocError>
-        requires level { level < 64 }
+        requires level { level < word_bits }
         requires inside { (IsNumber self.old.kept.keys low) × (IsNumber self.old.kept.keys high) }
         requires deep { (level < level_of self.old.kept.keys low)
             × (level < level_of self.old.kept.keys high) }

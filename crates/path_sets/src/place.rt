@@ -1,6 +1,6 @@
 //! Where the points of path edges are kept.
 
-ghost use Rattle.std.specs.Prelude.{◌≡◌, ◌<◌, Some, length, slice_get};
+ghost use Rattle.std.specs.Prelude.{◌≡◌, ◌<◌};
 ghost use Rattle.path_sets.specs.Edges.{edge_at};
 ghost use Rattle.path_sets.specs.Triples.{triple};
 
@@ -29,12 +29,4 @@ pub(crate) fn place_of(entry: Word, point: Point, values: Word) -> (Place, usize
         block,
     };
     (place, point % BLOCK)
-}
-
-/// The place at an index, and its mask.
-pub(crate) fn cell_at(cells: &[(Place, u64)], at: usize) -> (Place, u64)
-    requires { at < length cells.now }
-    ensures { slice_get cells.now at ≡ Some result }
-{
-    cells[at]
 }

@@ -3,7 +3,10 @@
 ghost use Rattle.std.specs.Prelude.{◌≡◌, ℕ, ◌%◌};
 ghost use Rattle.path_sets.specs.Quads.{turn};
 
-use language::Word;
+use language::{WORD_BITS, Word};
+
+/// How many levels there are, two bits of a valuation at each, which `specs/Quads.antt` has for contracts.
+pub(crate) const LEVELS: u8 = WORD_BITS / 2;
 
 /// A node: the points of the valuation 0, and the numbers that another goes on to by its two low bits: where both are
 /// 0, where the first alone is 1, where the second alone is, and where both are.

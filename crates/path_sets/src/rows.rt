@@ -1,9 +1,11 @@
 //! The numbers of the diagrams of rows.
 
-ghost use Rattle.std.specs.Prelude.{◌≡◌, ◌<◌, ℕ, OnOk, OnErr, None, Some, IfSome, IsNone};
-ghost use Rattle.std.specs.Prelude.{slice_get};
+ghost use Rattle.std.specs.Prelude.{◌≡◌, ◌<◌, ◌∷◌, ◌++◌, [], None, Some, slice_get, IfSome, IsNone};
+ghost use Rattle.std.specs.Prelude.{IfOk, OnOk, OnErr};
 ghost use Rattle.std.specs.Map.{lookup};
-ghost use Rattle.indexmap.specs.IndexMap.{IsUnique, index_map_len, keys, values};
+ghost use Rattle.indexmap.specs.IndexMap.{IsUnique, index_map_len, keys};
+ghost use Rattle.path_sets.specs.Cells.{RowsStay};
+ghost use Rattle.path_sets.specs.declared.rows.Row.{Row};
 ghost use Rattle.path_sets.specs.Diagrams.{root_of, row_eq, row_of, Roots};
 
 use crate::place::Place;
@@ -47,33 +49,76 @@ pub(crate) fn root<A: Allocator + Copy>(rows: &Rows<A>, last: usize, row: &Row) 
     }
 }
 
-/// The index of a row, where it has a diagram.
-fn find<A: Allocator + Copy>(rows: &Rows<A>, row: &Row) -> Option<usize>
+/// The number of the diagram of the row at an index.
+pub(crate) fn root_at<A: Allocator + Copy>(rows: &Rows<A>, at: usize) -> u32
+    requires { at < index_map_len rows.now }
+    ensures { (row : Row) → slice_get (keys rows.now) at ≡ Some row
+        → result ≡ root_of rows.now.entries row.entry row.block }
+{
+    match rows.get_index(at) {
+        Some((_, number)) => *number,
+        None => unreachable!(),
+    }
+}
+
+/// The index of a row, where it has a diagram; the one used last is tried first.
+fn find<A: Allocator + Copy>(rows: &Rows<A>, last: usize, row: &Row) -> Option<usize>
     ensures here { IfSome result (λ at. slice_get (keys rows.now) at ≡ Some row.now) }
-    ensures value { IfSome result
-        (λ at. slice_get (values rows.now) at ≡ lookup (row_eq row.now) rows.now.entries) }
-    ensures within { IfSome result (λ at. at < index_map_len rows.now) }
     ensures none { IsNone result → lookup (row_eq row.now) rows.now.entries ≡ None }
 {
+    if let Some((used, _)) = rows.get_index(last) {
+        if used == row {
+            return Some(last);
+        }
+    }
     rows.get_index_of(row)
 }
 
-/// Gives a row's diagram its number. Where memory is refused, each row keeps its own.
-pub(crate) fn set_root<A: Allocator + Copy>(
+/// Gives a row that has no diagram the number of one. Where memory is refused, it has none.
+pub(crate) fn begin<A: Allocator + Copy>(
     rows: &mut Rows<A>,
     row: Row,
     number: u32,
 ) -> Result<(), AllocError>
-    requires { IsUnique row_eq rows.old }
-    ensures ok { OnOk result (Roots rows.old.entries row number rows.new.entries) }
+    requires { lookup (row_eq row) rows.old.entries ≡ None }
+    ensures ok { OnOk result (rows.new.entries ≡ rows.old.entries ++ (row, number) ∷ []) }
+    ensures roots { OnOk result (Roots rows.old.entries row number rows.new.entries) }
     ensures err { OnErr result (rows.new.entries ≡ rows.old.entries) }
     ensures unique { IsUnique row_eq rows.new }
 {
-    match find(rows, &row) {
-        Some(at) => rows[at] = number,
+    rows.insert(row, number)?;
+    Ok(())
+}
+
+/// The index of a row; where it has no diagram, it gets the one with nothing.
+pub(crate) fn index_of<A: Allocator + Copy>(
+    rows: &mut Rows<A>,
+    last: usize,
+    row: Row,
+) -> Result<usize, AllocError>
+    requires { IsUnique row_eq rows.old }
+    ensures at { IfOk result (λ at. slice_get (keys rows.new) at ≡ Some row) }
+    ensures stay { RowsStay rows.old.entries rows.new.entries }
+    ensures unique { IsUnique row_eq rows.new }
+{
+    match find(rows, last, &row) {
+        Some(at) => Ok(at),
         None => {
-            rows.insert(row, number)?;
+            let at = rows.len();
+            begin(rows, row, 0)?;
+            Ok(at)
         }
     }
-    Ok(())
+}
+
+/// Gives the diagram of the row at an index another number.
+pub(crate) fn set_root<A: Allocator + Copy>(rows: &mut Rows<A>, at: usize, number: u32)
+    requires within { at < index_map_len rows.old }
+    requires unique { IsUnique row_eq rows.old }
+    ensures roots { (row : Row) → slice_get (keys rows.old) at ≡ Some row
+        → Roots rows.old.entries row number rows.new.entries }
+    ensures keys { keys rows.new ≡ keys rows.old }
+    ensures unique { IsUnique row_eq rows.new }
+{
+    rows[at] = number;
 }

@@ -2,6 +2,7 @@
 
 use crate::sets::{contains, insert};
 use cases::first_word;
+use language::Word;
 use path_sets::{DiagramEdges, OrderedEdges, PathSet};
 use scarce::Scarce;
 use std::alloc::{AllocError, Allocator, Global};
@@ -17,7 +18,7 @@ struct Shape {
 }
 
 /// The path edge of a number, in no order, of one of the eight entries whose turn it is.
-fn scattered(shape: Shape, number: u64) -> (u64, usize, u64) {
+fn scattered(shape: Shape, number: u64) -> (Word, usize, Word) {
     let mixed = number.wrapping_mul(0x9e37_79b9_7f4a_7c15);
     let values = mixed ^ mixed >> 29;
     let kept = match shape.width {
@@ -26,7 +27,8 @@ fn scattered(shape: Shape, number: u64) -> (u64, usize, u64) {
     };
     let point = (mixed >> 40).checked_rem(shape.points).unwrap_or(0);
     let turns = number.checked_div(shape.turn).unwrap_or(0);
-    (turns << 3 | mixed >> 61, point as usize, kept)
+    let entry = (turns as Word) << 3 | (mixed >> 61) as Word;
+    (entry, point as usize, kept as Word)
 }
 
 /// Whether two sets have as many members, and the same of the edges of the numbers below this one.

@@ -1,7 +1,8 @@
 //! Inner nodes of the diagrams of a set.
 
-use crate::sets::{Spot, insert, spot_of, step};
+use crate::sets::{Spot, first_word, insert, spot_of, step};
 use cases::first;
+use language::Word;
 use path_sets::{DiagramEdges, PathSet};
 use std::alloc::{AllocError, Allocator, Global};
 
@@ -10,11 +11,11 @@ fn insert_multiples<A: Allocator, S: PathSet<A>>(
     set: &mut S,
     spot: Spot,
     count: u64,
-    factor: u64,
+    factor: Word,
 ) -> Result<u64, AllocError> {
     let before = set.len();
     for number in 0..count {
-        insert(set, (spot.0, spot.1, number.wrapping_mul(factor)))?;
+        insert(set, (spot.0, spot.1, (number as Word).wrapping_mul(factor)))?;
     }
     Ok(set.len().saturating_sub(before))
 }
@@ -28,7 +29,7 @@ fn insert_even<A: Allocator, S: PathSet<A>>(
     let before = set.len();
     for values in 0..1u64 << (bits % 64) {
         if values.count_ones() % 2 == 0 {
-            insert(set, (spot.0, spot.1, values))?;
+            insert(set, (spot.0, spot.1, values as Word))?;
         }
     }
     Ok(set.len().saturating_sub(before))
@@ -43,7 +44,7 @@ pub fn filling<A: Allocator, S: PathSet<A>>(
     if let Some(text) = word.strip_prefix('*') {
         let (spot, rest) = spot_of(text);
         let (count, rest) = first(rest);
-        let added = insert_multiples(set, spot, count, first(rest).0)?;
+        let added = insert_multiples(set, spot, count, first_word(rest).0)?;
         write!(out, "{added} ")
     } else if let Some(text) = word.strip_prefix('^') {
         let (spot, rest) = spot_of(text);

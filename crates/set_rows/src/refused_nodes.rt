@@ -2,6 +2,7 @@
 
 use crate::nodes::filling;
 use crate::sets::{Spot, contains, spot_of};
+use language::Word;
 use path_sets::{DiagramEdges, OrderedEdges, PathSet};
 use scarce::Scarce;
 use std::alloc::{AllocError, Allocator, Global};
@@ -28,7 +29,7 @@ fn are_alike<A: Allocator, B: Allocator, S: PathSet<A>, T: PathSet<B>>(
     let next = spot.1.wrapping_add(1);
     one.len() == other.len()
         && (0..1_300u64).all(|number| {
-            let values = number.wrapping_mul(13);
+            let values = number.wrapping_mul(13) as Word;
             let here = (spot.0, spot.1, values);
             let there = (spot.0, next, values);
             contains(one, here) == contains(other, here)

@@ -1,30 +1,37 @@
 //! Sets of path edges.
 
 use cases::first;
+use language::Word;
 use path_sets::{DiagramEdges, OrderedEdges, PathSet};
 use scarce::Scarce;
 use std::alloc::{AllocError, Allocator, Global};
 
 /// An entry and a point.
-pub type Spot = (u64, usize);
+pub type Spot = (Word, usize);
+
+/// The first word of some numbers with points between them, and the others; 0 where there is none.
+pub fn first_word(text: &str) -> (Word, &str) {
+    let (number, others) = text.split_once('.').unwrap_or((text, ""));
+    (number.parse::<Word>().unwrap_or(0), others)
+}
 
 /// The entry and the point of two numbers with a point between them, and the numbers behind them.
 pub fn spot_of(text: &str) -> (Spot, &str) {
-    let (entry, text) = first(text);
+    let (entry, text) = first_word(text);
     let (point, text) = first(text);
     ((entry, point as usize), text)
 }
 
 /// The triple of three numbers with points between them.
-fn triple_of(text: &str) -> (u64, usize, u64) {
+fn triple_of(text: &str) -> (Word, usize, Word) {
     let ((entry, point), rest) = spot_of(text);
-    (entry, point, first(rest).0)
+    (entry, point, first_word(rest).0)
 }
 
 /// Inserts, where the set is small enough.
 pub fn insert<A: Allocator, S: PathSet<A>>(
     set: &mut S,
-    edge: (u64, usize, u64),
+    edge: (Word, usize, Word),
 ) -> Result<bool, AllocError> {
     if set.len() > 1_000_000 {
         return Err(AllocError);
@@ -32,7 +39,7 @@ pub fn insert<A: Allocator, S: PathSet<A>>(
     set.insert(edge.0, edge.1, edge.2)
 }
 
-pub fn contains<A: Allocator, S: PathSet<A>>(set: &S, edge: (u64, usize, u64)) -> bool {
+pub fn contains<A: Allocator, S: PathSet<A>>(set: &S, edge: (Word, usize, Word)) -> bool {
     set.contains(edge.0, edge.1, edge.2)
 }
 
@@ -82,12 +89,12 @@ pub fn step<A: Allocator, S: PathSet<A>>(
 
 /// The edge of a number, at one of 7 points and of one of 9 entries; so many different ones, and then the first ones
 /// again.
-fn edge_of(different: u64, number: u64) -> (u64, usize, u64) {
+fn edge_of(different: u64, number: u64) -> (Word, usize, Word) {
     let number = number.checked_rem(different).unwrap_or(0);
     (
-        number % 9,
+        (number % 9) as Word,
         (number % 7) as usize,
-        number.wrapping_mul(40_503) % 1000,
+        (number.wrapping_mul(40_503) % 1000) as Word,
     )
 }
 

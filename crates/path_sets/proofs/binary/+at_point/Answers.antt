@@ -7,12 +7,12 @@ use Rattle.path_sets.proofs.binary.+at_point.Goals as goal
 
 pub at_point-returns-then-asked-clause-answers : goal.at_point-returns-then-asked-clause-answers
 at_point-returns-then-asked-clause-answers g t c =
-    last_answers c.args.quads.now.kept.keys c.args.bit c.args.nodes.now.kept.keys c.args.asked 1 (omega arith) c.if-asked-eq32.true
+    last_answers c.args.quads.now.kept.keys c.args.bit c.args.nodes.now.kept.keys c.args.asked 1 (omega arith) c.if-asked-eq-LEVELS.true
     c.if-asked.true
 
 pub at_point-returns-else-asked-clause-answers : goal.at_point-returns-else-asked-clause-answers
 at_point-returns-else-asked-clause-answers g t c =
-    last_answers c.args.quads.now.kept.keys c.args.bit c.args.nodes.now.kept.keys c.args.asked 0 (omega arith) c.if-asked-eq32.true
+    last_answers c.args.quads.now.kept.keys c.args.bit c.args.nodes.now.kept.keys c.args.asked 0 (omega arith) c.if-asked-eq-LEVELS.true
     c.if-asked.false
 
 pub at_point-returns-then-not-asked-clause-answers : goal.at_point-returns-then-not-asked-clause-answers

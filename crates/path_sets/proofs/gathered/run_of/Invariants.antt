@@ -1,6 +1,5 @@
 use Rattle.std.proofs.Common.{length, ◌-◌, ◌≡◌, ℕ, ◌<◌, ◌≤◌, Some, slice_get}
-use Rattle.path_sets.specs.declared.place.Place.{Place}
-use Rattle.path_sets.specs.Diagrams.{row_of}
+use Rattle.path_sets.specs.declared.cell.Cell.{Cell}
 use Rattle.path_sets.proofs.gathered.run_of.Given as goal
 
 abbrev pub decreases-loop-end : goal.decreases-loop-end
@@ -10,5 +9,5 @@ abbrev pub invariant-loop-end : goal.invariant-loop-end
 invariant-loop-end l = record {
   some : 0 < l.end;
   within : l.end ≤ length l.cells;
-  all : (i : ℕ) (c : Place × ℕ) → 0 < i → i < l.end → slice_get l.cells i ≡ Some c → row_of c.0 ≡ l.row;
+  all : (i : ℕ) (c : Cell) → 0 < i → i < l.end → slice_get l.cells i ≡ Some c → c.row ≡ l.row;
 }

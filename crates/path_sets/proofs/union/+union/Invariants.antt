@@ -1,10 +1,11 @@
-use Rattle.std.proofs.Common.{length, ◌-◌, ◌≡◌, ℕ, true, ◌⊎◌, ◌↔◌}
+use Rattle.std.proofs.Common.{length, ◌-◌, ◌*◌, ◌≡◌, ℕ, true, ◌⊎◌, ◌↔◌}
+use Rattle.path_sets.specs.Halves.{half_levels}
 use Rattle.path_sets.specs.Masks.{bit_of}
 use Rattle.path_sets.specs.Quads.{AreInside, Given, KeepQuads, points_of, sees}
 use Rattle.path_sets.proofs.union.+union.Given as goal
 
 abbrev pub decreases-union : goal.decreases-union
-decreases-union g l = 32 - l.level
+decreases-union g l = 2 * half_levels - l.level
 
 abbrev pub decreases-loop-left : goal.decreases-loop-left
 decreases-loop-left g l = length l.left

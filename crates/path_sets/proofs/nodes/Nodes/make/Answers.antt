@@ -1,5 +1,6 @@
 use Rattle.std.proofs.Common.{arith}
 use Rattle.std.proofs.lemmas.Option.{slice_get_within}
+use Rattle.language.specs.Words.{word_bits}
 use Rattle.path_sets.specs.declared.node.Node.{Node}
 use Rattle.path_sets.proofs.Grown.{level_here, still_once}
 use Rattle.path_sets.proofs.OneBit.{still_down, still_ordered, still_reduced, node_keeps, node_joined}
@@ -43,7 +44,7 @@ pub returns-clause-deep : goal.returns-clause-deep
 returns-clause-deep g c =
     let s = c.args.self.now in
     let x : Node = record { level = c.args.level; low = c.args.low; high = c.args.high } in
-    let same = level_here (λ (y : Node). y.level) 64 c.index_of.new.kept.keys c.in_ok-at.at x c.in_ok-at.ensures.at in
+    let same = level_here (λ (y : Node). y.level) word_bits c.index_of.new.kept.keys c.in_ok-at.at x c.in_ok-at.ensures.at in
     omega (arith, same)
 
 pub returns-clause-joined : goal.returns-clause-joined

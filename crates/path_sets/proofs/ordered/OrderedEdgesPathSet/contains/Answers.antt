@@ -1,9 +1,8 @@
-use Rattle.std.proofs.Common.{sym, ap, ◌∙◌, subst, refl, nat_eq, true≢false, arith}
-use Rattle.std.specs.Map.{lookup}
+use Rattle.std.proofs.Common.{sym, subst, refl, true≢false}
 use Rattle.std.proofs.lemmas.Option.{slice_get_read}
 use Rattle.language.specs.Lists.{Member}
 use Rattle.path_sets.specs.Edges.{edges}
-use Rattle.path_sets.specs.Triples.{Triple, triple}
+use Rattle.path_sets.specs.Triples.{triple}
 use Rattle.path_sets.proofs.Sharded.{in_own, of_own, none_without}
 use Rattle.path_sets.proofs.ordered.OrderedEdgesPathSet.contains.Goals as goal
 
