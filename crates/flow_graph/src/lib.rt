@@ -19,7 +19,6 @@ mod side;
 mod sizes;
 mod table;
 mod takes;
-mod word;
 
 pub use assignment::Assignment;
 pub use call::Call;

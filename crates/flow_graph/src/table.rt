@@ -40,7 +40,7 @@ impl<A: Allocator> Table<A> {
         let mut row: u64 = 0;
         while at > 0 {
             at -= 1;
-            row = 2 * row + (values >> inputs[at] & 1);
+            row = 2 * row + (values >> inputs[at] & 1) as u64;
         }
         self.outputs.word(row / WORD_ROWS) >> (row % WORD_ROWS) & 1 == 1
     }

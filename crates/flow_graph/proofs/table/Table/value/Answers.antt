@@ -4,9 +4,10 @@ use Rattle.std.proofs.Common.{length, map, drop, get_or, ap, arith, subst, sym}
 use Rattle.std.proofs.Math.Pow.{pow_mono}
 use Rattle.std.proofs.lemmas.List.{length-map, length-drop}
 use Rattle.std.proofs.lemmas.Nat.Bits.{shr_and_one}
+use Rattle.resolved.specs.Limits.{most_places}
 use Rattle.flow_graph.specs.Bits.{bit_of, coded}
 use Rattle.flow_graph.specs.Formulas.{words_of}
-use Rattle.flow_graph.specs.Tables.{AreBits, output}
+use Rattle.flow_graph.specs.Tables.{AreBits, output, word_rows}
 use Rattle.flow_graph.proofs.Stacks.{bit_worth, coded_small, worth_small}
 use Rattle.flow_graph.proofs.table.Table.value.Goals as goal
 
@@ -19,7 +20,7 @@ small f xs at row few is =
     omega (arith, most, below, is)
 
 -- an input is a place
-inside : (xs : List ℕ) (i : ℕ) → AreBits xs → i < length xs → get_or xs i 0 < 64
+inside : (xs : List ℕ) (i : ℕ) → AreBits xs → i < length xs → get_or xs i 0 < most_places
 inside [] i bits within = absurd (omega (arith, within))
 inside (x ∷ xs) zero bits within = bits.0
 inside (x ∷ xs) (suc i) bits within = inside xs i bits.1 (omega (arith, within))
@@ -55,5 +56,5 @@ returns g c =
     let whole : row ≡ coded (map f c.args.self.now.inputs.items) =
     c.loop-at.invariant.1 ∙ ap (λ n. coded (map f (drop n c.as_slice-inputs.result.now))) first
     ∙ ap (λ xs. coded (map f xs)) c.as_slice-inputs.ensures.value in
-    ap (λ n. n == 1) (shr_and_one c.word.result (row % 64)) ∙ ap (λ w. bit_of w (row % 64)) c.word.ensures
+    ap (λ n. n == 1) (shr_and_one c.word.result (row % word_rows)) ∙ ap (λ w. bit_of w (row % word_rows)) c.word.ensures
     ∙ ap (output words) whole
