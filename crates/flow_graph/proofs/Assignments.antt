@@ -31,6 +31,7 @@ use Rattle.flow_graph.specs.declared.side.Side.TheVariants as side
 use Rattle.flow_graph.proofs.Rows.{bits_or, bits_xor, first_bit}
 use Rattle.flow_graph.proofs.Stacks.{worth_small, bit_worth}
 use Rattle.flow_graph.proofs.Worths.{coded_bit}
+use Rattle.language.specs.Words.{word_bits}
 use Rattle.resolved.specs.Limits.{most_places}
 
 -- ---- one bit
@@ -549,10 +550,10 @@ anys_step ws i w h e = ap anys (drop_more ws i w h) ∙ ap (λ x. any_of x.side 
 -- where some write is still a `?`, the choices so far can be doubled
 pub one_more_fits : {A : Type 0} (ws : List (Write A)) (i last : ℕ) (w : Write A) →
     (n : ℕ) × (last + 1 ≡ 2 ^ n) × (n + anys (drop i ws) ≡ anys ws) → i < length ws → w ≡ get_or ws i w →
-    any_of w.side ≡ 1 → anys ws ≤ most_places → last * 2 + 1 < 2 ^ 64
+    any_of w.side ≡ 1 → anys ws ≤ most_places → last * 2 + 1 < 2 ^ word_bits
 one_more_fits ws i last w (n, count, all) inside is one few =
     let step = anys_step ws i w inside is in
-    let most : 2 ^ n ≤ 2 ^ 63 = pow_mono (let z : n ≤ 63 = omega (arith, step, one, all, few) in z) in
+    let most : 2 ^ n ≤ 2 ^ (word_bits - 1) = pow_mono (let z : n ≤ word_bits - 1 = omega (arith, step, one, all, few) in z) in
     omega (arith, count, most)
 
 -- the later targets that have a right side
@@ -638,10 +639,10 @@ all_written {A} s xs ys n ws e leads =
     subst (λ l. Compiled s l (kept_from s xs ys 0)) (append-nil ws)
     (leads [] (subst (Compiled {A = A} s []) (sym (kept_none (bit_of_name s) name_of rhs_of xs ys n e)) tt))
 
-pub one_bit : (b : ℕ) → b < most_places → 1 * 2 ^ b % 2 ^ 64 ≡ 2 ^ b
-one_bit b h = let most : 2 ^ b ≤ 2 ^ 63 = pow_mono (let z : b ≤ 63 = omega (arith, h) in z) in omega (arith, most)
+pub one_bit : (b : ℕ) → b < most_places → 1 * 2 ^ b % 2 ^ word_bits ≡ 2 ^ b
+one_bit b h = let most : 2 ^ b ≤ 2 ^ (word_bits - 1) = pow_mono (let z : b ≤ word_bits - 1 = omega (arith, h) in z) in omega (arith, most)
 
 pub few_variables : {N : Type 0} (gs fs ls : List (syntax.Name N)) → length gs + (length fs + length ls) ≤ most_places →
-    length (names_of gs) + length (names_of fs ++ names_of ls) ≤ 64
+    length (names_of gs) + length (names_of fs ++ names_of ls) ≤ most_places
 few_variables gs fs ls h =
     omega (arith, h, length-map gs name_of, length-map fs name_of, length-map ls name_of, length-append (names_of fs) (names_of ls))

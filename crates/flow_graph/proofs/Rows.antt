@@ -1,12 +1,13 @@
 -- Outputs of truth tables, bit by bit.
 use Rattle.std.proofs.Common.{◌≡◌, ◌<◌, ◌≤◌, ℕ, zero, suc, ◌+◌, ◌-◌, ◌*◌, ◌/◌, ◌%◌, ◌^◌, min, max}
-use Rattle.std.proofs.Common.{◌==◌, cond, not, ◌&&◌, ◌||◌, Bool, true, false, List, [], ◌∷◌, ◌++◌, length, get_or}
+use Rattle.std.proofs.Common.{◌==◌, cond, not, ◌&&◌, ◌||◌, Bool, true, false, Some, None, List, [], ◌∷◌, ◌++◌, length, get_or}
 use Rattle.std.proofs.Common.{map, take, set, w64, refl, sym, ◌∙◌, ap, subst, arith, append-nil, append_assoc}
 use Rattle.std.specs.Int.{bit_at}
 use Rattle.std.specs.Int.RustNames.{bit_and, bit_or, bit_xor}
 use Rattle.std.proofs.lemmas.Bool.{eqb-true, eqb-false, false≢true}
+use Rattle.std.proofs.lemmas.Option.{same_Some, none-some}
 use Rattle.std.proofs.lemmas.Nat.Bits.{bit_at_lowest, bit_at-suc, bit_at-lt, bit_at_and, bit_at_or, bit_at_xor, bit_at_not}
-use Rattle.language.specs.Tree.{Operator, xor, Expression, const, var, negation, two}
+use Rattle.language.specs.Tree.{Operator, xor, Expression, negation, two}
 use Rattle.language.specs.Value.{operate}
 use Rattle.std.proofs.Math.Nat.{mul_assoc, mul-add}
 use Rattle.std.proofs.Math.Pow.{pow_mono}
@@ -14,7 +15,8 @@ use Rattle.std.proofs.lemmas.List.{length-map, get_or-take, get_or-set_same, get
 use Rattle.flow_graph.proofs.Stacks.{worth_small, coded_small}
 use Rattle.flow_graph.specs.Bits.{bit_of, worth_of, coded}
 use Rattle.flow_graph.specs.Located.{worth}
-use Rattle.flow_graph.specs.Tables.{slot, is_input, output, ReadsInputs, Tabulates, AreBits, Widens, most_inputs, most_rows, word_rows}
+use Rattle.flow_graph.specs.Tables.{slot, is_input, known_bit, output, HaveRow, ReadsBit, Tabulates, AreBits, Widens}
+use Rattle.flow_graph.specs.Tables.{most_inputs, most_rows, word_rows}
 use Rattle.resolved.specs.Limits.{most_places}
 
 -- ---- operators on words
@@ -139,6 +141,15 @@ slot_inside b (x ∷ xs) h = go (b == x) h (slot_inside b xs)
     go true k rest = refl
     go false k rest = rest (omega (arith, k))
 
+pub slot_outside : (b : ℕ) (xs : List ℕ) → length xs ≤ slot b xs → is_input b xs ≡ false
+slot_outside b [] h = refl
+slot_outside b (x ∷ xs) h = go (b == x) h (slot_outside b xs)
+  where
+    go : (c : Bool) → suc (length xs) ≤ cond c 0 (suc (slot b xs)) → (length xs ≤ slot b xs → is_input b xs ≡ false)
+        → cond c true (is_input b xs) ≡ false
+    go true k rest = absurd (omega (arith, k))
+    go false k rest = rest (omega (arith, k))
+
 -- inputs behind others change no slot of these
 pub slot_kept : (b : ℕ) (xs ys : List ℕ) → is_input b xs ≡ true → (slot b (xs ++ ys) ≡ slot b xs) × (is_input b (xs ++ ys) ≡ true)
 slot_kept b [] ys h = absurd (false≢true h)
@@ -165,12 +176,8 @@ slot_last b (x ∷ xs) = go (b == x) (slot_last b xs)
 
 -- a read of the bit in this slot
 pub reads_slot : (b s : ℕ) (words : List ℕ) (xs : List ℕ) → slot b xs ≡ s → is_input b xs ≡ true →
-    ((j : ℕ) → j < most_rows → output words j ≡ bit_of j s) → Tabulates xs words (var b)
-reads_slot b s words xs at there right = record {
-  reads = there;
-  rows = λ j less. right j less ∙ ap (bit_of j)
-      (sym at);
-}
+    ((j : ℕ) → j < most_rows → output words j ≡ bit_of j s) → ReadsBit xs words b
+reads_slot b s words xs at there right f j less have = right j less ∙ ap (bit_of j) (sym at) ∙ sym (have b there)
 
 pub bits_pushed : (b : ℕ) (xs : List ℕ) → b < most_places → AreBits xs → AreBits (xs ++ (b ∷ []))
 bits_pushed b [] h k = (h, tt)
@@ -185,61 +192,56 @@ widens_more xs ys zs (more, is) (others, are) = (more ++ others, are ∙ ap (λ 
 
 -- ---- expressions
 
--- where an expression reads only inputs, what it is worth hangs on their values alone
-pub worth_same : (f g : ℕ → Bool) (xs : List ℕ) (e : Expression ℕ) → ReadsInputs xs e → ((b : ℕ) → is_input b xs ≡ true → f b ≡ g b)
-    → worth f e ≡ worth g e
-worth_same f g xs (const b) r alike = refl
-worth_same f g xs (var i) r alike = alike i r
-worth_same f g xs (negation e) r alike = ap not (worth_same f g xs e r alike)
-worth_same f g xs (two o a b) r alike =
-    ap (λ x. operate o x (worth f b)) (worth_same f g xs a r.0 alike) ∙ ap (λ x. operate o (worth g a) x) (worth_same f g xs b r.1 alike)
+-- the words have this output in each row
+pub constant : (words : List ℕ) (c : Bool) → all_below most_rows (λ j. same (output words j) c) ≡ true → (j : ℕ) → j < most_rows
+    → output words j ≡ c
+constant words c h j less = same_is (output words j) c (below most_rows (λ k. same (output words k) c) h j less)
 
-reads_widened : (xs ys : List ℕ) (e : Expression ℕ) → ReadsInputs xs e → ReadsInputs (xs ++ ys) e
-reads_widened xs ys (const b) r = tt
-reads_widened xs ys (var i) r = (slot_kept i xs ys r).1
-reads_widened xs ys (negation e) r = reads_widened xs ys e r
-reads_widened xs ys (two o a b) r = (reads_widened xs ys a r.0, reads_widened xs ys b r.1)
+-- where the left operand is the same in each row, and decides, so is the whole
+pub decided_rows : (ones l w : List ℕ) (o : Operator) (a c : Bool) → all_below most_rows (λ j. same (output ones j) a) ≡ true
+    → all_below most_rows (λ j. same (output w j) c) ≡ true → l ≡ ones → ((b : Bool) → c ≡ operate o a b)
+    → (j : ℕ) (right : Bool) → j < most_rows → output w j ≡ operate o (output l j) right
+decided_rows ones l w o a c all whole is decides j right less =
+    constant w c whole j less ∙ decides right
+    ∙ ap (λ x. operate o x right) (sym (constant ones a all j less) ∙ ap (λ xs. output xs j) (sym is))
 
-widened : (xs ys w : List ℕ) (e : Expression ℕ) → Tabulates xs w e → Tabulates (xs ++ ys) w e
-widened xs ys w e t = record {
-  reads = reads_widened xs ys e t.reads;
-  rows = λ j less. t.rows j less
-      ∙ worth_same (λ b. bit_of j (slot b xs)) (λ b. bit_of j (slot b (xs ++ ys))) xs e t.reads
-      (λ b h. ap (bit_of j) (sym (slot_kept b xs ys h).0));
-}
-
--- the outputs of a constant: the same in each row
-pub constant : (xs words : List ℕ) (c : Bool) → all_below most_rows (λ j. same (output words j) c) ≡ true
-    → Tabulates xs words (const c)
-constant xs words c h = record {
-  reads = tt;
-  rows = λ j less. same_is (output words j) c
-      (below most_rows (λ k. same (output words k) c) h j less);
-}
-
--- what is not differs from 1
-pub complemented : (xs w ones v : List ℕ) (e : Expression ℕ) → Tabulates xs ones (const true) →
-    ((j : ℕ) → j < most_rows → output v j ≡ operate xor (output w j) (output ones j)) → Tabulates xs w e
-    → Tabulates xs v (negation e)
-complemented xs w ones v e one turns t = record {
-  reads = t.reads;
-  rows = λ j less. turns j less
-      ∙ ap (operate xor (output w j)) (one.rows j less) ∙ turn (output w j) ∙ ap not (t.rows j less);
-}
+-- what is known of a bit is its value
+pub known_read : (known : List ℕ) (row b : ℕ) (c : Bool) (f : ℕ → Bool) → known_bit known row b ≡ Some c → HaveRow known row f → c ≡ f b
+known_read known row b c f is have = go (is_input b known) refl is
   where
-    turn : (b : Bool) → operate xor b true ≡ not b
-    turn true = refl
-    turn false = refl
+    go : (k : Bool) → is_input b known ≡ k → cond k (Some (bit_of row (slot b known))) None ≡ Some c → c ≡ f b
+    go true e some = sym (same_Some _ _ some) ∙ sym (have b e)
+    go false e none = absurd (none-some _ none)
 
-pub operated : (xs ys l r w : List ℕ) (o : Operator) (a b : Expression ℕ) → Widens xs ys → Tabulates xs l a
-    → Tabulates ys r b
-    → ((j : ℕ) → j < most_rows → output w j ≡ operate o (output l j) (output r j)) → Tabulates ys w (two o a b)
-operated xs ys l r w o a b more s t right =
-    let left : Tabulates ys l a = subst (λ zs. Tabulates zs l a) (sym more.1) (widened xs more.0 l a s) in record {
-      reads = (left.reads, t.reads);
-      rows = λ j less. right j less ∙ ap (λ x. operate o x (output r j)) (left.rows j less)
-          ∙ ap (λ x. operate o (worth (λ c. bit_of j (slot c ys)) a) x) (t.rows j less);
-    }
+-- the values have the row of the inputs without those behind them
+have_first : (xs ys : List ℕ) (j : ℕ) (f : ℕ → Bool) → HaveRow (xs ++ ys) j f → HaveRow xs j f
+have_first xs ys j f have b h = let kept = slot_kept b xs ys h in have b kept.1 ∙ ap (bit_of j) kept.0
+
+module _ (known : List ℕ) (row : ℕ) where
+  -- what is not differs from 1
+  pub complemented : (xs w ones v : List ℕ) (e : Expression ℕ) → ((j : ℕ) → j < most_rows → output ones j ≡ true) →
+      ((j : ℕ) → j < most_rows → output v j ≡ operate xor (output w j) (output ones j)) → Tabulates known row xs w e
+      → Tabulates known row xs v (negation e)
+  complemented xs w ones v e one turns t f j less k h =
+      turns j less ∙ ap (operate xor (output w j)) (one j less) ∙ turn (output w j) ∙ ap not (t f j less k h)
+    where
+      turn : (b : Bool) → operate xor b true ≡ not b
+      turn true = refl
+      turn false = refl
+
+  pub operated : (xs ys l r w : List ℕ) (o : Operator) (a b : Expression ℕ) → Widens xs ys → Tabulates known row xs l a
+      → Tabulates known row ys r b
+      → ((j : ℕ) → j < most_rows → output w j ≡ operate o (output l j) (output r j)) → Tabulates known row ys w (two o a b)
+  operated xs ys l r w o a b more s t right f j less k h =
+      right j less
+      ∙ ap (λ x. operate o x (output r j)) (s f j less k (have_first xs more.0 j f (subst (λ zs. HaveRow zs j f) more.1 h)))
+      ∙ ap (operate o (worth f a)) (t f j less k h)
+
+  -- an operator that the left operand decides
+  pub decided_left : (xs l w : List ℕ) (o : Operator) (a b : Expression ℕ) → Tabulates known row xs l a
+      → ((j : ℕ) (right : Bool) → j < most_rows → output w j ≡ operate o (output l j) right) → Tabulates known row xs w (two o a b)
+  decided_left xs l w o a b s decides f j less k h =
+      decides j (worth f b) less ∙ ap (λ x. operate o x (worth f b)) (s f j less k h)
 
 -- ---- rows
 
@@ -272,18 +274,21 @@ row_bit f (x ∷ xs) b h = go (b == x) refl h (row_bit f xs b)
 output_taken : (n j : ℕ) (words : List ℕ) → j < word_rows * n → output (take n words) j ≡ output words j
 output_taken n j words h = ap (λ w. bit_of w (j % word_rows)) (get_or-take n words (j / word_rows) 0 (omega (arith, h)))
 
+-- values have the row that they make
+pub have_own : (f : ℕ → Bool) (xs : List ℕ) → HaveRow xs (coded (map f xs)) f
+have_own f xs b h = sym (row_bit f xs b h)
+
 -- the output in the row of a valuation is what the expression is worth there
-pub looked_up : (f : ℕ → Bool) (xs words : List ℕ) (n : ℕ) (e : Expression ℕ) → length xs ≤ most_inputs
-    → 2 ^ length xs ≤ word_rows * n → Tabulates xs words e →
+pub looked_up : (f : ℕ → Bool) (known : List ℕ) (row : ℕ) (xs words : List ℕ) (n : ℕ) (e : Expression ℕ) → length xs ≤ most_inputs
+    → 2 ^ length xs ≤ word_rows * n → Tabulates known row xs words e → HaveRow known row f →
     output (take n words) (coded (map f xs)) ≡ worth f e
-looked_up f xs words n e few enough t =
+looked_up f known row xs words n e few enough t have =
     let many : length (map f xs) ≡ length xs = length-map xs f in
     let most : 2 ^ length xs ≤ 2 ^ 10 = pow_mono few in
     let small : coded (map f xs) < 2 ^ length xs = subst (λ k. coded (map f xs) < 2 ^ k) many
     (coded_small (map f xs)) in
     output_taken n (coded (map f xs)) words (omega (arith, small, enough))
-    ∙ t.rows (coded (map f xs)) (omega (arith, most, small))
-    ∙ worth_same (λ b. bit_of (coded (map f xs)) (slot b xs)) f xs e t.reads (λ b h. row_bit f xs b h)
+    ∙ t f (coded (map f xs)) (omega (arith, most, small)) have (have_own f xs)
 
 -- one value more of a row: its place counts what it is worth
 split : (p : ℕ) (b : Bool) (n : ℕ) → p * (worth_of b + 2 * n) ≡ worth_of b * p + p * 2 * n

@@ -6,6 +6,7 @@ use Rattle.std.proofs.Math.Pow.{pow_mono}
 use Rattle.std.proofs.lemmas.Nat.Bits.{shr_and_one, bit_at-lt}
 use Rattle.std.specs.Int.{bit_at}
 use Rattle.std.specs.Int.RustNames.{bit_and}
+use Rattle.language.specs.Words.{word_bits}
 use Rattle.flow_graph.specs.Bits.{bit_of, worth_of, coded}
 
 pub worth_small : (b : Bool) → worth_of b < 2
@@ -35,8 +36,8 @@ bit_worth n i = go (bit_at n i) (bit_at-lt n i)
     go (suc zero) h = refl
     go (suc (suc k)) h = absurd (omega (arith, h))
 
-pub shifted_worth : (n i : ℕ) → i < 64 → bit_and (n / 2 ^ (i % 64)) 1 ≡ worth_of (bit_of n i)
-shifted_worth n i h = let same : i % 64 ≡ i = omega (arith, h) in shr_and_one n (i % 64) ∙ ap (bit_at n) same ∙ bit_worth n i
+pub shifted_worth : (n i : ℕ) → i < word_bits → bit_and (n / 2 ^ (i % word_bits)) 1 ≡ worth_of (bit_of n i)
+shifted_worth n i h = let same : i % word_bits ≡ i = omega (arith, h) in shr_and_one n (i % word_bits) ∙ ap (bit_at n) same ∙ bit_worth n i
 
 pub byte_worth : (b : Bool) → bool_byte b ≡ worth_of b
 byte_worth true = refl

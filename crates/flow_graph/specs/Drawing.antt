@@ -14,7 +14,7 @@ use Rattle.resolved.specs.Limits.{most_places}
 use Rattle.resolved.specs.Narrow.{width}
 use Rattle.flow_graph.specs.Drawn.{flows_of, start_of, globals_of, result_mask}
 
--- the procedure's valuations have at most 64 values, and there are at most 32 procedures
+-- the procedure's valuations fit a word, and there are at most 32 procedures
 abbrev pub ScopeHasRoom : {N : Type 0} → Program N → Proc N → Type 0
 ScopeHasRoom program procedure =
     (width (tree_of program) (proc_of procedure) ≤ most_places) × (length program.procs.items ≤ 32)

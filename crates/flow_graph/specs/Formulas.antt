@@ -1,16 +1,17 @@
 -- What compiled expressions and right sides say.
-use Rattle.std.specs.Prelude.{◌≡◌, ℕ, Bool, List, [], ◌∷◌, ◌++◌, length}
+use Rattle.std.specs.Prelude.{◌≡◌, ℕ, Bool, false, Option, Some, None, List, [], ◌∷◌, ◌++◌, length, map, slice_get}
 use Rattle.language.specs.Tree.{Name, Expression, RightSide, any, value}
 use Rattle.language.specs.Value.{value_of}
 use Rattle.language.specs.Resolve.{Scope, resolve_expression}
 use Rattle.flow_graph.specs.Bits.{bit_of, coded}
 use Rattle.flow_graph.specs.Located.{worth}
 use Rattle.flow_graph.specs.Postfix.{after_steps, top}
-use Rattle.flow_graph.specs.Tables.{table_says}
+use Rattle.flow_graph.specs.Tables.{table_says, HaveRow}
 use Rattle.flow_graph.specs.declared.formula.Formula.{Formula}
-use Rattle.flow_graph.specs.declared.formula.Formula.TheVariants.{Code, Table as Tabled}
+use Rattle.flow_graph.specs.declared.formula.Formula.TheVariants.{Code, Picks as Picked, Table as Tabled}
 use Rattle.flow_graph.specs.declared.outputs.Outputs.{Outputs}
 use Rattle.flow_graph.specs.declared.outputs.Outputs.TheVariants.{One, More}
+use Rattle.flow_graph.specs.declared.picks.Picks.{Picks}
 use Rattle.flow_graph.specs.declared.table.Table.{Table}
 use Rattle.flow_graph.specs.declared.side.Side.{Side}
 use Rattle.flow_graph.specs.declared.side.Side.TheVariants as side
@@ -24,13 +25,29 @@ words_of (More words) = words.items
 abbrev pub table_worth : {A : Type 0} → Table A → ℕ → Bool
 table_worth table values = table_says table.inputs.items (words_of table.outputs) values
 
--- for all values, the output in their row is what the expression is worth
-abbrev pub IsTruthTableOf : {A : Type 0} → Table A → Expression ℕ → Type 0
-IsTruthTableOf table expression = (values : ℕ) → table_worth table values ≡ worth (bit_of values) expression
+-- for all values by which the known bits have this row, the output in their row is what the expression is worth
+abbrev pub IsTruthTableIn : {A : Type 0} → Table A → List ℕ → ℕ → Expression ℕ → Type 0
+IsTruthTableIn table known row expression =
+    (values : ℕ) → HaveRow known row (bit_of values) → table_worth table values ≡ worth (bit_of values) expression
 
--- what the formula answers for these values: the table's output in their row, or what its steps leave on the stack
+-- the output of a table, where there is one
+abbrev pub case_worth : {A : Type 0} → Option (Table A) → ℕ → Bool
+case_worth None values = false
+case_worth (Some table) values = table_worth table values
+
+-- the output of the table for the row that the picked bits have by these values
+abbrev pub picks_worth : {A : Type 0} → Picks A → ℕ → Bool
+picks_worth picks values = case_worth (slice_get picks.cases.items (coded (map (bit_of values) picks.bits))) values
+
+-- for all values, the table for the row of the picked bits says what the expression is worth
+abbrev pub AreTruthTablesOf : {A : Type 0} → Picks A → Expression ℕ → Type 0
+AreTruthTablesOf picks expression = (values : ℕ) → picks_worth picks values ≡ worth (bit_of values) expression
+
+-- what the formula answers for these values: the table's output in their row, that of the table for the picked bits'
+-- row, or what its steps leave on the stack
 abbrev pub says : {A : Type 0} → Formula A → ℕ → Bool
 says (Tabled table) values = table_worth table values
+says (Picked picks) values = picks_worth picks values
 says (Code p) values = top (after_steps (bit_of values) p.steps.items [])
 
 -- For every valuation of as many globals as the scope has, the formula answers the value of the expression.

@@ -36,7 +36,7 @@ lowered_routine lowering = record {
 abbrev pub lowered_widths : {N A : Type 0} → Lowering N A → Widths
 lowered_widths lowering = widths_of (lowering_scope lowering) (gives_value (block_of lowering.body.now))
 
--- at most 64 variables, at most 32 procedures, and the mask is that of the result
+-- no more variables than places, at most 32 procedures, and the mask is that of the result
 abbrev pub IsLowerable : {N A : Type 0} → Lowering N A → Type 0
 IsLowerable lowering = IsSmall lowering.scope × (length lowering.scope.procedures.now ≤ 32)
     × (lowering.result ≡ given_mask (length (lowering_scope lowering).globals) (lowered_routine lowering))

@@ -1,8 +1,8 @@
 -- Truth tables: the worth of an expression of a few bits for each of their values.
 use mathlib.Core.HLevel.{×_prop, Unit-prop}
-use Rattle.std.specs.Prelude.{◌≡◌, ◌<◌, ◌/◌, ◌%◌, ℕ, suc, get_or, Bool, true, false, cond, ◌==◌, List, []}
-use Rattle.std.specs.Prelude.{◌∷◌, ◌++◌, map}
-use Rattle.language.specs.Tree.{Expression, const, var, negation, two}
+use Rattle.std.specs.Prelude.{◌≡◌, ◌<◌, ◌/◌, ◌%◌, ℕ, suc, get_or, Bool, true, false, cond, ◌==◌, Option, Some, None}
+use Rattle.std.specs.Prelude.{List, [], ◌∷◌, ◌++◌, map}
+use Rattle.language.specs.Tree.{Expression}
 use Rattle.flow_graph.specs.Bits.{bit_of, coded}
 use Rattle.flow_graph.specs.Located.{worth}
 use Rattle.flow_graph.specs.Postfix.{less_prop}
@@ -18,12 +18,13 @@ abbrev pub is_input : ℕ → List ℕ → Bool
 is_input bit [] = false
 is_input bit (x ∷ xs) = cond (bit == x) true (is_input bit xs)
 
--- each bit that the expression reads is an input
-abbrev pub ReadsInputs : List ℕ → Expression ℕ → Type 0
-ReadsInputs inputs (const truth) = Unit {0}
-ReadsInputs inputs (var i) = is_input i inputs ≡ true
-ReadsInputs inputs (negation expression) = ReadsInputs inputs expression
-ReadsInputs inputs (two operator left right) = ReadsInputs inputs left × ReadsInputs inputs right
+-- the value of a bit, where it is one of those that have this row
+abbrev pub known_bit : List ℕ → ℕ → ℕ → Option Bool
+known_bit bits row bit = cond (is_input bit bits) (Some (bit_of row (slot bit bits))) None
+
+-- by these values the bits have this row: each has the value of its slot's bit
+abbrev pub HaveRow : List ℕ → ℕ → (ℕ → Bool) → Type 0
+HaveRow bits row f = (b : ℕ) → is_input b bits ≡ true → f b ≡ bit_of row (slot b bits)
 
 -- how many inputs a table has at most
 abbrev pub most_inputs : ℕ
@@ -41,10 +42,14 @@ word_rows = 64
 abbrev pub output : List ℕ → ℕ → Bool
 output words row = bit_of (get_or words (row / word_rows) 0) (row % word_rows)
 
--- Output j is what the expression is worth where each input has the value of its bit of j.
-pub record Tabulates (inputs : List ℕ) (words : List ℕ) (expression : Expression ℕ) : Type 0 where
-  pub reads : ReadsInputs inputs expression
-  pub rows : (j : ℕ) → j < most_rows → output words j ≡ worth (λ b. bit_of j (slot b inputs)) expression
+-- output j is the value of the bit, by all values by which the inputs have row j
+abbrev pub ReadsBit : List ℕ → List ℕ → ℕ → Type 0
+ReadsBit inputs words bit = (f : ℕ → Bool) (j : ℕ) → j < most_rows → HaveRow inputs j f → output words j ≡ f bit
+
+-- output j is what the expression is worth, by all values by which the known bits have their row and the inputs row j
+abbrev pub Tabulates : List ℕ → ℕ → List ℕ → List ℕ → Expression ℕ → Type 0
+Tabulates known row inputs words expression =
+    (f : ℕ → Bool) (j : ℕ) → j < most_rows → HaveRow known row f → HaveRow inputs j f → output words j ≡ worth f expression
 
 -- the output in the row of these values
 abbrev pub table_says : List ℕ → List ℕ → ℕ → Bool

@@ -34,7 +34,7 @@ pub(crate) fn masked(values: Word, mask: Word, value: bool) -> Word
 
 impl<A: Allocator> Side<A> {
     /// The choice for the right sides behind this one.
-    fn choice_left(&self, choice: u64) -> u64
+    fn choice_left(&self, choice: Word) -> Word
         ensures { result ≡ choice_left self.now choice }
     {
         match self {
@@ -45,11 +45,11 @@ impl<A: Allocator> Side<A> {
 }
 
 /// The number of the last choice for the `?` of these writes: the choices are numbered from 0.
-fn last_choice<A: Allocator>(writes: &[Write<A>]) -> u64
+fn last_choice<A: Allocator>(writes: &[Write<A>]) -> Word
     requires { anys writes.now ≤ most_places }
     ensures { result + 1 ≡ 2 ^ anys writes.now }
 {
-    let mut last: u64 = 0;
+    let mut last: Word = 0;
     for write in writes {
         last = match &write.side {
             Side::Any => last * 2 + 1,
@@ -63,7 +63,7 @@ fn last_choice<A: Allocator>(writes: &[Write<A>]) -> u64
 #[derive(Debug, Drop)]
 pub struct Assignment<A: Allocator> {
     pub(crate) writes: Vec<Write<A>, A>,
-    pub(crate) last: u64,
+    pub(crate) last: Word,
 }
 
 impl<A: Allocator> Assignment<A> {
@@ -78,7 +78,7 @@ impl<A: Allocator> Assignment<A> {
     }
 
     /// The number of the last next valuation: they are numbered from 0, by the choices of `?`.
-    pub(crate) fn last(&self) -> u64
+    pub(crate) fn last(&self) -> Word
         ensures { result ≡ self.now.last }
     {
         self.last
@@ -87,7 +87,7 @@ impl<A: Allocator> Assignment<A> {
     /// The next valuation of this number. All right sides are computed over `values` before a bit is written; the
     /// values of the `?` are the bits of `choice`, from the lowest, in the order of the targets.
     #[inline(always)]
-    pub(crate) fn next(&self, values: Word, choice: u64) -> Word
+    pub(crate) fn next(&self, values: Word, choice: Word) -> Word
         ensures { result ≡ assigned self.now values choice }
     {
         let mut next = values;

@@ -6,15 +6,14 @@ ghost use Rattle.resolved.specs.Limits.{most_places};
 use crate::assignment::masked;
 use crate::formula::Formula;
 use crate::left::Left;
-use crate::word::BITS;
-use language::{Point, Word};
+use language::{Point, WORD_BITS, Word};
 use std::alloc::Allocator;
 
 /// The lowest bits of a number.
 pub(crate) fn low_bits(values: Word, count: u8) -> Word
     ensures { result ≡ values % 2 ^ count }
 {
-    if count < BITS {
+    if count < WORD_BITS {
         values % (1 << count)
     } else {
         values

@@ -1,6 +1,7 @@
 //! What leads on from a point.
 
 ghost use Rattle.std.specs.Prelude.{◌≡◌, ◌<◌, ◌^◌, ◌↔◌, IsTrue};
+ghost use Rattle.language.specs.Words.{word_bits};
 ghost use Rattle.flow_graph.specs.Flows.{last_of, next_of};
 
 use crate::assignment::Assignment;
@@ -26,7 +27,7 @@ pub enum Flow<A: Allocator> {
 
 impl<A: Allocator> Flow<A> {
     /// The number of the last choice: the choices of `?` are numbered from 0.
-    pub fn last(&self) -> u64
+    pub fn last(&self) -> Word
         ensures { result ≡ last_of self.now }
     {
         match self {
@@ -37,7 +38,7 @@ impl<A: Allocator> Flow<A> {
     }
 
     /// Where the run goes on inside the call for a choice, and with which valuation; `None` where it does not.
-    pub fn next(&self, values: Word, choice: u64) -> Option<(Point, Word)>
+    pub fn next(&self, values: Word, choice: Word) -> Option<(Point, Word)>
         ensures { result ≡ next_of self.now values choice }
     {
         self.choose(values, choice).0
@@ -46,10 +47,10 @@ impl<A: Allocator> Flow<A> {
     /// Where the run goes on for a choice, as `next` tells, and whether there is a choice behind it, as `last` tells.
     /// So who walks over all choices looks at the flow once for each.
     #[inline(always)]
-    pub fn choose(&self, values: Word, choice: u64) -> (Option<(Point, Word)>, bool)
+    pub fn choose(&self, values: Word, choice: Word) -> (Option<(Point, Word)>, bool)
         ensures next { result.0 ≡ next_of self.now values choice }
         ensures more { IsTrue result.1 ↔ (choice < last_of self.now) }
-        ensures few { last_of self.now < 2 ^ 64 }
+        ensures few { last_of self.now < 2 ^ word_bits }
     {
         match self {
             Flow::Assign(assignment, to) => {

@@ -5,17 +5,21 @@ ghost use Rattle.trees.specs.Trees.{expr_of};
 ghost use Rattle.flow_graph.specs.Formulas.{says, FormulaSays};
 ghost use Rattle.flow_graph.specs.Views.{scope_seen, IsSmall};
 
+use crate::picks::Picks;
 use crate::postfix::Postfix;
+use crate::row::Known;
 use crate::scope::Scope;
 use crate::table::Table;
 use language::Word;
 use std::alloc::{AllocError, Allocator};
 use trees::Expr;
 
-/// An expression over the bits of a valuation: a truth table where it has at most ten of them, else postfix code.
+/// An expression over the bits of a valuation: a truth table where it has at most ten of them; else a truth table for
+/// each row of the three that it reads most often, where ten others are enough for each; else postfix code.
 #[derive(Debug, Drop)]
 pub enum Formula<A: Allocator> {
     Table(Table<A>),
+    Picks(Picks<A>),
     Code(Postfix<A>),
 }
 
@@ -28,6 +32,7 @@ impl<A: Allocator> Formula<A> {
     {
         match self {
             Formula::Table(table) => table.value(values),
+            Formula::Picks(picks) => picks.value(values),
             Formula::Code(code) => code.value(values),
         }
     }
@@ -43,8 +48,11 @@ impl<'a, N: Allocator> Scope<'a, N> {
         requires { IsSmall self.now }
         ensures { IfOk result (λ f. FormulaSays f (scope_seen self.now) (expr_of e.now)) }
     {
-        match self.table(alloc, e)? {
-            Some(table) => Ok(Formula::Table(table)),
+        if let Some(table) = self.table(alloc, e, &Known { bits: &[], row: 0 })? {
+            return Ok(Formula::Table(table));
+        }
+        match self.picks(alloc, e)? {
+            Some(picks) => Ok(Formula::Picks(picks)),
             None => Ok(Formula::Code(self.postfix(alloc.clone()?, e)?)),
         }
     }

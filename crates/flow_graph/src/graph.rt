@@ -17,8 +17,8 @@ fn has_any(values: Word, mask: Word) -> bool
 }
 
 /// The flow graph of a procedure: a point before each statement and the exit, and what leads on from each. A valuation
-/// is a number of 64 bits: the globals from bit 0 in the order of their declaration, then the formals, locals and
-/// temporaries, and last the result, where the procedure gives one.
+/// is a number of `WORD_BITS` bits: the globals from bit 0 in the order of their declaration, then the formals, locals
+/// and temporaries, and last the result, where the procedure gives one.
 #[derive(Debug, Drop)]
 pub struct Graph<A: Allocator> {
     pub(crate) flows: Vec<Flow<A>, A>,

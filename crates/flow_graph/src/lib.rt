@@ -12,14 +12,15 @@ mod left;
 mod lowering;
 mod numbers;
 mod outputs;
+mod picks;
 mod postfix;
 mod put;
+mod row;
 mod scope;
 mod side;
 mod sizes;
 mod table;
 mod takes;
-mod word;
 
 pub use assignment::Assignment;
 pub use call::Call;

@@ -112,7 +112,7 @@ impl<'a, N: Allocator, A: Allocator + Clone> Lowering<'a, N, A> {
     }
 
     /// A call for the variable with the bit of a mask, or for none. No run goes on where there is no such procedure, or
-    /// where its valuation would have more than 64 places.
+    /// where its valuation would have more than `MOST_PLACES`.
     fn call(
         &self,
         target: Word,

@@ -1,6 +1,6 @@
 //! The outputs of truth tables: in words, each of them those of 64 rows.
 
-ghost use Rattle.std.specs.Prelude.{◌≡◌, ◌<◌, ◌≤◌, ◌^◌, ◌*◌, ℕ, get_or, take, IfOk};
+ghost use Rattle.std.specs.Prelude.{◌≡◌, ◌<◌, ◌≤◌, ◌^◌, ◌*◌, ℕ, Bool, get_or, take, IfOk, IfSome};
 ghost use Rattle.language.specs.Value.{operate};
 ghost use Rattle.trees.specs.Trees.{operator_of};
 ghost use Rattle.flow_graph.specs.Bits.{bit_of};
@@ -71,6 +71,13 @@ pub(crate) fn outputs_of_slot(slot: usize) -> [u64; WORDS]
     }
 }
 
+/// The outputs of a constant.
+pub(crate) fn outputs_of_constant(value: bool) -> [u64; WORDS]
+    ensures { (j : ℕ) → j < most_rows → output result j ≡ value }
+{
+    if value { [ALL; WORDS] } else { [0; WORDS] }
+}
+
 /// The outputs of an operator in 64 rows, for those of its operands.
 fn combined_word(op: Op, left: u64, right: u64) -> u64
     ensures { (j : ℕ) → j < word_rows
@@ -96,6 +103,19 @@ pub(crate) fn combined(op: Op, left: &[u64; WORDS], right: &[u64; WORDS]) -> [u6
         outputs[at] = combined_word(op, left[at], right[at]);
     }
     outputs
+}
+
+/// The outputs of an operator where those of its left operand decide; `None` where they hang on the right one too.
+pub(crate) fn decided(op: Op, left: &[u64; WORDS]) -> Option<[u64; WORDS]>
+    ensures { IfSome result (λ w. (j : ℕ) (right : Bool) → j < most_rows →
+        output w j ≡ operate (operator_of op) (output left.now j) right) }
+{
+    match op {
+        Op::And if *left == [0; WORDS] => Some([0; WORDS]),
+        Op::Or if *left == [ALL; WORDS] => Some([ALL; WORDS]),
+        Op::Implies if *left == [0; WORDS] => Some([ALL; WORDS]),
+        _ => None,
+    }
 }
 
 /// How many words the outputs of so many inputs take.

@@ -11,8 +11,7 @@ ghost use Rattle.flow_graph.specs.Views.{over_bits, scope_seen, IsSmall};
 
 use crate::put::push;
 use crate::scope::Scope;
-use crate::word::BITS;
-use language::Word;
+use language::{WORD_BITS, Word};
 use std::alloc::{AllocError, Allocator};
 use trees::{Expr, Name, Op};
 
@@ -39,7 +38,7 @@ fn stepped(step: Step, values: Word, stack: u64) -> u64
     ensures { IsStepped step values stack result }
 {
     match step {
-        Step::Read(b) => stack % HALF * 2 + (values >> (b % BITS) & 1),
+        Step::Read(b) => stack % HALF * 2 + (values >> (b % WORD_BITS) & 1) as u64,
         Step::Constant(b) => stack % HALF * 2 + b as u64,
         Step::Not => stack / 2 * 2 + (1 - stack % 2),
         Step::Apply(op) => {

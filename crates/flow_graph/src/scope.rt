@@ -10,7 +10,8 @@ use language::Word;
 use std::alloc::Allocator;
 use trees::{Name, Proc, declares, number_of_name};
 
-/// The names in whose scope the statements of a procedure stand: at most 64 variables, and the procedures.
+/// The names in whose scope the statements of a procedure stand: no more variables than a valuation has
+/// places, and the procedures.
 #[derive(Drop)]
 pub(crate) struct Scope<'a, N: Allocator> {
     pub(crate) globals: &'a [Name<N>],

@@ -23,7 +23,7 @@ pub enum Side<A: Allocator> {
 impl<A: Allocator> Side<A> {
     /// The value of the right side for a valuation: for `?` it is the lowest bit of the choice.
     #[inline(always)]
-    pub(crate) fn value(&self, values: Word, choice: u64) -> bool
+    pub(crate) fn value(&self, values: Word, choice: Word) -> bool
         ensures { result ≡ side_value self.now values choice }
     {
         match self {

@@ -1,15 +1,16 @@
 //! Truth tables for expressions of at most ten bits.
 
-ghost use Rattle.std.specs.Prelude.{◌≡◌, ◌<◌, ◌≤◌, ℕ, length, IfOk, IfSome};
-ghost use Rattle.language.specs.Tree.{var};
-ghost use Rattle.flow_graph.specs.Tables.{most_inputs, slot, Tabulates, AreBits, AreBits-prop};
+ghost use Rattle.std.specs.Prelude.{◌≡◌, ◌<◌, ◌≤◌, length, IfOk, IfSome};
+ghost use Rattle.flow_graph.specs.Tables.{most_inputs, Tabulates, ReadsBit, AreBits, AreBits-prop};
 ghost use Rattle.flow_graph.specs.Tables.{Widens};
 ghost use Rattle.flow_graph.specs.Views.{over_bits, IsSmall};
 ghost use Rattle.resolved.specs.Limits.{most_places};
 
 use crate::outputs::{
-    ALL, Outputs, WORD_ROWS, WORDS, combined, first_words, outputs_of_slot, words_for,
+    ALL, Outputs, WORD_ROWS, WORDS, combined, decided, first_words, outputs_of_constant,
+    outputs_of_slot, words_for,
 };
+use crate::row::{Known, row_of, slot_of};
 use crate::scope::Scope;
 use arrayvec::ArrayVec;
 use language::Word;
@@ -35,29 +36,9 @@ impl<A: Allocator> Table<A> {
     pub(crate) fn value(&self, values: Word) -> bool
         ensures { result ≡ table_worth self.now values }
     {
-        let inputs = self.inputs.as_slice();
-        let mut at = inputs.len();
-        let mut row: u64 = 0;
-        while at > 0 {
-            at -= 1;
-            row = 2 * row + (values >> inputs[at] & 1);
-        }
+        let row = row_of(self.inputs.as_slice(), values);
         self.outputs.word(row / WORD_ROWS) >> (row % WORD_ROWS) & 1 == 1
     }
-}
-
-/// The slot of a bit among the inputs: how many they are, where it is none of them.
-fn slot_of(inputs: &[u8], bit: u8) -> usize
-    ensures { result ≡ slot bit inputs.now }
-{
-    let mut at: usize = 0;
-    for input in inputs {
-        if bit == *input {
-            return at;
-        }
-        at += 1;
-    }
-    at
 }
 
 /// The outputs of a bit, which becomes an input where it was none; `None` where there are ten others.
@@ -65,7 +46,7 @@ fn read(inputs: &mut ArrayVec<u8, MOST>, bit: u8) -> Option<[u64; WORDS]>
     ensures widens { Widens inputs.old.items inputs.new.items }
     ensures bits { bit < most_places → AreBits inputs.old.items → AreBits inputs.new.items }
     ensures few { length inputs.old.items ≤ most_inputs → length inputs.new.items ≤ most_inputs }
-    ensures outputs { IfSome result (λ w. Tabulates inputs.new.items w (var bit)) }
+    ensures outputs { IfSome result (λ w. ReadsBit inputs.new.items w bit) }
 {
     let slot = slot_of(inputs.as_slice(), bit);
     if slot < inputs.len() {
@@ -78,50 +59,66 @@ fn read(inputs: &mut ArrayVec<u8, MOST>, bit: u8) -> Option<[u64; WORDS]>
 }
 
 impl<'a, N: Allocator> Scope<'a, N> {
-    ghost use Rattle.flow_graph.specs.Formulas.{IsTruthTableOf};
+    ghost use Rattle.flow_graph.specs.Formulas.{IsTruthTableIn};
 
-    /// The outputs of an expression, whose bits become inputs where they were none; `None` where more than ten would
-    /// be.
-    fn outputs(&self, e: &Expr<N>, inputs: &mut ArrayVec<u8, MOST>) -> Option<[u64; WORDS]>
+    /// The outputs of an expression for values as known, whose other bits become inputs where they were none; `None`
+    /// where more than ten would be. Where the left operand decides, the right one makes no inputs.
+    fn outputs(
+        &self,
+        e: &Expr<N>,
+        known: &Known<'_>,
+        inputs: &mut ArrayVec<u8, MOST>,
+    ) -> Option<[u64; WORDS]>
         requires small { IsSmall self.now }
+        requires known { length known.now.bits.now ≤ most_inputs }
         requires bits { AreBits inputs.old.items }
         requires few { length inputs.old.items ≤ most_inputs }
         ensures widens { Widens inputs.old.items inputs.new.items }
         ensures bits { AreBits inputs.new.items }
         ensures few { length inputs.new.items ≤ most_inputs }
         ensures outputs { IfSome result
-            (λ w. Tabulates inputs.new.items w (over_bits self.now e.now)) }
+            (λ w. Tabulates known.now.bits.now known.now.row inputs.new.items w
+            (over_bits self.now e.now)) }
     {
         match e {
-            Expr::Const(b) => Some(if *b { [ALL; WORDS] } else { [0; WORDS] }),
+            Expr::Const(b) => Some(outputs_of_constant(*b)),
             Expr::Var(x) => match self.bit(x) {
-                Some(bit) => read(inputs, bit),
-                None => Some([0; WORDS]),
+                Some(bit) => match known.value(bit) {
+                    Some(b) => Some(outputs_of_constant(b)),
+                    None => read(inputs, bit),
+                },
+                None => Some(outputs_of_constant(false)),
             },
             Expr::Not(a) => {
-                let of = self.outputs(a, inputs)?;
+                let of = self.outputs(a, known, inputs)?;
                 Some(combined(Op::Xor, &of, &[ALL; WORDS]))
             }
             Expr::Two(op, a, b) => {
-                let left = self.outputs(a, inputs)?;
-                let right = self.outputs(b, inputs)?;
+                let left = self.outputs(a, known, inputs)?;
+                if let Some(whole) = decided(*op, &left) {
+                    return Some(whole);
+                }
+                let right = self.outputs(b, known, inputs)?;
                 Some(combined(*op, &left, &right))
             }
         }
     }
 
-    /// An expression as a truth table; `None` where it has more than ten bits.
+    /// An expression as a truth table for values as known; `None` where it has more than ten bits besides.
     pub(crate) fn table<A: Allocator + Clone>(
         &self,
         alloc: &A,
         e: &Expr<N>,
+        known: &Known<'_>,
     ) -> Result<Option<Table<A>>, AllocError>
-        requires { IsSmall self.now }
+        requires small { IsSmall self.now }
+        requires known { length known.now.bits.now ≤ most_inputs }
         ensures { IfOk result
-            (λ made. IfSome made (λ t. IsTruthTableOf t (over_bits self.now e.now))) }
+            (λ made. IfSome made
+            (λ t. IsTruthTableIn t known.now.bits.now known.now.row (over_bits self.now e.now))) }
     {
         let mut inputs = ArrayVec::new();
-        let Some(all) = self.outputs(e, &mut inputs) else {
+        let Some(all) = self.outputs(e, known, &mut inputs) else {
             return Ok(None);
         };
         let outputs = first_words(alloc, &all, words_for(inputs.len()))?;

@@ -2,20 +2,23 @@
 //! others in decimal.
 
 use flow_graph::{Call, Flow, Graph, Graphs, Left};
-use language::Point;
+use language::{Point, Word};
 use std::alloc::Allocator;
 use std::fmt::Write;
 
+/// How many choices of a flow are made at most.
+const MOST_CHOICES: Word = 8;
+
 /// A number in decimal digits, or in binary ones behind `0b`.
-fn number(word: &str) -> Option<u64> {
+fn number(word: &str) -> Option<Word> {
     match word.strip_prefix("0b") {
-        Some(bits) => u64::from_str_radix(bits, 2).ok(),
+        Some(bits) => Word::from_str_radix(bits, 2).ok(),
         None => word.parse().ok(),
     }
 }
 
 /// The graph of a procedure, where there is one.
-fn graph_of<A: Allocator>(graphs: &Graphs<A>, procedure: u64) -> Option<&Graph<A>> {
+fn graph_of<A: Allocator>(graphs: &Graphs<A>, procedure: Word) -> Option<&Graph<A>> {
     let procedure = u8::try_from(procedure).ok()?;
     if (procedure as usize) < graphs.len() {
         Some(graphs.graph(procedure))
@@ -34,7 +37,7 @@ fn flow_of<A: Allocator>(graph: &Graph<A>, point: Point) -> Option<&Flow<A>> {
 }
 
 /// The same, of a point of this number.
-fn flow_numbered<A: Allocator>(graph: &Graph<A>, point: u64) -> Option<&Flow<A>> {
+fn flow_numbered<A: Allocator>(graph: &Graph<A>, point: Word) -> Option<&Flow<A>> {
     flow_of(graph, usize::try_from(point).ok()?)
 }
 
@@ -44,12 +47,12 @@ fn put_number<B: Allocator>(out: &mut String<B>, number: usize) -> Option<()> {
 }
 
 /// Puts the binary digits of a valuation behind the others.
-fn put_bits<B: Allocator>(out: &mut String<B>, values: u64) -> Option<()> {
+fn put_bits<B: Allocator>(out: &mut String<B>, values: Word) -> Option<()> {
     write!(out, " {values:b}").ok()
 }
 
 /// Puts a point and a valuation behind the others.
-fn put_pair<B: Allocator>(out: &mut String<B>, pair: (Point, u64)) -> Option<()> {
+fn put_pair<B: Allocator>(out: &mut String<B>, pair: (Point, Word)) -> Option<()> {
     let (point, values) = pair;
     write!(out, " {point}:{values:b}").ok()
 }
@@ -64,8 +67,8 @@ fn put_left<B: Allocator>(out: &mut String<B>, left: Left) -> Option<()> {
 /// Where the run goes on with one choice, from each of the valuations.
 fn steps<A: Allocator, B: Allocator>(
     flow: &Flow<A>,
-    choice: u64,
-    valuations: &[u64],
+    choice: Word,
+    valuations: &[Word],
     out: &mut String<B>,
 ) -> Option<()> {
     for values in valuations {
@@ -77,15 +80,15 @@ fn steps<A: Allocator, B: Allocator>(
     Some(())
 }
 
-/// The number of the last choice, and where the run goes on by each, of which at most eight are made.
+/// The number of the last choice, and where the run goes on by each, of which no more than `MOST_CHOICES` are made.
 fn nexts<A: Allocator, B: Allocator>(
     flow: &Flow<A>,
-    values: u64,
+    values: Word,
     out: &mut String<B>,
 ) -> Option<()> {
     let last = flow.last();
     write!(out, " {last}").ok()?;
-    for choice in 0..8u64 {
+    for choice in 0..MOST_CHOICES {
         if choice <= last {
             steps(flow, choice, &[values], out)?;
         }
@@ -97,12 +100,12 @@ fn nexts<A: Allocator, B: Allocator>(
 fn spread<A: Allocator, B: Allocator>(
     graph: &Graph<A>,
     point: Point,
-    values: u64,
-    pairs: &mut Vec<(Point, u64), B>,
+    values: Word,
+    pairs: &mut Vec<(Point, Word), B>,
 ) -> Option<()> {
     let flow = flow_of(graph, point)?;
     let last = flow.last();
-    for choice in 0..8u64 {
+    for choice in 0..MOST_CHOICES {
         if choice <= last
             && let Some(next) = flow.next(values, choice)
             && !pairs.contains(&next)
@@ -117,8 +120,8 @@ fn spread<A: Allocator, B: Allocator>(
 fn reached<A: Allocator, B: Allocator>(
     alloc: B,
     graph: &Graph<A>,
-    entry: u64,
-) -> Option<Vec<(Point, u64), B>> {
+    entry: Word,
+) -> Option<Vec<(Point, Word), B>> {
     let mut pairs = Vec::new(alloc);
     pairs.push((graph.start(), entry)).ok()?;
     for at in 0..200usize {
@@ -132,7 +135,7 @@ fn reached<A: Allocator, B: Allocator>(
 }
 
 /// Puts pairs behind the others.
-fn put_pairs<B: Allocator>(out: &mut String<B>, pairs: &[(Point, u64)]) -> Option<()> {
+fn put_pairs<B: Allocator>(out: &mut String<B>, pairs: &[(Point, Word)]) -> Option<()> {
     for pair in pairs {
         put_pair(out, *pair)?;
     }
@@ -143,7 +146,7 @@ fn put_pairs<B: Allocator>(out: &mut String<B>, pairs: &[(Point, u64)]) -> Optio
 fn reaches<A: Allocator, B: Allocator + Copy>(
     alloc: B,
     graph: &Graph<A>,
-    entry: u64,
+    entry: Word,
     out: &mut String<B>,
 ) -> Option<()> {
     let pairs = reached(alloc, graph, entry)?;
@@ -153,7 +156,7 @@ fn reaches<A: Allocator, B: Allocator + Copy>(
 /// The procedure that is called, the point of the return, and the entry from each of the valuations.
 fn calls<A: Allocator, B: Allocator>(
     call: &Call<A>,
-    valuations: &[u64],
+    valuations: &[Word],
     out: &mut String<B>,
 ) -> Option<()> {
     put_number(out, usize::from(call.callee()))?;
@@ -176,7 +179,7 @@ fn kind<A: Allocator>(flow: &Flow<A>) -> &'static str {
 }
 
 /// What a call leaves: these globals, and a result.
-fn left(globals: u64, given: u64) -> Left {
+fn left(globals: Word, given: Word) -> Left {
     Left {
         globals,
         result: given == 1,
@@ -186,7 +189,7 @@ fn left(globals: u64, given: u64) -> Left {
 /// The answer of a point's flow to a question: a word and numbers.
 fn of_flow<A: Allocator, B: Allocator>(
     flow: &Flow<A>,
-    question: (&str, &[u64]),
+    question: (&str, &[Word]),
     out: &mut String<B>,
 ) -> Option<()> {
     match question {
@@ -208,7 +211,7 @@ fn of_flow<A: Allocator, B: Allocator>(
 /// What the graph leaves of each of the valuations.
 fn leaves<A: Allocator, B: Allocator>(
     graph: &Graph<A>,
-    valuations: &[u64],
+    valuations: &[Word],
     out: &mut String<B>,
 ) -> Option<()> {
     for values in valuations {
@@ -227,7 +230,7 @@ fn size<A: Allocator, B: Allocator>(graph: &Graph<A>, out: &mut String<B>) -> Op
 fn of_graph<A: Allocator, B: Allocator + Copy>(
     alloc: B,
     graph: &Graph<A>,
-    question: (&str, &[u64]),
+    question: (&str, &[Word]),
     out: &mut String<B>,
 ) -> Option<()> {
     match question {
@@ -240,7 +243,7 @@ fn of_graph<A: Allocator, B: Allocator + Copy>(
 }
 
 /// The numbers of a question, which come behind others.
-fn push_numbers<B: Allocator>(numbers: &mut Vec<u64, B>, words: &str) -> Option<()> {
+fn push_numbers<B: Allocator>(numbers: &mut Vec<Word, B>, words: &str) -> Option<()> {
     for digits in words.split_whitespace() {
         numbers.push(number(digits)?).ok()?;
     }
@@ -251,7 +254,7 @@ fn push_numbers<B: Allocator>(numbers: &mut Vec<u64, B>, words: &str) -> Option<
 fn put_answer<A: Allocator, B: Allocator + Copy>(
     alloc: B,
     graphs: &Graphs<A>,
-    question: (&str, &[u64]),
+    question: (&str, &[Word]),
     out: &mut String<B>,
 ) -> Option<()> {
     let (word, numbers) = question;

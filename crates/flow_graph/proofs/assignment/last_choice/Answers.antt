@@ -1,4 +1,4 @@
--- One `?` more doubles the choices, of which there are 2^64 at most.
+-- One `?` more doubles the choices, of which there are no more than words.
 use Rattle.std.proofs.Common.{◌≡◌, suc, ◌^◌, refl, ◌∙◌, ap, arith, pow-suc}
 use Rattle.std.proofs.lemmas.List.{drop_all}
 use Rattle.flow_graph.specs.Assignments.{any_of, anys}

@@ -1,8 +1,7 @@
 -- Each statement is counted once.
-use Rattle.std.proofs.Common.{◌<◌, ◌+◌, ◌*◌, ap, arith}
+use Rattle.std.proofs.Common.{ap, arith}
 use Rattle.language.specs.Sequential.{statements}
-use Rattle.trees.specs.Trees.{deed_of, block_of}
-use Rattle.trees.proofs.Held.{held, smaller}
+use Rattle.trees.proofs.Held.{smaller}
 use Rattle.flow_graph.proofs.Counted.{alone_counts, next_counts, end_counts}
 use Rattle.flow_graph.proofs.sizes.+sizes.Goals as goal
 

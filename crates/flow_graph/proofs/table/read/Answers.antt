@@ -1,7 +1,6 @@
 -- The bit is an input already, or becomes the last.
 use Rattle.std.proofs.Common.{◌≡◌, ◌∙◌, ◌++◌, ◌∷◌, [], sym, ap, subst, length, refl, arith}
-use Rattle.language.specs.Tree.{var}
-use Rattle.flow_graph.specs.Tables.{slot, Tabulates, AreBits}
+use Rattle.flow_graph.specs.Tables.{slot, ReadsBit, AreBits}
 use Rattle.flow_graph.proofs.Rows.{slot_most, slot_inside, slot_last, reads_slot, bits_pushed}
 use Rattle.flow_graph.proofs.table.read.Goals as goal
 
@@ -25,6 +24,6 @@ pub returns-in-Ok-clause-outputs : goal.returns-in-Ok-clause-outputs
 returns-in-Ok-clause-outputs c =
     let xs = c.args.inputs.now.items in
     let last = slot_last c.args.bit xs in
-    subst (λ l. Tabulates l c.outputs_of_slot-in-Ok.result (var c.args.bit)) (sym c.in-Ok.ensures.ok)
+    subst (λ l. ReadsBit l c.outputs_of_slot-in-Ok.result c.args.bit) (sym c.in-Ok.ensures.ok)
     (reads_slot c.args.bit c.slot_of-slot.result c.outputs_of_slot-in-Ok.result (xs ++ (c.args.bit ∷ []))
     (last.0 ∙ sym (c.slot_of-slot.ensures ∙ ap (slot c.args.bit) c.as_slice.ensures.value)) last.1 c.outputs_of_slot-in-Ok.ensures)

@@ -2,13 +2,17 @@
 use Rattle.std.proofs.Common.{◌^◌, ◌*◌, ◌≤◌, ◌∙◌, map, length, ap}
 use Rattle.flow_graph.specs.Bits.{bit_of, coded}
 use Rattle.flow_graph.specs.Tables.{word_rows, output}
+use Rattle.flow_graph.specs.Views.{over_bits}
 use Rattle.flow_graph.proofs.Rows.{looked_up}
 use Rattle.flow_graph.proofs.scope.Scope.table.Goals as goal
 
 pub returns : goal.returns
-returns g c v =
+returns g c v have =
+    let known = c.args.known.now in
     let xs = c.outputs.new.inputs.items in
     let enough : 2 ^ length xs ≤ word_rows * c.words_for.result =
     rw (← c.len.ensures.value) c.words_for.ensures.enough in
     ap (λ ws. output ws (coded (map (bit_of v) xs))) c.in_ok-outputs.ensures
-    ∙ looked_up (bit_of v) xs c.in-Some.all c.words_for.result _ c.outputs.ensures.few enough c.in-Some.ensures.outputs
+    ∙ looked_up (bit_of v) known.bits.now known.row xs c.in-Some.all c.words_for.result
+    (over_bits c.args.self.now c.args.e.now) c.outputs.ensures.few enough
+    c.in-Some.ensures.outputs have

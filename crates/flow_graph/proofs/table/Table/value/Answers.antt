@@ -1,59 +1,14 @@
--- The row is read from the last input to the first, and there are ten inputs at most.
-use Rattle.std.proofs.Common.{◌≡◌, ◌≤◌, ◌<◌, ◌-◌, ◌∙◌, ◌==◌, ◌%◌, ◌^◌, ℕ, zero, suc, Bool, List, [], ◌∷◌}
-use Rattle.std.proofs.Common.{length, map, drop, get_or, ap, arith, subst, sym}
-use Rattle.std.proofs.Math.Pow.{pow_mono}
-use Rattle.std.proofs.lemmas.List.{length-map, length-drop}
+-- The output is the bit of the row in its word.
+use Rattle.std.proofs.Common.{◌%◌, ◌∙◌, ◌==◌, map, ap}
 use Rattle.std.proofs.lemmas.Nat.Bits.{shr_and_one}
 use Rattle.flow_graph.specs.Bits.{bit_of, coded}
 use Rattle.flow_graph.specs.Formulas.{words_of}
-use Rattle.flow_graph.specs.Tables.{AreBits, output}
-use Rattle.flow_graph.proofs.Stacks.{bit_worth, coded_small, worth_small}
+use Rattle.flow_graph.specs.Tables.{output, word_rows}
 use Rattle.flow_graph.proofs.table.Table.value.Goals as goal
-
--- a row of a part of the inputs is small
-small : (f : ℕ → Bool) (xs : List ℕ) (at row : ℕ) → length xs ≤ 10 → row ≡ coded (map f (drop at xs)) → row < 1024
-small f xs at row few is =
-    let short : length (map f (drop at xs)) ≤ 10 = omega (arith, few, length-map (drop at xs) f, length-drop at xs) in
-    let most : 2 ^ length (map f (drop at xs)) ≤ 2 ^ 10 = pow_mono short in
-    let below = coded_small (map f (drop at xs)) in
-    omega (arith, most, below, is)
-
--- an input is a place
-inside : (xs : List ℕ) (i : ℕ) → AreBits xs → i < length xs → get_or xs i 0 < 64
-inside [] i bits within = absurd (omega (arith, within))
-inside (x ∷ xs) zero bits within = bits.0
-inside (x ∷ xs) (suc i) bits within = inside xs i bits.1 (omega (arith, within))
-
-pub overflow_mul-row : goal.overflow_mul-row
-overflow_mul-row g c =
-    let below = small (bit_of c.args.values) c.as_slice-inputs.result.now c.loop-at.at c.loop-at.row
-    c.as_slice-inputs.ensures.fits c.loop-at.invariant.1 in
-    omega (arith, below)
-
-pub overflow_shr-row : goal.overflow_shr-row
-overflow_shr-row g c =
-    let bits = subst AreBits (sym c.as_slice-inputs.ensures.value) c.args.self.now.bits in
-    inside c.as_slice-inputs.result.now (c.loop-at.at - 1) bits
-    (omega (arith, c.loop-at-test.true, c.loop-at.invariant.0))
-
-pub overflow_add-row : goal.overflow_add-row
-overflow_add-row g c =
-    let xs = c.as_slice-inputs.result.now in
-    let below = small (bit_of c.args.values) xs c.loop-at.at c.loop-at.row
-    c.as_slice-inputs.ensures.fits c.loop-at.invariant.1 in
-    let x = get_or xs (c.loop-at.at - 1) 0 in
-    let bit = shr_and_one c.args.values x ∙ bit_worth c.args.values x in
-    let one = worth_small (bit_of c.args.values x) in
-    omega (arith, below, bit, one)
 
 pub returns : goal.returns
 returns g c =
-    let f = bit_of c.args.values in
     let words = words_of c.args.self.now.outputs in
-    let row = c.loop-at.row in
-    let first : c.loop-at.at ≡ 0 = omega (arith, c.loop-at-test.false) in
-    let whole : row ≡ coded (map f c.args.self.now.inputs.items) =
-    c.loop-at.invariant.1 ∙ ap (λ n. coded (map f (drop n c.as_slice-inputs.result.now))) first
-    ∙ ap (λ xs. coded (map f xs)) c.as_slice-inputs.ensures.value in
-    ap (λ n. n == 1) (shr_and_one c.word.result (row % 64)) ∙ ap (λ w. bit_of w (row % 64)) c.word.ensures
-    ∙ ap (output words) whole
+    let row = c.row_of-row.result in
+    ap (λ n. n == 1) (shr_and_one c.word.result (row % word_rows)) ∙ ap (λ w. bit_of w (row % word_rows)) c.word.ensures
+    ∙ ap (output words) (c.row_of-row.ensures ∙ ap (λ xs. coded (map (bit_of c.args.values) xs)) c.as_slice.ensures.value)

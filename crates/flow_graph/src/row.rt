@@ -1,0 +1,59 @@
+//! Rows: the values of some bits, as a number.
+
+ghost use Rattle.std.specs.Prelude.{◌≡◌, ◌≤◌, length, map};
+ghost use Rattle.flow_graph.specs.Bits.{bit_of, coded};
+ghost use Rattle.flow_graph.specs.Tables.{most_inputs, slot, known_bit, AreBits};
+
+use language::Word;
+
+/// The row of bits in a valuation: the value of the first is its lowest bit.
+#[inline(always)]
+pub(crate) fn row_of(bits: &[u8], values: Word) -> u64
+    requires places { AreBits bits.now }
+    requires few { length bits.now ≤ most_inputs }
+    ensures { result ≡ coded (map (bit_of values) bits.now) }
+{
+    let mut at = bits.len();
+    let mut row: u64 = 0;
+    while at > 0 {
+        at -= 1;
+        row = 2 * row + (values >> bits[at] & 1) as u64;
+    }
+    row
+}
+
+/// The slot of a bit among others: how many they are, where it is none of them.
+pub(crate) fn slot_of(bits: &[u8], bit: u8) -> usize
+    ensures { result ≡ slot bit bits.now }
+{
+    let mut at: usize = 0;
+    for other in bits {
+        if bit == *other {
+            return at;
+        }
+        at += 1;
+    }
+    at
+}
+
+/// Bits whose values are known: those of a row.
+#[derive(Drop)]
+pub(crate) struct Known<'b> {
+    pub(crate) bits: &'b [u8],
+    pub(crate) row: u64,
+}
+
+impl<'b> Known<'b> {
+    /// The value of a bit; `None` where it is not known.
+    pub(crate) fn value(&self, bit: u8) -> Option<bool>
+        requires { length self.now.bits.now ≤ most_inputs }
+        ensures { result ≡ known_bit self.now.bits.now self.now.row bit }
+    {
+        let slot = slot_of(self.bits, bit);
+        if slot < self.bits.len() {
+            Some(self.row >> slot & 1 == 1)
+        } else {
+            None
+        }
+    }
+}
