@@ -1,7 +1,7 @@
 //! Numbers of rounds.
 
 ghost use Rattle.std.specs.Prelude.{◌≡◌, ◌<◌, ◌≤◌, IfSome, IsSome, ◌↔◌};
-ghost use Rattle.round_rewrite.specs.Limits.{most_rounds};
+ghost use Rattle.round_rewrite.specs.Limits.{most_rounds, round_bits};
 
 use crate::limits::MOST_ROUNDS;
 
@@ -34,5 +34,13 @@ impl Rounds {
         ensures range { (1 ≤ result) × (result ≤ most_rounds) }
     {
         self.last + 1
+    }
+
+    /// How many bits the number of a round takes: two for up to four rounds, three for more.
+    pub(crate) fn bits(self) -> u8
+        ensures count { result ≡ round_bits self.last }
+        ensures range { (1 ≤ result) × (result ≤ 3) }
+    {
+        if self.last < 4 { 2 } else { 3 }
     }
 }
