@@ -368,7 +368,11 @@ bits_suffice zero h = omega arith
 bits_suffice (suc zero) h = omega arith
 bits_suffice (suc (suc zero)) h = omega arith
 bits_suffice (suc (suc (suc zero))) h = omega arith
-bits_suffice (suc (suc (suc (suc last)))) h = absurd (omega arith)
+bits_suffice (suc (suc (suc (suc zero)))) h = omega arith
+bits_suffice (suc (suc (suc (suc (suc zero))))) h = omega arith
+bits_suffice (suc (suc (suc (suc (suc (suc zero)))))) h = omega arith
+bits_suffice (suc (suc (suc (suc (suc (suc (suc zero))))))) h = omega arith
+bits_suffice (suc (suc (suc (suc (suc (suc (suc (suc last)))))))) h = absurd (omega arith)
 
 -- a round has two bits or three
 pub bits_few : (last : ℕ) → (2 ≤ round_bits last) × (round_bits last ≤ 3)

@@ -3,7 +3,7 @@ use Rattle.std.specs.Prelude.{ℕ, zero, suc, cond, nat_lt}
 
 -- how many rounds there are at most
 abbrev pub most_rounds : ℕ
-most_rounds = 4
+most_rounds = 8
 
 -- how many bits the number of a round takes, by the last round: two for up to four rounds, three for more
 abbrev pub round_bits : ℕ → ℕ
