@@ -13,7 +13,8 @@ use Rattle.language.proofs.Lengths.{length_zeros}
 use Rattle.round_rewrite.specs.Table.{Naming, numbers, plain, guess, guesses, starts, check, checks, main, rewritten}
 use Rattle.round_rewrite.specs.Places.{places, all_globals, rewritten_routine, main_routine, rewritten_program, global_count}
 use Rattle.resolved.specs.Scoped.{FitsScopes}
-use Rattle.round_rewrite.proofs.Laid.{Long, flat, row, bits_of, lay, Shape, bits_bit}
+use Rattle.round_rewrite.proofs.Counting.{zero_bits}
+use Rattle.round_rewrite.proofs.Laid.{Long, flat, row, bits_of, lay, Shape, bad_bit}
 use Rattle.round_rewrite.proofs.Plain.{PlainAfter, bare, bare_state, bare_routine, world_of, bare-numbered, rest-numbered}
 use Rattle.round_rewrite.proofs.Leading.{Leads}
 use Rattle.round_rewrite.proofs.Blocks.{bare-rewritten, rest-rewritten}
@@ -22,7 +23,7 @@ use Rattle.round_rewrite.proofs.Compose.{Linked, FailThreads, copies, copies_lon
 use Rattle.round_rewrite.proofs.Guessing.{Bad, main_at}
 use Rattle.round_rewrite.proofs.Checking.{Fill, guesses_lead, guesses_back, checks_lead, checks_back, linked_rows, rows_linked}
 use Rattle.round_rewrite.proofs.Starting.{Ran, fails_lead, starts_back, fails_keep}
-use Rattle.round_rewrite.specs.Limits.{most_rounds}
+use Rattle.round_rewrite.specs.Limits.{most_rounds, round_bits}
 use Rattle.round_rewrite.proofs.InTurn.{passes}
 
 module _ (w : Naming Place Place ℕ ℕ) (last : ℕ) where
@@ -53,12 +54,15 @@ flat_copies n (suc k) = ap (λ z. zeros n ++ z) (flat_copies n k)
     ∙ (sym (zeros-add n (k * n)) ∙ ap zeros (let z : n + k * n ≡ suc k * n = omega arith in z))
 
 zeros_lie : (n last : ℕ)
-    → zeros (global_count n last) ≡ lay (copies (suc last) (zeros n)) (copies last (zeros n)) (bits_of 0 false false)
+    → zeros (global_count n last) ≡ lay (copies (suc last) (zeros n)) (copies last (zeros n)) (bits_of last 0 false false)
 zeros_lie n last =
-    zeros-add (suc last * n + last * n) 4
-    ∙ (ap (λ z. z ++ zeros 4) (zeros-add (suc last * n) (last * n))
-    ∙ (append_assoc (zeros (suc last * n)) (zeros (last * n)) (zeros 4)
-    ∙ ap₂ (λ x y. x ++ (y ++ zeros 4)) (sym (flat_copies n (suc last))) (sym (flat_copies n last))))
+    let m : ℕ = round_bits last + 2 in
+    let bits : zeros m ≡ bits_of last 0 false false =
+    zeros-add (round_bits last) 2 ∙ sym (zero_bits (round_bits last) (false ∷ false ∷ [])) in
+    zeros-add (suc last * n + last * n) m
+    ∙ (ap (λ z. z ++ zeros m) (zeros-add (suc last * n) (last * n))
+    ∙ (append_assoc (zeros (suc last * n)) (zeros (last * n)) (zeros m)
+    ∙ ((λ i. sym (flat_copies n (suc last)) i ++ (sym (flat_copies n last) i ++ bits i)))))
 
 module _ (p : Program) (last : ℕ) where
   abbrev pub result : Program
@@ -101,7 +105,7 @@ module _ (p : Program) (last : ℕ) where
   start = state (zeros (global_count p.globals last)) (frame 0 [] (numbered 1 body) ∷ [])
 
   pub start_is : bare_state start
-      ≡ main_at (lay (copies (suc last) (zeros p.globals)) (copies last (zeros p.globals)) (bits_of 0 false false)) body
+      ≡ main_at (lay (copies (suc last) (zeros p.globals)) (copies last (zeros p.globals)) (bits_of last 0 false false)) body
   start_is =
       ap₂ main_at (zeros_lie p.globals last)
       (bare-numbered 1 body ∙ bare-main (places p.globals last 0) last (all_globals p.globals) p.threads)
@@ -116,7 +120,7 @@ module _ (p : Program) (last : ℕ) where
     abbrev setting : Setting
     setting = record { p = p; last = last; fits = fits; small = small; w = world_of result; isw = is_world }
 
-    first_fill : Fill (world_of result) n last z (length_zeros n) (bits_of 0 false false) 0 last [] (copies last z) (copies last z)
+    first_fill : Fill (world_of result) n last z (length_zeros n) (bits_of last 0 false false) 0 last [] (copies last z) (copies last z)
     first_fill = let c = copies_long n last z (length_zeros n) in record {
       a_long = tt;
       d_long = c.0;
@@ -131,12 +135,12 @@ module _ (p : Program) (last : ℕ) where
     checks_code = checks (places n last 0) last (all_globals n) (numbers 0 last) done
 
     over : (C S : List (List Bool)) → Shape n last C S → (q : ℕ) (s : Bool)
-        → Leads (world_of result) (main_at (lay C S (bits_of q s true)) done) (Bad n last)
-    over C S shape q s = (zero, (refl, bits_bit n last C S (bits_of q s true) 3 shape))
+        → Leads (world_of result) (main_at (lay C S (bits_of last q s true)) done) (Bad n last)
+    over C S shape q s = (zero, (refl, bad_bit n last C S shape q s true))
 
     over_back : (C S : List (List Bool)) → Shape n last C S → (q : ℕ) (s b : Bool) (M : ℕ)
-        → PlainAfter (world_of result) M (main_at (lay C S (bits_of q s b)) done) (Bad n last) → b ≡ true
-    over_back C S shape q s b zero h = sym (bits_bit n last C S (bits_of q s b) 3 shape) ∙ h.1
+        → PlainAfter (world_of result) M (main_at (lay C S (bits_of last q s b)) done) (Bad n last) → b ≡ true
+    over_back C S shape q s b zero h = sym (bad_bit n last C S shape q s b) ∙ h.1
     over_back C S shape q s b (suc zero) h = absurd h
     over_back C S shape q s b (suc (suc M)) h = absurd h
 
@@ -145,7 +149,7 @@ module _ (p : Program) (last : ℕ) where
 
     -- unsafe: the rewritten program has a run that ends with bad
     pub unsafe_leads : Unsafe p (suc last)
-        → Leads (world_of result) (main_at (lay (copies (suc last) z) (copies last z) (bits_of 0 false false)) body) (Bad n last)
+        → Leads (world_of result) (main_at (lay (copies (suc last) z) (copies last z) (bits_of last 0 false false)) body) (Bad n last)
     unsafe_leads (r, lt, g, ss, rounds, f) =
         let (G, G', e, long, link, ft) =
         from_rounds p n r (last - r) z (map (starting_stack p.routines) p.threads) g ss (length_zeros n) rounds f in
@@ -154,27 +158,28 @@ module _ (p : Program) (last : ℕ) where
       where
         rows : (G G' : List (List Bool)) → length G ≡ last → Long n G → Linked z (z ∷ G) G'
             → FailThreads p (z ∷ G) (map (starting_stack p.routines) p.threads) G'
-            → Leads (world_of result) (main_at (lay (copies (suc last) z) (copies last z) (bits_of 0 false false)) body) (Bad n last)
+            → Leads (world_of result) (main_at (lay (copies (suc last) z) (copies last z) (bits_of last 0 false false)) body) (Bad n last)
         rows G [] eG long link ft = absurd link
         rows G (y ∷ G') eG long link ft =
-            guesses_lead (world_of result) n last z (length_zeros n) (bits_of 0 false false)
+            guesses_lead (world_of result) n last z (length_zeros n) (bits_of last 0 false false)
             (starts (places n last 0) last p.threads checks_code) (Bad n last) last 0 [] (copies last z)
             (copies last z) G first_fill long eG
             (fails_lead setting G (long, eG) (Bad n last) checks_code p.threads fits.threads (z ∷ G)
             ((length_zeros n, long), ap suc eG) (y ∷ G') ft
             (λ q s. let kept = fails_keep p n (z ∷ G) (map (starting_stack p.routines) p.threads) (y ∷ G') (length_zeros n, long) ft in
             let sh : Shape n last (y ∷ G') G = shape_of (y ∷ G') G kept.0 long (kept.1 ∙ ap suc eG) eG in
-            checks_lead (world_of result) n last (y ∷ G') G (bits_of q s true) sh done (Bad n last) last 0 (omega arith)
+            checks_lead (world_of result) n last (y ∷ G') G (bits_of last q s true) sh done (Bad n last) last 0 (omega arith)
             (λ i lt. rows_linked G y G' link.1 i (omega arith)) (over (y ∷ G') G sh q s))
             false 0 false)
 
     -- a run that ends with bad: the source is unsafe
     pub leads_unsafe : (N : ℕ)
-        → PlainAfter (world_of result) N (main_at (lay (copies (suc last) z) (copies last z) (bits_of 0 false false)) body) (Bad n last)
+        → PlainAfter (world_of result) N
+        (main_at (lay (copies (suc last) z) (copies last z) (bits_of last 0 false false)) body) (Bad n last)
         → Unsafe p (suc last)
     leads_unsafe N h =
         let (G, long, eG, M, h1) =
-        guesses_back (world_of result) n last z (length_zeros n) (bits_of 0 false false)
+        guesses_back (world_of result) n last z (length_zeros n) (bits_of last 0 false false)
         (starts (places n last 0) last p.threads checks_code) last 0 [] (copies last z) (copies last z) first_fill N h in
         rows G long eG
         (starts_back setting G (long, eG) checks_code p.threads fits.threads (z ∷ G)
@@ -192,7 +197,7 @@ module _ (p : Program) (last : ℕ) where
         rows G long eG x =
             let sh : Shape n last x.rows G = shape_of x.rows G x.long long (x.same ∙ ap suc eG) eG in
             let (facts, M, run) =
-            checks_back (world_of result) n last x.rows G (bits_of x.round x.stop x.bad) sh done last 0 (omega arith) x.left x.run in
+            checks_back (world_of result) n last x.rows G (bits_of last x.round x.stop x.bad) sh done last 0 (omega arith) x.left x.run in
             let is_bad : x.bad ≡ true = over_back x.rows G sh x.round x.stop x.bad M run in
             turned G eG x.rows (x.same ∙ ap suc eG) (λ i lt. facts i (omega arith) (omega arith)) (failing is_bad x.turns)
           where

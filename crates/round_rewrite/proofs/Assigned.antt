@@ -10,8 +10,9 @@ use Rattle.round_rewrite.specs.Table.{numbers, in_round, expression, written, ta
 use Rattle.round_rewrite.specs.Places.{places, is_global}
 use Rattle.resolved.specs.Scoped.{PlaceInScope, PlacesInScope, SideInScope, SidesInScope}
 use Rattle.round_rewrite.proofs.Laid.{row, with_row, row_bit, row_with, with_own, with_right, length-with_row, long-with_row, bit_right}
+use Rattle.round_rewrite.proofs.Counting.{same, same_refl, same_false}
 use Rattle.round_rewrite.proofs.Laid.{bits_of, lay, Moment, globals_at}
-use Rattle.round_rewrite.proofs.Translate.{same, same_refl, same_false, at_is, expression_is, or_false}
+use Rattle.round_rewrite.proofs.Translate.{at_is, expression_is, or_false}
 use Rattle.round_rewrite.specs.Limits.{most_rounds}
 
 pub row-with_same : (C : List (List Bool)) (k : ℕ) (v : List Bool) → k < length C → row (with_row C k v) k ≡ v
@@ -144,9 +145,9 @@ module _ {n last : ℕ} (small : last < most_rounds) (now : Moment n last) (own 
       → IsValue X (l ++ tmp) (written (places n last own) last d (global i) k) u ≡ (u ≡ spread i v k)
   unfolding spread
   written_is d v i k hi hk ed u =
-      let e : value_of (lay C S (bits_of q false b)) (l ++ tmp) (in_round (places n last own) last k) ≡ same k q =
+      let e : value_of (lay C S (bits_of last q false b)) (l ++ tmp) (in_round (places n last own) last k) ≡ same k q =
       at_is small now own (l ++ tmp) k hk in
-      let c : bit (lay C S (bits_of q false b)) (k * n + i) ≡ bit (row C k) i =
+      let c : bit (lay C S (bits_of last q false b)) (k * n + i) ≡ bit (row C k) i =
       row_bit n C _ k i shape.copies (let z : length C ≡ suc last = shape.rounds in omega arith) hi in
       λ z. u ≡ ((e z && ed z) || (not (e z) && c z))
 
@@ -181,17 +182,18 @@ module _ {n last : ℕ} (small : last < most_rounds) (now : Moment n last) (own 
   -- one write to a copy: only that of the round changes
   spread_one : (h : List Bool) (i : ℕ) (v : Bool) (k : ℕ) → length h ≡ n → i < n → k ≤ last
       → (k ≡ q
-      → with_bit (lay (with_row C q h) S (bits_of q false b)) (k * n + i) (spread i v k)
-      ≡ lay (with_row C q (with_bit h i v)) S (bits_of q false b))
+      → with_bit (lay (with_row C q h) S (bits_of last q false b)) (k * n + i) (spread i v k)
+      ≡ lay (with_row C q (with_bit h i v)) S (bits_of last q false b))
       × ((k ≡ q → ⊥)
-      → with_bit (lay (with_row C q h) S (bits_of q false b)) (k * n + i) (spread i v k) ≡ lay (with_row C q h) S (bits_of q false b))
+      → with_bit (lay (with_row C q h) S (bits_of last q false b)) (k * n + i) (spread i v k)
+      ≡ lay (with_row C q h) S (bits_of last q false b))
   unfolding spread
   spread_one h i v k eh hi hk =
       let D : List (List Bool) = with_row C q h in
       let lc : length C ≡ suc last = shape.rounds in
       let ld : length D ≡ length C = length-with_row C q h in
-      let write : (u : Bool) → with_bit (lay D S (bits_of q false b)) (k * n + i) u ≡ lay (with_row D k (with_bit (row D k) i u)) S
-      (bits_of q false b) =
+      let write : (u : Bool) → with_bit (lay D S (bits_of last q false b)) (k * n + i) u ≡ lay (with_row D k (with_bit (row D k) i u)) S
+      (bits_of last q false b) =
       λ u. row_with n D _ k i u (long-with_row n C q h shape.copies eh) (omega arith) hi in (
         (λ e.
             let w1 : with_row D k (with_bit (row D k) i v) ≡ with_row C q (with_bit h i v) =
@@ -199,13 +201,14 @@ module _ {n last : ℕ} (small : last < most_rounds) (now : Moment n last) (own 
             (ap (λ z. with_row D q (with_bit z i v)) (row-with_same C q h (omega arith)) ∙ with-with_row C q h (with_bit h i v)) in
             let new : ((same k q && v) || (not (same k q) && bit (row C k) i)) ≡ v =
             ap (λ t. (t && v) || (not t && bit (row C k) i)) (ap (λ j. same j q) e ∙ same_refl q) ∙ or_false v in
-            ap (with_bit (lay D S (bits_of q false b)) (k * n + i)) new ∙ (write v ∙ ap (λ z. lay z S (bits_of q false b)) w1)),
+            ap (with_bit (lay D S (bits_of last q false b)) (k * n + i)) new
+            ∙ (write v ∙ ap (λ z. lay z S (bits_of last q false b)) w1)),
         (λ ne.
             let old : ((same k q && v) || (not (same k q) && bit (row C k) i)) ≡ bit (row D k) i =
             ap (λ t. (t && v) || (not t && bit (row C k) i)) (same_false k q ne)
             ∙ ap (λ z. bit z i) (sym (row-with_other C q k h (λ e. ne (sym e)))) in
-            ap (with_bit (lay D S (bits_of q false b)) (k * n + i)) old
-            ∙ (write (bit (row D k) i) ∙ ap (λ z. lay z S (bits_of q false b)) (with_own D k i))),
+            ap (with_bit (lay D S (bits_of last q false b)) (k * n + i)) old
+            ∙ (write (bit (row D k) i) ∙ ap (λ z. lay z S (bits_of last q false b)) (with_own D k i))),
       )
 
   copies_of : ℕ → List ℕ → List Place
@@ -221,8 +224,8 @@ module _ {n last : ℕ} (small : last < most_rounds) (now : Moment n last) (own 
     spread_past : (h : List Bool) (k m : ℕ) → length h ≡ n → q < k
         → k + m ≤ suc last
         → written_globals (copies_of i (numbers k m) ++ ts) (map (spread i v) (numbers k m) ++ ws)
-        (lay (with_row C q h) S (bits_of q false b))
-        ≡ written_globals ts ws (lay (with_row C q h) S (bits_of q false b))
+        (lay (with_row C q h) S (bits_of last q false b))
+        ≡ written_globals ts ws (lay (with_row C q h) S (bits_of last q false b))
     unfolding copies_of
     spread_past h k zero eh past end = refl
     spread_past h k (suc m) eh past end =
@@ -233,8 +236,8 @@ module _ {n last : ℕ} (small : last < most_rounds) (now : Moment n last) (own 
     spread_upto : (h : List Bool) (k m : ℕ) → length h ≡ n → k ≤ q → q < k + m
         → k + m ≤ suc last
         → written_globals (copies_of i (numbers k m) ++ ts) (map (spread i v) (numbers k m) ++ ws)
-        (lay (with_row C q h) S (bits_of q false b))
-        ≡ written_globals ts ws (lay (with_row C q (with_bit h i v)) S (bits_of q false b))
+        (lay (with_row C q h) S (bits_of last q false b))
+        ≡ written_globals ts ws (lay (with_row C q (with_bit h i v)) S (bits_of last q false b))
     unfolding copies_of
     spread_upto h k zero eh le lt end = absurd (omega arith)
     spread_upto h k (suc m) eh le lt end = elim (cases_eq k q) [
@@ -312,8 +315,8 @@ module _ {n last : ℕ} (small : last < most_rounds) (now : Moment n last) (own 
   pub writes : (xs : List Place) (rs : List (RightSide Place)) (vs h : List Bool) → AreValues (row C q) (l ++ more) rs vs
       → PlacesInScope n own xs
       → length h ≡ n
-      → written_globals (targets (places n last own) last xs rs) (spread_all xs rs vs) (lay (with_row C q h) S (bits_of q false b))
-      ≡ lay (with_row C q (written_globals xs vs h)) S (bits_of q false b)
+      → written_globals (targets (places n last own) last xs rs) (spread_all xs rs vs) (lay (with_row C q h) S (bits_of last q false b))
+      ≡ lay (with_row C q (written_globals xs vs h)) S (bits_of last q false b)
   unfolding spread_all copies_of
   writes [] rs vs h a hx eh = refl
   writes (x ∷ xs) [] [] h a hx eh = refl

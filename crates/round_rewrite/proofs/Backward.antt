@@ -1,18 +1,18 @@
 -- A run of the rewritten program from behind a prologue begins with a step of the source, or with its failure.
-use Rattle.std.proofs.Common.{◌≡◌, ℕ, suc, ◌+◌, ◌≤◌, Bool, true, false, cond, List, [], ◌∷◌, ◌++◌, length, map}
+use Rattle.std.proofs.Common.{◌≡◌, ℕ, suc, ◌≤◌, Bool, true, false, cond, List, [], ◌∷◌, length, map}
 use Rattle.std.proofs.Common.{Option, Some, None, option_map, slice_get, refl, sym, ◌∙◌, ap, subst, ap₂, arith}
 use Rattle.language.specs.Tree.{Expression, const, RightSide, value, skip, assign, assert, assume, goto, leave, call, leave_with, call_for}
 use Rattle.language.specs.Tree.{Mark, done, one, choose, loop}
 use Rattle.language.specs.Value.{Place, global, bit, with_bit, value_of, values_of, IsValue, AreValues, written_globals, written_locals}
 use Rattle.language.specs.Rest.{Label, Code, join, rest_from}
-use Rattle.language.specs.Step.{Routine, Frame, frame, State, state, zeros, fresh, frame_size, result_of, with_result, given_back}
+use Rattle.language.specs.Step.{Routine, Frame, frame, State, state, fresh, frame_size, result_of, with_result, given_back}
 use Rattle.language.specs.Step.{AtRoutine, AtRest, body_of, StepsTo, Fails}
 use Rattle.language.specs.Flow.{caller_frame}
 use Rattle.language.proofs.Lengths.{length_values, length_globals, length_locals}
 use Rattle.round_rewrite.specs.Table.{plain, takes, draws, temporaries, expression, side, prologue, stop_test}
 use Rattle.round_rewrite.specs.Places.{places, is_global, stop_at, bad_at}
 use Rattle.resolved.specs.Scoped.{AreInScope, SideInScope}
-use Rattle.round_rewrite.proofs.Laid.{row, bits_of, lay, Moment, globals_at, turned, unturned, row_long, bits_with}
+use Rattle.round_rewrite.proofs.Laid.{row, bits_of, lay, Moment, globals_at, turned, unturned, row_long, both_with}
 use Rattle.round_rewrite.proofs.Translate.{expression_is, expressions_are}
 use Rattle.round_rewrite.proofs.Assigned.{writes_more}
 use Rattle.round_rewrite.proofs.Drawing.{assign_back}
@@ -54,13 +54,13 @@ module _ (setting : Setting) (now : Moment setting.p.globals setting.last) (m : 
 
   -- frames that leave where stop is 1, down to the first procedure, whatever values they have
   pub unwind_back : (c : ℕ) (L : List Bool) (bs : List Both) (q' : ℕ) (b' : Bool) (N : ℕ)
-      → PlainAfter w N (state (lay C S (bits_of q' true b')) (frame c L done ∷ callers p last bs m)) Q
-      → Later w N (state (lay C S (bits_of q' true b')) (frame 0 [] m ∷ [])) Q
+      → PlainAfter w N (state (lay C S (bits_of last q' true b')) (frame c L done ∷ callers p last bs m)) Q
+      → Later w N (state (lay C S (bits_of last q' true b')) (frame 0 [] m ∷ [])) Q
   unwind_back c L [] q' b' N h =
       let (k, e, r) = unstep w Q N _ _ _ (never_below []) h in
       later_now w Q _ N k e r
   unwind_back c L (d ∷ bs) q' b' N h =
-      let Y : List Bool = lay C S (bits_of q' true b') in
+      let Y : List Bool = lay C S (bits_of last q' true b') in
       let (k, e, r) = unstep w Q N _ _ _ (never_below (d ∷ bs)) h in
       let v : Bool = result_of (w.enters c) L in
       let L' : List Bool = got p last v d in
@@ -105,7 +105,7 @@ module _ (setting : Setting) (now : Moment setting.p.globals setting.last) (m : 
         → StepsTo p (state (row C q) (frame a.c (source_values a) rest ∷ map source bs)) (λ u. u ≡ state g' (map source bs'))
         → Later w N (state (turned now g') (stack p last bs' m)) Q → Begins N a rest bs
     failed : Fails (state (row C q) (frame a.c (source_values a) rest ∷ map source bs))
-        → Later w N (state (lay C S (bits_of q true true)) (top p last a done bs m)) Q
+        → Later w N (state (lay C S (bits_of last q true true)) (top p last a done bs m)) Q
         → Begins N a rest bs
 
   -- a step of the source that leaves the globals as they are
@@ -123,11 +123,10 @@ module _ (setting : Setting) (now : Moment setting.p.globals setting.last) (m : 
 
   -- a failing assert sets `bad` and `stop`
   fail_writes : (x y : Bool) → x ≡ true → y ≡ true →
-      with_bit (with_bit X (bad_at p.globals last) x) (stop_at p.globals last) y ≡ lay C S (bits_of q true true)
+      with_bit (with_bit X (bad_at p.globals last) x) (stop_at p.globals last) y ≡ lay C S (bits_of last q true true)
   fail_writes x y ex ey =
       ap₂ (λ u v. with_bit (with_bit X (bad_at p.globals last) u) (stop_at p.globals last) v) ex ey
-      ∙ (ap (λ z. with_bit z (stop_at p.globals last) true) (bits_with p.globals last C S (bits_of q false b) 3 true shape)
-      ∙ bits_with p.globals last C S (bits_of q false true) 2 true shape)
+      ∙ both_with p.globals last C S shape q b
 
   -- what an assert that does not hold is rewritten to
   fail_code : Code → Code
@@ -176,7 +175,7 @@ module _ (setting : Setting) (now : Moment setting.p.globals setting.last) (m : 
         (λ vs. PlainAfter w n1 (state (written_globals two vs X) (frame (suc a.c) (written_locals two vs (put_values a)) rest ∷ fs)) Q)
         ex
         r1.2 in
-        let r3 : PlainAfter w n1 (state (lay C S (bits_of q true true)) (frame (suc a.c) (put_values a) rest ∷ fs)) Q =
+        let r3 : PlainAfter w n1 (state (lay C S (bits_of last q true true)) (frame (suc a.c) (put_values a) rest ∷ fs)) Q =
         subst (λ z. PlainAfter w n1 (state z (frame (suc a.c) (put_values a) rest ∷ fs)) Q) (fail_writes x y ix iy) r2 in
         let (n4, e4, r4) = unstep w Q n1 _ _ _ (never_below bs) r3 in
         failed (back_value a h.long r h.fits.0.0.test false is) (n4, omega arith, r4)

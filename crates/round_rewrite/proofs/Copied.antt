@@ -4,13 +4,6 @@ use Rattle.language.specs.Tree.{Name}
 use Rattle.round_rewrite.specs.Table.{Naming, numbers, copied}
 use Rattle.round_rewrite.proofs.Pushed.{numbers_next}
 
--- four names behind two lists
-pub gathered : {B : Type 0} (first second : List B) (a b c d : B)
-    → ((((first ++ second) ++ a ∷ []) ++ b ∷ []) ++ c ∷ []) ++ d ∷ [] ≡ first ++ second ++ (a ∷ b ∷ []) ++ c ∷ d ∷ []
-gathered first second a b c d =
-    ap (λ ns. (ns ++ c ∷ []) ++ d ∷ []) (append_assoc (first ++ second) (a ∷ []) (b ∷ []))
-    ∙ append_assoc ((first ++ second) ++ a ∷ b ∷ []) (c ∷ []) (d ∷ [])
-
 module _ (w : Naming Name Name Name Name) (last : ℕ) (f : ℕ → Name → Name) (xs : List Name) where
   copied_behind : (ks : List ℕ) (k : ℕ) → copied w last f xs (ks ++ k ∷ []) ≡ copied w last f xs ks ++ map (f k) xs
   copied_behind [] k = append-nil (map (f k) xs)

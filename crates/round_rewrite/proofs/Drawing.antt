@@ -88,7 +88,7 @@ module _ (w : World) (n last own c : ℕ) (fs : List Frame) (Q : State → Type 
     write_state xs rs vs tmp' t a hx =
         state
         (written_globals (targets (places n last own) last xs rs)
-        (spread_all small now own l more tmp' el xs rs vs) (lay C S (bits_of q false b)))
+        (spread_all small now own l more tmp' el xs rs vs) (lay C S (bits_of last q false b)))
         (frame c
         (written_locals (targets (places n last own) last xs rs)
         (spread_all small now own l more tmp' el xs rs vs) (l ++ tmp')) t ∷ fs)
@@ -100,7 +100,7 @@ module _ (w : World) (n last own c : ℕ) (fs : List Frame) (Q : State → Type 
     unfolding write_state
     write_is xs rs vs tmp' t a hx =
         let eg : written_globals (targets (places n last own) last xs rs)
-        (spread_all small now own l more tmp' el xs rs vs) (lay C S (bits_of q false b))
+        (spread_all small now own l more tmp' el xs rs vs) (lay C S (bits_of last q false b))
         ≡ turned now (written_globals xs vs (row C q)) =
         ap
         (written_globals (targets (places n last own) last xs rs)
@@ -116,7 +116,7 @@ module _ (w : World) (n last own c : ℕ) (fs : List Frame) (Q : State → Type 
         → ((tmp' : List Bool) → Redrawn (draws is_global xs rs) tmp tmp'
         → Leads w (state (turned now (written_globals xs vs (row C q))) (frame c (written_locals xs vs l ++ tmp') t ∷ fs)) Q)
         → Leads w
-        (state (lay C S (bits_of q false b)) (frame c (l ++ tmp) (statement (places n last own) last (assign xs rs) t) ∷ fs)) Q
+        (state (lay C S (bits_of last q false b)) (frame c (l ++ tmp) (statement (places n last own) last (assign xs rs) t) ∷ fs)) Q
     unfolding write_state
     assign_leads xs rs vs t a hx hr room k =
         let ts : List Bool = picks xs rs vs in
@@ -125,9 +125,9 @@ module _ (w : World) (n last own c : ℕ) (fs : List Frame) (Q : State → Type 
         let p : Picked 0 xs rs vs tmp' = picked (row C q) (l ++ more) 0 xs rs vs tmp a (omega arith) in
         let r : Leads w (state (turned now (written_globals xs vs (row C q))) (frame c (written_locals xs vs l ++ tmp') t ∷ fs)) Q =
         k tmp' (redrawn d ts tmp) in
-        draw_leads (lay C S (bits_of q false b)) l tmp d ts
+        draw_leads (lay C S (bits_of last q false b)) l tmp d ts
         (one plain (assign (targets (places n last own) last xs rs) (sides (places n last own) last 0 xs rs)) t) el
-        (any_are (lay C S (bits_of q false b)) (l ++ tmp) (row C q) (l ++ more) 0 xs rs vs a) (
+        (any_are (lay C S (bits_of last q false b)) (l ++ tmp) (row C q) (l ++ more) 0 xs rs vs a) (
           suc r.0,
           (
             spread_all small now own l more tmp' el xs rs vs,
@@ -139,20 +139,20 @@ module _ (w : World) (n last own c : ℕ) (fs : List Frame) (Q : State → Type 
         are : (xs : List Place) (rs : List (RightSide Place)) (vs tmp' : List Bool) → AreValues (row C q) (l ++ more) rs vs
             → Picked 0 xs rs vs tmp'
             → PlacesInScope n own xs → SidesInScope n own rs
-            → AreValues (lay C S (bits_of q false b)) (l ++ tmp') (sides (places n last own) last 0 xs rs)
+            → AreValues (lay C S (bits_of last q false b)) (l ++ tmp') (sides (places n last own) last 0 xs rs)
             (spread_all small now own l more tmp' el xs rs vs)
         are xs rs vs tmp' a p hx hr = sides_are small now own l more tmp' el 0 xs rs vs a p hx hr
 
     pub assign_back : Never Q fs → (N : ℕ) (xs : List Place) (rs : List (RightSide Place)) (t : Code) → PlacesInScope n own xs
         → SidesInScope n own rs
         → PlainAfter w N
-        (state (lay C S (bits_of q false b)) (frame c (l ++ tmp) (statement (places n last own) last (assign xs rs) t) ∷ fs)) Q
+        (state (lay C S (bits_of last q false b)) (frame c (l ++ tmp) (statement (places n last own) last (assign xs rs) t) ∷ fs)) Q
         → (M : ℕ) × (vs : List Bool) × (tmp' : List Bool) × (M < N) × AreValues (row C q) (l ++ more) rs vs
         × Redrawn (draws is_global xs rs) tmp tmp'
         × PlainAfter w M (state (turned now (written_globals xs vs (row C q))) (frame c (written_locals xs vs l ++ tmp') t ∷ fs)) Q
     unfolding write_state
     assign_back never N xs rs t hx hr h =
-        let X : List Bool = lay C S (bits_of q false b) in
+        let X : List Bool = lay C S (bits_of last q false b) in
         let rest : Code = one plain (assign (targets (places n last own) last xs rs) (sides (places n last own) last 0 xs rs)) t in
         let (M1, tmp', le, et, h1) = draw_back never N X l tmp (draws is_global xs rs) rest el h in
         let (m, e, k) = unstep w Q M1 X (frame c (l ++ tmp') rest) fs never h1 in
@@ -172,7 +172,7 @@ module _ (w : World) (n last own c : ℕ) (fs : List Frame) (Q : State → Type 
         )
       where
         back : (xs : List Place) (rs : List (RightSide Place)) (tmp' ws : List Bool) → PlacesInScope n own xs → SidesInScope n own rs
-            → AreValues (lay C S (bits_of q false b)) (l ++ tmp') (sides (places n last own) last 0 xs rs) ws
+            → AreValues (lay C S (bits_of last q false b)) (l ++ tmp') (sides (places n last own) last 0 xs rs) ws
             → (vs : List Bool) × AreValues (row C q) (l ++ more) rs vs × Picked 0 xs rs vs tmp'
             × (ws ≡ spread_all small now own l more tmp' el xs rs vs)
         back xs rs tmp' ws hx hr a = sides_back small now own l more tmp' el 0 xs rs ws hx hr a
@@ -185,12 +185,12 @@ module _ (w : World) (n last own c : ℕ) (fs : List Frame) (Q : State → Type 
       one_draw = any ∷ []
 
       pub landed_leads : Leads w (state (turned now (with_bit (row C q) i (bit tmp 0))) (frame c (l ++ tmp) t ∷ fs)) Q
-          → Leads w (state (lay C S (bits_of q false b)) (frame c (l ++ tmp) (landed n last own i t) ∷ fs)) Q
+          → Leads w (state (lay C S (bits_of last q false b)) (frame c (l ++ tmp) (landed n last own i t) ∷ fs)) Q
       unfolding write_state
       landed_leads (k, h) =
           let vs : List Bool = bit tmp 0 ∷ [] in
           let a : AreValues (row C q) (l ++ more) one_draw vs = (tt, tt) in
-          let run : PlainAfter w (suc k) (state (lay C S (bits_of q false b)) (frame c (l ++ tmp)
+          let run : PlainAfter w (suc k) (state (lay C S (bits_of last q false b)) (frame c (l ++ tmp)
           (one plain (assign (targets (places n last own) last one_target one_draw) (sides (places n last own) last 0 one_target one_draw))
           t) ∷ fs)) Q = (
             spread_all small now own l more tmp el one_target one_draw vs,
@@ -198,16 +198,16 @@ module _ (w : World) (n last own c : ℕ) (fs : List Frame) (Q : State → Type 
             subst (λ z. PlainAfter w k z Q) (sym (write_is one_target one_draw vs tmp t a (in_scope, tt))) h,
           ) in (
             suc k,
-            subst (λ z. PlainAfter w (suc k) (state (lay C S (bits_of q false b)) (frame c (l ++ tmp) z ∷ fs)) Q)
+            subst (λ z. PlainAfter w (suc k) (state (lay C S (bits_of last q false b)) (frame c (l ++ tmp) z ∷ fs)) Q)
                 (sym (landed_is n last own i t)) run,
           )
 
       pub landed_back : Never Q fs → (N : ℕ)
-          → PlainAfter w N (state (lay C S (bits_of q false b)) (frame c (l ++ tmp) (landed n last own i t) ∷ fs)) Q
+          → PlainAfter w N (state (lay C S (bits_of last q false b)) (frame c (l ++ tmp) (landed n last own i t) ∷ fs)) Q
           → Later w N (state (turned now (with_bit (row C q) i (bit tmp 0))) (frame c (l ++ tmp) t ∷ fs)) Q
       unfolding write_state
       landed_back never N h =
-          let X : List Bool = lay C S (bits_of q false b) in
+          let X : List Bool = lay C S (bits_of last q false b) in
           let rest : Code =
           one plain (assign (targets (places n last own) last one_target one_draw) (sides (places n last own) last 0 one_target one_draw)) t
           in

@@ -1,11 +1,11 @@
 -- A step of the source is a run of the rewritten program.
-use Rattle.std.proofs.Common.{◌≡◌, ℕ, suc, ◌+◌, ◌≤◌, Bool, true, false, cond, List, [], ◌∷◌, ◌++◌, length, map}
+use Rattle.std.proofs.Common.{◌≡◌, ℕ, suc, ◌+◌, ◌≤◌, Bool, true, false, cond, List, [], ◌∷◌, length, map}
 use Rattle.std.proofs.Common.{Option, Some, None, option_map, slice_get, refl, sym, ◌∙◌, ap, subst, arith}
 use Rattle.language.specs.Tree.{Expression, RightSide, skip, assign, assert, assume, goto, leave, call, leave_with, call_for, Mark, done}
 use Rattle.language.specs.Tree.{one, choose, loop}
 use Rattle.language.specs.Value.{Place, bit, value_of, values_of, IsValue, written_globals, written_locals}
 use Rattle.language.specs.Rest.{Label, Code, join, rest_from}
-use Rattle.language.specs.Step.{Routine, Program, Frame, frame, State, state, zeros, fresh, frame_size, with_result, given_back}
+use Rattle.language.specs.Step.{Routine, Program, frame, State, state, fresh, frame_size, with_result, given_back}
 use Rattle.language.specs.Step.{AtRoutine, AtRest, body_of, StepsTo}
 use Rattle.language.proofs.Lengths.{length_zeros, length_fresh, length_values, length_globals, length_locals}
 use Rattle.round_rewrite.specs.Table.{Naming, plain, takes, draws, temporaries, expression, side, prologue, stop_test}

@@ -11,7 +11,7 @@ use Rattle.tokens.specs.declared.vocabulary.Kind.TheVariants as kind
 use Rattle.tokens.specs.Spelling.{reserved_word, is_word_byte, AreWordBytes, BeginsName, IsNameWord}
 use Rattle.syntax.specs.InGrammar.{IsId}
 use Rattle.scopes.specs.Rewritable.{has_double}
-use Rattle.round_rewrite.specs.Names.{named, copy_name, save_name, drawn_name}
+use Rattle.round_rewrite.specs.Names.{named, bit_name, copy_name, save_name, drawn_name}
 use Rattle.round_rewrite.proofs.Spelling.{double_there}
 use Rattle.resolved.specs.Limits.{most_places}
 use Rattle.round_rewrite.specs.Limits.{most_rounds}
@@ -73,11 +73,10 @@ pub drawn_id : (j : ℕ) → j < most_places → IsId (drawn_name j)
 drawn_id j few =
     two_lows (codes "tmp") (116 ∷ decimal (suc j)) refl (refl, (refl, (refl, tt))) (refl, words_decimal (suc j) (omega arith))
 
-pub high_id : IsId (named (codes "rh__"))
-high_id = two_lows (codes "rh") [] refl (refl, (refl, tt)) tt
-
-pub low_id : IsId (named (codes "rl__"))
-low_id = two_lows (codes "rl") [] refl (refl, (refl, tt)) tt
+pub bit_id : (j : ℕ) → IsId (bit_name j)
+bit_id zero = two_lows (codes "rl") [] refl (refl, (refl, tt)) tt
+bit_id (suc zero) = two_lows (codes "rh") [] refl (refl, (refl, tt)) tt
+bit_id (suc (suc j)) = two_lows (codes "rt") [] refl (refl, (refl, tt)) tt
 
 pub stop_id : IsId (named (codes "stop__"))
 stop_id = two_lows (codes "stop") [] refl (refl, (refl, (refl, (refl, tt)))) tt

@@ -1,9 +1,11 @@
 -- How the globals of the rewritten program lie: copies round by round, saved guesses, the round's bits, stop, bad.
 use Rattle.std.proofs.Common.{◌≡◌, ℕ, zero, suc, ◌+◌, ◌*◌, ◌<◌, ◌≤◌, Bool, true, false, List, [], ◌∷◌}
-use Rattle.std.proofs.Common.{◌++◌, length, refl, sym, ◌∙◌, ap, arith, append_assoc, length-append, zero-add}
+use Rattle.std.proofs.Common.{◌++◌, length, reverse, refl, sym, ◌∙◌, ap, arith, append_assoc, length-append, zero-add}
 use Rattle.std.proofs.lemmas.List.{get_or_append_left, set-append_left, set-get_or}
-use Rattle.language.specs.Value.{bit, with_bit}
-use Rattle.round_rewrite.specs.Places.{bits_at}
+use Rattle.language.specs.Value.{bit, with_bit, written_globals}
+use Rattle.round_rewrite.specs.Limits.{round_bits}
+use Rattle.round_rewrite.specs.Places.{bits_at, bits_from, stop_at, bad_at}
+use Rattle.round_rewrite.proofs.Counting.{in_bits, low_first, HasBits, bit_past, with_past, written}
 
 pub bit_right : (a b : List Bool) (i j : ℕ) → i ≡ length a + j → bit (a ++ b) i ≡ bit b j
 bit_right [] b i j e = ap (bit b) (e ∙ zero-add j)
@@ -112,20 +114,9 @@ pub long-append : (n : ℕ) (a b : List (List Bool)) → Long n a → Long n b �
 long-append n [] b ha hb = hb
 long-append n (r ∷ a) b ha hb = (ha.0, long-append n a b ha.1 hb)
 
--- the bits of a round
-abbrev pub high : ℕ → Bool
-high zero = false
-high (suc zero) = false
-high (suc (suc q)) = true
-
-abbrev pub low : ℕ → Bool
-low zero = false
-low (suc zero) = true
-low (suc (suc zero)) = false
-low (suc (suc (suc q))) = true
-
-abbrev pub bits_of : ℕ → Bool → Bool → List Bool
-bits_of q s b = high q ∷ low q ∷ s ∷ b ∷ []
+-- the bits of a round, where this one is the last, then stop and bad
+abbrev pub bits_of : ℕ → ℕ → Bool → Bool → List Bool
+bits_of last q s b = in_bits (round_bits last) q (s ∷ b ∷ [])
 
 abbrev pub lay : List (List Bool) → List (List Bool) → List Bool → List Bool
 lay C S bits = flat C ++ (flat S ++ bits)
@@ -147,14 +138,14 @@ pub record Moment (n last : ℕ) : Type 0 where
   pub within : q ≤ last
 
 abbrev pub globals_at : {n last : ℕ} (now : Moment n last) → List Bool
-globals_at now = lay now.C now.S (bits_of now.q false now.b)
+globals_at {n} {last} now = lay now.C now.S (bits_of last now.q false now.b)
 
 -- the same globals, but that the round's row is h
 abbrev pub turned : {n last : ℕ} (now : Moment n last) → List Bool → List Bool
-turned now h = lay (with_row now.C now.q h) now.S (bits_of now.q false now.b)
+turned {n} {last} now h = lay (with_row now.C now.q h) now.S (bits_of last now.q false now.b)
 
 pub unturned : {n last : ℕ} (now : Moment n last) → turned now (row now.C now.q) ≡ globals_at now
-unturned now = ap (λ z. lay z now.S (bits_of now.q false now.b)) (with-own_row now.C now.q)
+unturned {n} {last} now = ap (λ z. lay z now.S (bits_of last now.q false now.b)) (with-own_row now.C now.q)
 
 pub row_long : {n last : ℕ} (now : Moment n last) → length (row now.C now.q) ≡ n
 row_long {n} now =
@@ -180,3 +171,48 @@ pub bits_with : (n last : ℕ) (C S : List (List Bool)) (bits : List Bool) (j : 
 bits_with n last C S bits j v h =
     with_right (flat C) (flat S ++ bits) (bits_at n last + j) (length (flat S) + j) v (bits_index n last C S j h)
     ∙ ap (λ z. flat C ++ z) (with_right (flat S) bits (length (flat S) + j) j v refl)
+
+module _ (n last : ℕ) (C S : List (List Bool)) (shape : Shape n last C S) where
+  -- the bits stand behind the rows and the guesses
+  pub has_bits : (q : ℕ) (s b : Bool) → HasBits (lay C S (bits_of last q s b)) (bits_at n last) (round_bits last) q (s ∷ b ∷ [])
+  has_bits q s b j = bits_bit n last C S (bits_of last q s b) j shape
+
+  pub stop_bit : (q : ℕ) (s b : Bool) → bit (lay C S (bits_of last q s b)) (stop_at n last) ≡ s
+  stop_bit q s b =
+      bits_bit n last C S (bits_of last q s b) (round_bits last) shape
+      ∙ bit_past (round_bits last) q (s ∷ b ∷ []) (round_bits last) 0 (omega arith)
+
+  pub bad_bit : (q : ℕ) (s b : Bool) → bit (lay C S (bits_of last q s b)) (bad_at n last) ≡ b
+  bad_bit q s b =
+      bits_bit n last C S (bits_of last q s b) (round_bits last + 1) shape
+      ∙ bit_past (round_bits last) q (s ∷ b ∷ []) (round_bits last + 1) 1 refl
+
+  pub stop_with : (q : ℕ) (s b v : Bool) → with_bit (lay C S (bits_of last q s b)) (stop_at n last) v ≡ lay C S (bits_of last q v b)
+  stop_with q s b v =
+      bits_with n last C S (bits_of last q s b) (round_bits last) v shape
+      ∙ ap (lay C S) (with_past (round_bits last) q (s ∷ b ∷ []) (round_bits last) 0 v (omega arith))
+
+  pub bad_with : (q : ℕ) (s b v : Bool) → with_bit (lay C S (bits_of last q s b)) (bad_at n last) v ≡ lay C S (bits_of last q s v)
+  bad_with q s b v =
+      bits_with n last C S (bits_of last q s b) (round_bits last + 1) v shape
+      ∙ ap (lay C S) (with_past (round_bits last) q (s ∷ b ∷ []) (round_bits last + 1) 1 v refl)
+
+  -- a failing assert sets `bad`, then `stop`
+  pub both_with : (q : ℕ) (b : Bool)
+      → with_bit (with_bit (lay C S (bits_of last q false b)) (bad_at n last) true) (stop_at n last) true
+      ≡ lay C S (bits_of last q true true)
+  both_with q b = ap (λ z. with_bit z (stop_at n last) true) (bad_with q false b true) ∙ stop_with q false true true
+
+  -- the bits of another round are written over them
+  pub bits_written : (p q : ℕ) (s b : Bool)
+      → written_globals (reverse (bits_from (bits_at n last) (round_bits last))) (reverse (low_first (round_bits last) p))
+      (lay C S (bits_of last q s b))
+      ≡ lay C S (bits_of last p s b)
+  bits_written p q s b =
+      let m : ℕ = round_bits last in
+      let index : bits_at n last + 0 ≡ length (flat C) + (length (flat S) + 0) = bits_index n last C S 0 shape in
+      let sum : length (flat C ++ flat S) ≡ length (flat C) + length (flat S) = length-append (flat C) (flat S) in
+      ap (written_globals (reverse (bits_from (bits_at n last) m)) (reverse (low_first m p)))
+      (sym (append_assoc (flat C) (flat S) (bits_of last q s b)))
+      ∙ (written (flat C ++ flat S) (bits_at n last) (omega arith) m p q (s ∷ b ∷ [])
+      ∙ append_assoc (flat C) (flat S) (bits_of last p s b))

@@ -1,6 +1,7 @@
 -- In reading order: the theorem over places, then over names, then what the code writes. docs/REWRITING.md has a map.
 pub mod Plain
 pub mod Blocks
+pub mod Counting
 pub mod Laid
 pub mod Translate
 pub mod Assigned
@@ -28,6 +29,7 @@ pub mod Matching
 pub mod Giving
 pub mod Meaning
 pub mod Pushed
+pub mod Raised
 pub mod InTurn
 pub mod Assigning
 pub mod Laying

@@ -5,14 +5,14 @@ use Rattle.language.specs.Tree.{Name, const, var, two, equal, any, value, assign
 use Rattle.language.specs.Value.{Place, global}
 use Rattle.language.specs.Rest.{Code, same_text}
 use Rattle.language.specs.Resolve.{number_of, is_declared, Scope, place_of, resolve_side, resolve_block}
-use Rattle.round_rewrite.specs.Table.{Naming, numbers, plain, each, guess, guesses, starts, check, checks, main}
+use Rattle.round_rewrite.specs.Table.{Naming, numbers, plain, each, reset_targets, guess, guesses, starts, check, checks, main}
 use Rattle.round_rewrite.specs.Places.{places, copy_at, save_at, all_globals}
 use Rattle.round_rewrite.specs.Names.{copy_name, save_name, names}
 use Rattle.scopes.specs.Rewritable.{AreFree, AreDistinct, EachLine}
 use Rattle.round_rewrite.proofs.Spelling.{same_text_refl, same_text_false}
 use Rattle.round_rewrite.proofs.Numbering.{number_right}
 use Rattle.round_rewrite.proofs.Placing.{Vocabulary, wider, copy_place, save_place}
-use Rattle.round_rewrite.proofs.Resolved.{lo, hi, st}
+use Rattle.round_rewrite.proofs.Resolved.{reset_resolved, zeros_resolved}
 use Rattle.resolved.specs.Limits.{most_places}
 use Rattle.round_rewrite.specs.Limits.{most_rounds}
 
@@ -163,10 +163,8 @@ module _ (t : Tree) (gs ps : List Name) (last : ℕ) (gs_free : AreFree gs) (dis
   starts_match (line ∷ lines) h b b' e =
       λ i.
       one plain
-      (assign
-      (hi t vocabulary ps' called i ∷ lo t vocabulary ps' called i
-      ∷ st t vocabulary ps' called i ∷ [])
-      (value (const false) ∷ value (const false) ∷ value (const false) ∷ []))
+      (assign (reset_resolved t vocabulary ps' called i)
+      ((zeros_resolved sm' (reset_targets N last) ∙ ap (each (value (const false))) (reset_resolved t vocabulary ps' called)) i))
       (one plain (call (called line.name h.0 i) []) (starts_match lines h.1 b b' e i))
 
   pub main_resolved : (lines : List ThreadLine) → EachLine ps lines

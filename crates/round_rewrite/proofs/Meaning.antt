@@ -1,11 +1,11 @@
 -- The rewritten tree means the rewritten program, and the theorem over names.
-use Rattle.std.proofs.Common.{◌≡◌, ℕ, zero, suc, ◌+◌, ◌*◌, ◌<◌, ◌≤◌, true, false, cond, List, [], ◌∷◌}
+use Rattle.std.proofs.Common.{◌≡◌, ℕ, zero, suc, ◌+◌, ◌<◌, ◌≤◌, true, false, cond, List, [], ◌∷◌}
 use Rattle.std.proofs.Common.{◌++◌, length, map, codes, Option, Some, None, option_map, slice_get, refl, sym, ◌∙◌, ap, subst}
 use Rattle.std.proofs.Common.{ap₂, arith, append_assoc, length-append}
 use Rattle.std.proofs.lemmas.List.{length-map}
 use Rattle.std.proofs.lemmas.Option.{slice_get-map}
-use Rattle.language.specs.Tree.{Name, Expression, const, var, negation, two, RightSide, any, value, Simple, skip, assign, assert, assume}
-use Rattle.language.specs.Tree.{goto, leave, call, Block, done, one, choose, loop, Procedure, ThreadLine, Tree}
+use Rattle.language.specs.Tree.{Name, Expression, const, var, negation, two, RightSide, any, value, Simple}
+use Rattle.language.specs.Tree.{Block, done, one, choose, loop, Procedure, ThreadLine, Tree}
 use Rattle.std.specs.Prelude.{IfSome}
 use Rattle.language.specs.Parts.{plain, targets_of, sides_of, test_of, arguments_of, callee_of}
 use Rattle.language.specs.Value.{global, local}
@@ -14,9 +14,9 @@ use Rattle.language.specs.Step.{AtRoutine}
 use Rattle.language.specs.Resolve.{number_of, is_declared, Scope, place_of, resolve_expression, resolve_side, resolve_simple, resolve_block}
 use Rattle.language.specs.Resolve.{scope_of, routine_of, meaning_of}
 use Rattle.language.specs.Sequential.{in_text_order, sequential_of, SomeBad}
-use Rattle.round_rewrite.specs.Table.{Naming, numbers, temporaries, rewritten, main, globals}
+use Rattle.round_rewrite.specs.Table.{numbers, temporaries, rewritten}
 use Rattle.round_rewrite.specs.Places.{places, is_global, rewritten_routine, main_routine, rewritten_program, bad_at, global_count}
-use Rattle.round_rewrite.specs.Names.{named, copy_name, save_name, drawn_name, names, rewritten_procedure, main_procedure, rewritten_tree}
+use Rattle.round_rewrite.specs.Names.{drawn_name, names, rewritten_procedure, main_procedure, rewritten_tree}
 use Rattle.resolved.specs.Scoped.{PlaceInScope, InScope, AreInScope, SideInScope, SidesInScope, PlacesInScope, SimpleInScope, Throughout}
 use Rattle.resolved.specs.Scoped.{EachRoutine, EachThread, RoutineInScope, FitsScopes}
 use Rattle.language.proofs.Names.{number_less}
@@ -27,8 +27,8 @@ use Rattle.resolved.specs.Narrow.{EachProcedure, width}
 use Rattle.round_rewrite.specs.Narrow.{IsNarrow}
 use Rattle.round_rewrite.specs.Law.{KeepsFailures, KeepsTree}
 use Rattle.round_rewrite.proofs.Spelling.{free_differs}
-use Rattle.round_rewrite.proofs.Numbering.{free_name, length-rows}
-use Rattle.round_rewrite.proofs.Placing.{Vocabulary, wider, bad_place, length-numbers}
+use Rattle.round_rewrite.proofs.Numbering.{free_name}
+use Rattle.round_rewrite.proofs.Placing.{Vocabulary, wider, bad_place, length-numbers, length-globals}
 use Rattle.round_rewrite.proofs.Resolved.{by_test, temporaries_resolved, block_resolved}
 use Rattle.round_rewrite.proofs.Matching.{main_resolved, same_text_other}
 use Rattle.round_rewrite.proofs.Giving.{gives_rewritten, gives_main}
@@ -146,17 +146,7 @@ module _ (t : Tree) (last : ℕ) (ok : IsRewritable t) (small : last < most_roun
   routines_are (p ∷ procs) h narrow = ap₂ (λ a b. a ∷ b) (routine_is p h.0 narrow.0) (routines_are procs h.1 narrow.1)
 
   globals_are : length t'.globals ≡ global_count (length gs) last
-  globals_are =
-      let A : List Name = Rattle.round_rewrite.specs.Table.copied (names []) last copy_name gs (numbers 0 (suc last)) in
-      let B : List Name = Rattle.round_rewrite.specs.Table.copied (names []) last save_name gs (numbers 1 last) in
-      let bits : List Name = named (codes "rh__") ∷ named (codes "rl__") ∷ [] in
-      let lasts : List Name = named (codes "stop__") ∷ named (codes "bad__") ∷ [] in
-      let a : length A ≡ suc last * length gs = length-rows (names []) last copy_name gs 0 (suc last) in
-      let b : length B ≡ last * length gs = length-rows (names []) last save_name gs 1 last in
-      let e1 : length (A ++ B ++ bits ++ lasts) ≡ length (A ++ B ++ bits) + 2 = length-append (A ++ B ++ bits) lasts in
-      let e2 : length (A ++ B ++ bits) ≡ length (A ++ B) + 2 = length-append (A ++ B) bits in
-      let e3 : length (A ++ B) ≡ length A + length B = length-append A B in
-      e1 ∙ (ap (λ z. z + 2) (e2 ∙ ap (λ z. z + 2) (e3 ∙ ap₂ (λ x y. x + y) a b)) ∙ omega arith)
+  globals_are = length-globals last gs
 
   -- the rewritten tree means the rewritten program
   pub meaning_is : IsNarrow last t → meaning_of t' ≡ rewritten_program last (meaning_of t)

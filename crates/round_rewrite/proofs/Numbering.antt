@@ -74,7 +74,7 @@ module _ (w : Naming Name Name Name Name) (last : ℕ) (f : ℕ → Name → Nam
       (ap₂ (λ c d. cond c true d) (sp.alike k x y) r.0, ap₂ (λ c d. cond c 0 (suc d)) (sp.alike k x y) r.1)
 
   -- the name of round j + d stands d rows on
-  pub in_rows : Spelled f → (x : Name) → is_declared x.text xs ≡ true → (d j m : ℕ) → d < m → j + m ≤ 4
+  pub in_rows : Spelled f → (x : Name) → is_declared x.text xs ≡ true → (d j m : ℕ) → d < m → j + m ≤ most_rounds
       → (is_declared (f (j + d) x).text (rows j m) ≡ true)
       × (number_of (f (j + d) x).text (rows j m) ≡ d * length xs + number_of x.text xs)
   in_rows sp x h d j zero lt all = absurd (omega arith)

@@ -1,20 +1,22 @@
 -- The printed names stand at their places.
 use Rattle.std.proofs.Common.{◌≡◌, ℕ, zero, suc, ◌+◌, ◌*◌, ◌<◌, ◌≤◌, true, false, cond, List, [], ◌∷◌}
-use Rattle.std.proofs.Common.{◌++◌, length, map, codes, refl, sym, ◌∙◌, ap, ap₂, arith, append_assoc, length-append}
+use Rattle.std.proofs.lemmas.List.{length-map, length-reverse}
+use Rattle.std.proofs.Common.{◌++◌, length, map, reverse, codes, refl, sym, ◌∙◌, ap, ap₂, arith, append_assoc, length-append}
 use Rattle.std.specs.Prelude.{decimal}
 use Rattle.language.specs.Tree.{Name}
 use Rattle.language.specs.Value.{global, local}
 use Rattle.language.specs.Rest.{same_text}
 use Rattle.language.specs.Resolve.{number_of, is_declared, Scope, place_of}
 use Rattle.round_rewrite.specs.Table.{numbers, copied, globals}
-use Rattle.round_rewrite.specs.Places.{copy_at, save_at, bits_at, high_at, low_at, stop_at, bad_at}
-use Rattle.round_rewrite.specs.Names.{named, copy_name, save_name, drawn_name, names}
+use Rattle.round_rewrite.specs.Places.{copy_at, save_at, bits_at, bits_from, stop_at, bad_at, global_count}
+use Rattle.round_rewrite.specs.Names.{named, bit_name, bit_names, copy_name, save_name, drawn_name, names}
 use Rattle.scopes.specs.Rewritable.{has_double, AreFree}
 use Rattle.round_rewrite.proofs.Spelling.{same_text_refl, same_text_false, same_text-append, copies_differ, saves_differ, save_no_copy}
 use Rattle.round_rewrite.proofs.Spelling.{low_no_copy, low_no_save, drawn_differ, no_drawn, digit_is}
 use Rattle.round_rewrite.proofs.Numbering.{number_right, number_left, not_free, free_name, Spelled, length-rows, none_in_rows, in_rows}
 use Rattle.resolved.specs.Limits.{most_places}
-use Rattle.round_rewrite.specs.Limits.{most_rounds}
+use Rattle.round_rewrite.specs.Limits.{most_rounds, round_bits}
+use Rattle.round_rewrite.proofs.Counting.{bits_few}
 
 pub copies_spelled : Spelled copy_name
 copies_spelled = record {
@@ -61,13 +63,49 @@ pub length-numbers : (j d : ℕ) → length (numbers j d) ≡ d
 length-numbers j zero = refl
 length-numbers j (suc d) = ap suc (length-numbers (suc j) d)
 
--- the bits of the round, by name
-abbrev pub bit_names : List Name
-bit_names = named (codes "rh__") ∷ named (codes "rl__") ∷ []
+pub length-bit_names : (count : ℕ) → length (reverse (bit_names count)) ≡ count
+length-bit_names count =
+    length-reverse (bit_names count) ∙ (length-map (numbers 0 count) bit_name ∙ length-numbers 0 count)
 
 -- the globals that stand last
 abbrev pub last_names : List Name
 last_names = named (codes "stop__") ∷ named (codes "bad__") ∷ []
+
+pub length-globals : (last : ℕ) (xs : List Name) → length (globals (names []) last xs) ≡ global_count (length xs) last
+length-globals last xs =
+    let first : List Name = copied (names []) last copy_name xs (numbers 0 (suc last)) in
+    let second : List Name = copied (names []) last save_name xs (numbers 1 last) in
+    let bits : List Name = reverse (bit_names (round_bits last)) in
+    let a : length first ≡ suc last * length xs = length-rows (names []) last copy_name xs 0 (suc last) in
+    let b : length second ≡ last * length xs = length-rows (names []) last save_name xs 1 last in
+    let c : length bits ≡ round_bits last = length-bit_names (round_bits last) in
+    let d : length (first ++ second) ≡ length first + length second = length-append first second in
+    let e : length (first ++ second ++ bits) ≡ length (first ++ second) + length bits = length-append (first ++ second) bits in
+    length-append (first ++ second ++ bits) last_names
+    ∙ (ap (λ z. z + 2) (e ∙ ap₂ (λ x y. x + y) (d ∙ ap₂ (λ x y. x + y) a b) c) ∙ omega arith)
+
+-- Where a bit's name, `stop__` and `bad__` stand among the names behind the globals' own: the bits from the highest on.
+number_bit : (m j i : ℕ) → 2 ≤ m → m ≤ 3 → suc (j + i) ≡ m
+    → number_of (bit_name j).text (reverse (bit_names m) ++ last_names) ≡ i
+number_bit zero j i h h' e = absurd (omega arith)
+number_bit (suc zero) j i h h' e = absurd (omega arith)
+number_bit (suc (suc zero)) zero i h h' e = let z : 1 ≡ i = omega arith in z
+number_bit (suc (suc zero)) (suc zero) i h h' e = let z : 0 ≡ i = omega arith in z
+number_bit (suc (suc zero)) (suc (suc j)) i h h' e = absurd (omega arith)
+number_bit (suc (suc (suc zero))) zero i h h' e = let z : 2 ≡ i = omega arith in z
+number_bit (suc (suc (suc zero))) (suc zero) i h h' e = let z : 1 ≡ i = omega arith in z
+number_bit (suc (suc (suc zero))) (suc (suc zero)) i h h' e = let z : 0 ≡ i = omega arith in z
+number_bit (suc (suc (suc zero))) (suc (suc (suc j))) i h h' e = absurd (omega arith)
+number_bit (suc (suc (suc (suc m)))) j i h h' e = absurd (omega arith)
+
+number_last : (m : ℕ) → 2 ≤ m → m ≤ 3 →
+    (number_of (codes "stop__") (reverse (bit_names m) ++ last_names) ≡ m) ×
+    (number_of (codes "bad__") (reverse (bit_names m) ++ last_names) ≡ m + 1)
+number_last zero h h' = absurd (omega arith)
+number_last (suc zero) h h' = absurd (omega arith)
+number_last (suc (suc zero)) h h' = (refl, refl)
+number_last (suc (suc (suc zero))) h h' = (refl, refl)
+number_last (suc (suc (suc (suc m)))) h h' = absurd (omega arith)
 
 -- the names of a program and of one of its procedures, with how many temporaries that needs, and the last round
 pub record Vocabulary : Type 0 where
@@ -95,6 +133,10 @@ module _ (vocabulary : Vocabulary) where
 
   abbrev B : List Name
   B = copied (names []) last save_name gs (numbers 1 last)
+
+  -- the bits of the round, the highest first
+  abbrev bits : List Name
+  bits = reverse (bit_names (round_bits last))
 
   -- the scope of a rewritten procedure
   abbrev pub wider : List Name → Scope
@@ -137,8 +179,8 @@ module _ (vocabulary : Vocabulary) where
       let inA : is_declared t A ≡ true = ap (λ y. is_declared (copy_name y x).text A) (sym z) ∙ r.0 in
       let atA : number_of t A ≡ k * length gs + number_of x.text gs = ap (λ y. number_of (copy_name y x).text A) (sym z) ∙ r.1 in
       let l1 = number_left t A B inA in
-      let l2 = number_left t (A ++ B) bit_names l1.1 in
-      let l3 = number_left t (A ++ B ++ bit_names) last_names l2.1 in
+      let l2 = number_left t (A ++ B) bits l1.1 in
+      let l3 = number_left t (A ++ B ++ bits) last_names l2.1 in
       as_global ps' (copy_name k x) (number_of t A) (k * length gs + number_of x.text gs) out (l3.0 ∙ (l2.0 ∙ l1.0)) atA
       ∙ ap (copy_at (length gs) k) (sym (ap (λ c. cond c (local (number_of x.text own)) (global (number_of x.text gs))) hidden))
 
@@ -160,8 +202,8 @@ module _ (vocabulary : Vocabulary) where
       none_in_rows (names []) last copy_name gs t 0 (suc last)
       (λ i y l. save_no_copy x.text y.text (suc k) i (omega arith) (omega arith)) in
       let l1 = number_right t A B noA in
-      let l2 = number_left t (A ++ B) bit_names (l1.1 ∙ inB) in
-      let l3 = number_left t (A ++ B ++ bit_names) last_names l2.1 in
+      let l2 = number_left t (A ++ B) bits (l1.1 ∙ inB) in
+      let l3 = number_left t (A ++ B ++ bits) last_names l2.1 in
       as_global ps' (save_name (suc k) x) (length A + number_of t B) (suc last * length gs + (k * length gs + number_of x.text gs)) out
       (l3.0 ∙ (l2.0 ∙ l1.0)) (ap₂ (λ p q. p + q) length-A atB)
       ∙ ap (save_at (length gs) last (suc k))
@@ -186,7 +228,7 @@ module _ (vocabulary : Vocabulary) where
 
   -- a name of the rewriting's own that ends in two underscores
   low_place : (ps' : List Name) (a : List ℕ) (m : ℕ) → ((i : ℕ) → same_text (a ++ 95 ∷ 95 ∷ []) (drawn_name i).text ≡ false)
-      → number_of (a ++ 95 ∷ 95 ∷ []) (bit_names ++ last_names) ≡ m
+      → number_of (a ++ 95 ∷ 95 ∷ []) (bits ++ last_names) ≡ m
       → place_of (wider ps') (named (a ++ 95 ∷ 95 ∷ [])) ≡ global (bits_at (length gs) last + m)
   low_place ps' a m differ at =
       let t : List ℕ = a ++ 95 ∷ 95 ∷ [] in
@@ -198,19 +240,37 @@ module _ (vocabulary : Vocabulary) where
       none_in_rows (names []) last save_name gs t 1 last
       (λ i y l. ap (λ z. same_text z (save_name i y).text) split ∙ low_no_save (a ++ 95 ∷ []) y.text i (omega arith)) in
       let r1 = number_right t A B noA in
-      let r2 = number_right t (A ++ B) (bit_names ++ last_names) (r1.1 ∙ noB) in
+      let r2 = number_right t (A ++ B) (bits ++ last_names) (r1.1 ∙ noB) in
       let lAB : length (A ++ B) ≡ bits_at (length gs) last = length-append A B ∙ ap₂ (λ p q. p + q) length-A length-B in
-      as_global ps' (named t) (length (A ++ B) + number_of t (bit_names ++ last_names)) (bits_at (length gs) last + m) (outside a [] differ)
-      (ap (number_of t) (append_assoc (A ++ B) bit_names last_names) ∙ r2.0) (ap₂ (λ p q. p + q) lAB at)
+      as_global ps' (named t) (length (A ++ B) + number_of t (bits ++ last_names)) (bits_at (length gs) last + m) (outside a [] differ)
+      (ap (number_of t) (append_assoc (A ++ B) bits last_names) ∙ r2.0) (ap₂ (λ p q. p + q) lAB at)
 
-  pub high_place : (ps' : List Name) → place_of (wider ps') (named (codes "rh__")) ≡ global (high_at (length gs) last)
-  high_place ps' = low_place ps' (114 ∷ 104 ∷ []) 0 (λ i. refl) refl
+  bit_place : (ps' : List Name) (j i : ℕ) → suc (j + i) ≡ round_bits last
+      → place_of (wider ps') (bit_name j) ≡ global (bits_at (length gs) last + i)
+  bit_place ps' zero i e =
+      low_place ps' (114 ∷ 108 ∷ []) i (λ k. refl) (number_bit (round_bits last) 0 i (bits_few last).0 (bits_few last).1 e)
+  bit_place ps' (suc zero) i e =
+      low_place ps' (114 ∷ 104 ∷ []) i (λ k. refl) (number_bit (round_bits last) 1 i (bits_few last).0 (bits_few last).1 e)
+  bit_place ps' (suc (suc j)) i e =
+      low_place ps' (114 ∷ 116 ∷ []) i (λ k. refl) (number_bit (round_bits last) (suc (suc j)) i (bits_few last).0 (bits_few last).1 e)
 
-  pub low_bit_place : (ps' : List Name) → place_of (wider ps') (named (codes "rl__")) ≡ global (low_at (length gs) last)
-  low_bit_place ps' = low_place ps' (114 ∷ 108 ∷ []) 1 (λ i. refl) refl
+  places_from : (ps' : List Name) (j m : ℕ) → j + m ≡ round_bits last
+      → map (place_of (wider ps')) (map bit_name (numbers j m)) ≡ bits_from (bits_at (length gs) last) m
+  places_from ps' j zero e = refl
+  places_from ps' j (suc m) e =
+      ap₂ (λ x xs. x ∷ xs) (bit_place ps' j m (omega arith)) (places_from ps' (suc j) m (omega arith))
+
+  -- the bits stand at their places
+  pub bits_placed : (ps' : List Name)
+      → map (place_of (wider ps')) (bit_names (round_bits last)) ≡ bits_from (bits_at (length gs) last) (round_bits last)
+  bits_placed ps' = places_from ps' 0 (round_bits last) (omega arith)
 
   pub stop_place : (ps' : List Name) → place_of (wider ps') (named (codes "stop__")) ≡ global (stop_at (length gs) last)
-  stop_place ps' = low_place ps' (115 ∷ 116 ∷ 111 ∷ 112 ∷ []) 2 (λ i. refl) refl
+  stop_place ps' =
+      low_place ps' (115 ∷ 116 ∷ 111 ∷ 112 ∷ []) (round_bits last) (λ i. refl)
+      (number_last (round_bits last) (bits_few last).0 (bits_few last).1).0
 
   pub bad_place : (ps' : List Name) → place_of (wider ps') (named (codes "bad__")) ≡ global (bad_at (length gs) last)
-  bad_place ps' = low_place ps' (98 ∷ 97 ∷ 100 ∷ []) 3 (λ i. refl) refl
+  bad_place ps' =
+      low_place ps' (98 ∷ 97 ∷ 100 ∷ []) (round_bits last + 1) (λ i. refl)
+      (number_last (round_bits last) (bits_few last).0 (bits_few last).1).1

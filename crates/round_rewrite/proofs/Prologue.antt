@@ -1,30 +1,20 @@
 -- What the prologue, the test of stop, and frames that leave do, both ways.
-use Rattle.std.proofs.Common.{◌≡◌, ℕ, zero, suc, ◌<◌, ◌≤◌, Bool, true, false, not, cond, List, [], ◌∷◌, refl, sym}
+use Rattle.std.proofs.Common.{◌≡◌, ℕ, suc, ◌<◌, ◌≤◌, Bool, true, false, not, cond, List, [], ◌∷◌, reverse, refl}
+use Rattle.std.proofs.Common.{sym}
 use Rattle.std.proofs.Common.{◌∙◌, ap, subst, ap₂, arith, inl, inr}
 use Rattle.std.proofs.lemmas.Bool.{cases_eq}
-use Rattle.language.specs.Tree.{const, var, negation, two, xor, RightSide, any, value, skip, assign, leave, done, one, choose}
+use Rattle.language.specs.Tree.{const, RightSide, any, value, skip, assign, leave, done, one, choose}
 use Rattle.language.specs.Value.{Place, global, bit, with_bit, value_of, IsValue, AreValues, written_globals, written_locals}
 use Rattle.language.specs.Rest.{Code, join}
 use Rattle.language.specs.Step.{Frame, frame, State, state}
 use Rattle.round_rewrite.specs.Table.{plain, in_round, stop_test, rise, prologue}
-use Rattle.round_rewrite.specs.Places.{places, high_at, low_at, stop_at}
-use Rattle.round_rewrite.proofs.Laid.{high, low, bits_of, lay, Shape, Moment, bits_bit, bits_with}
-use Rattle.round_rewrite.proofs.Translate.{same, same_refl, same_false, at_is}
+use Rattle.round_rewrite.specs.Places.{places, bits_at, bits_from, stop_at}
+use Rattle.round_rewrite.proofs.Counting.{low_first, outside_bits, frame_kept, raise_goes, raise_only, same, same_refl, same_false}
+use Rattle.round_rewrite.proofs.Laid.{bits_of, lay, Shape, Moment, has_bits, stop_bit, stop_with, bits_written}
+use Rattle.round_rewrite.proofs.Translate.{at_is}
 use Rattle.round_rewrite.proofs.Plain.{World, PlainAfter}
 use Rattle.round_rewrite.proofs.Leading.{Leads, Never, unstep, Later, later, later_now}
-use Rattle.round_rewrite.specs.Limits.{most_rounds}
-
-high_next : (q : ℕ) → q < 3 → high (suc q) ≡ cond (high q) (not (low q)) (low q)
-high_next zero h = refl
-high_next (suc zero) h = refl
-high_next (suc (suc zero)) h = refl
-high_next (suc (suc (suc q))) h = absurd (omega arith)
-
-low_next : (q : ℕ) → q < 3 → low (suc q) ≡ not (low q)
-low_next zero h = refl
-low_next (suc zero) h = refl
-low_next (suc (suc zero)) h = refl
-low_next (suc (suc (suc q))) h = absurd (omega arith)
+use Rattle.round_rewrite.specs.Limits.{most_rounds, round_bits}
 
 pub not_true : (x : Bool) → true ≡ not x → x ≡ false
 not_true true e = cc
@@ -45,7 +35,7 @@ module _ (w : World) {n last : ℕ} (small : last < most_rounds) (site : Site n 
   open site use {C, S, shape, c, own, L, fs}
 
   abbrev pub now : ℕ → Bool → Bool → List Bool
-  now q s b = lay C S (bits_of q s b)
+  now q s b = lay C S (bits_of last q s b)
 
   abbrev in_round_of : (q : ℕ) → q ≤ last → Bool → Moment n last
   in_round_of q within b = record { C = C; S = S; q = q; b = b; shape = shape; within = within }
@@ -54,7 +44,7 @@ module _ (w : World) {n last : ℕ} (small : last < most_rounds) (site : Site n 
   on X t = state X (frame c L t ∷ fs)
 
   stop_is : (q : ℕ) (s b : Bool) → bit (now q s b) (stop_at n last) ≡ s
-  stop_is q s b = bits_bit n last C S (bits_of q s b) 2 shape
+  stop_is q s b = stop_bit n last C S shape q s b
 
   pub stop_leads : (q : ℕ) (s b : Bool) (t : Code) → Leads w (on (now q s b) (cond s done t)) Q
       → Leads w (on (now q s b) (stop_test (places n last own) last t)) Q
@@ -83,22 +73,21 @@ module _ (w : World) {n last : ℕ} (small : last < most_rounds) (site : Site n 
       → Leads w (on (now q false b) (prologue (places n last own) last plain t)) Q
   prologue_goes q b t (m, h) = (suc (suc (suc (suc (suc m)))), (false, tt, (false, tt, (false, sym (stop_is q false b), h))))
 
-  rise_writes : (q : ℕ) (b x y : Bool) → x ≡ high (suc q) → y ≡ low (suc q) →
-      with_bit (with_bit (now q false b) (high_at n last) x) (low_at n last) y ≡ now (suc q) false b
-  rise_writes q b x y ex ey =
-      ap (λ z. with_bit z (low_at n last) y) (bits_with n last C S (bits_of q false b) 0 x shape)
-      ∙ (bits_with n last C S (x ∷ low q ∷ false ∷ b ∷ []) 1 y shape
-      ∙ ap₂ (λ u v. lay C S (u ∷ v ∷ false ∷ b ∷ [])) ex ey)
+  -- what the prologue writes when it rises, and the values that it writes in this round
+  abbrev rise_targets : List Place
+  rise_targets = reverse (bits_from (bits_at n last) (round_bits last))
 
-  high_is : (q : ℕ) (b : Bool) → q < 3 →
-      cond (bit (now q false b) (high_at n last)) (not (bit (now q false b) (low_at n last)))
-      (bit (now q false b) (low_at n last)) ≡ high (suc q)
-  high_is q b h =
-      ap₂ (λ x y. cond x (not y) y) (bits_bit n last C S (bits_of q false b) 0 shape) (bits_bit n last C S (bits_of q false b) 1 shape)
-      ∙ sym (high_next q h)
+  abbrev risen : ℕ → List Bool
+  risen q = reverse (low_first (round_bits last) (suc q))
 
-  low_is : (q : ℕ) (b : Bool) → q < 3 → not (bit (now q false b) (low_at n last)) ≡ low (suc q)
-  low_is q b h = ap not (bits_bit n last C S (bits_of q false b) 1 shape) ∙ sym (low_next q h)
+  -- the state behind that write
+  rise_writes : (m q : ℕ) (b : Bool) (t : Code) →
+      PlainAfter w m
+      (state (written_globals rise_targets (risen q) (now q false b)) (frame c (written_locals rise_targets (risen q) L) t ∷ fs)) Q
+      ≡ PlainAfter w m (on (now (suc q) false b) t) Q
+  rise_writes m q b t =
+      ap₂ (λ X l. PlainAfter w m (state X (frame c l t ∷ fs)) Q) (bits_written n last C S shape (suc q) q false b)
+      (frame_kept rise_targets (risen q) L (outside_bits (bits_at n last) (round_bits last)))
 
   pub prologue_rises : (q : ℕ) (b : Bool) (t : Code) → q < last
       → Leads w (on (now (suc q) false b) (prologue (places n last own) last plain t)) Q
@@ -114,9 +103,9 @@ module _ (w : World) {n last : ℕ} (small : last < most_rounds) (site : Site n 
           (
             free,
             (
-              high (suc q) ∷ low (suc q) ∷ [],
-              (sym (high_is q b (omega arith)), (sym (low_is q b (omega arith)), tt)),
-              subst (λ z. PlainAfter w m (on z (prologue (places n last own) last plain t)) Q) (sym (rise_writes q b _ _ refl refl)) h,
+              risen q,
+              raise_goes X L (bits_at n last) (round_bits last) q (false ∷ b ∷ []) (has_bits n last C S shape q false b),
+              subst (λ T. T) (sym (rise_writes m q b (prologue (places n last own) last plain t))) h,
             ),
           ),
         ),
@@ -137,7 +126,7 @@ module _ (w : World) {n last : ℕ} (small : last < most_rounds) (site : Site n 
               true ∷ [],
               (refl, tt),
               subst (λ z. PlainAfter w r.0 (on z (stop_test (places n last own) last t)) Q)
-                  (sym (bits_with n last C S (bits_of q false b) 2 true shape)) r.1,
+                  (sym (stop_with n last C S shape q false b true)) r.1,
             ),
           ),
         ),
@@ -148,14 +137,6 @@ module _ (w : World) {n last : ℕ} (small : last < most_rounds) (site : Site n 
     rose : q < last → Later w N (on (now (suc q) false b) (prologue (places n last own) last plain t)) Q → Exits N q b t
     went : Later w N (on (now q false b) t) Q → Exits N q b t
     stopped : Later w N (on (now q true b) done) Q → Exits N q b t
-
-  raised_back : (N q : ℕ) (b : Bool) (t : Code) (X : List Bool) (r0 r1 : RightSide Place) (x0 x1 : Place) (vs : List Bool)
-      → AreValues X L (r0 ∷ r1 ∷ []) vs
-      → (x : Bool) × (y : Bool) × (vs ≡ x ∷ y ∷ []) × IsValue X L r0 x × IsValue X L r1 y
-  raised_back N q b t X r0 r1 x0 x1 [] a = absurd a
-  raised_back N q b t X r0 r1 x0 x1 (x ∷ []) a = absurd a.1
-  raised_back N q b t X r0 r1 x0 x1 (x ∷ y ∷ []) a = (x, y, refl, a.0, a.1.0)
-  raised_back N q b t X r0 r1 x0 x1 (x ∷ y ∷ z ∷ vs) a = absurd a.1.1
 
   one_back : (X : List Bool) (r0 : RightSide Place) (vs : List Bool) → AreValues X L (r0 ∷ []) vs
       → (x : Bool) × (vs ≡ x ∷ []) × IsValue X L r0 x
@@ -182,7 +163,7 @@ module _ (w : World) {n last : ℕ} (small : last < most_rounds) (site : Site n 
       (frame c (written_locals (global (stop_at n last) ∷ []) vs L) (stop_test (places n last own) last t) ∷ fs)) Q)
       ex k.2 in
       let write : with_bit (now q false b) (stop_at n last) x ≡ now q true b =
-      ap (with_bit (now q false b) (stop_at n last)) ix ∙ bits_with n last C S (bits_of q false b) 2 true shape in
+      ap (with_bit (now q false b) (stop_at n last)) ix ∙ stop_with n last C S shape q false b true in
       stopped
       (later w Q (on (now q true b) done) N m e
       (stop_back never m q true b t (subst (λ z. PlainAfter w m (on z (stop_test (places n last own) last t)) Q) write k')))
@@ -205,9 +186,8 @@ module _ (w : World) {n last : ℕ} (small : last < most_rounds) (site : Site n 
       let X : List Bool = now q false b in
       let (m, e, k) = unstep w Q N _ _ fs never h in
       let (m1, e1, k1) = unstep w Q m _ _ fs never k.1 in
-      let (x, y, ex, ix, iy) = raised_back N q b t X
-      (value (two xor (var (global (high_at n last))) (var (global (low_at n last)))))
-      (value (negation (var (global (low_at n last))))) (global 0) (global 0) k1.0 k1.1 in
+      let risen_is : k1.0 ≡ risen q =
+      raise_only X L (bits_at n last) (round_bits last) q (false ∷ b ∷ []) (has_bits n last C S shape q false b) k1.0 k1.1 in
       let free : same last q ≡ false =
       sym (at_is small (in_round_of q within b) own L last (omega arith)) ∙
       not_true (value_of X L (in_round (places n last own) last last)) k.0 in
@@ -215,14 +195,11 @@ module _ (w : World) {n last : ℕ} (small : last < most_rounds) (site : Site n 
         | inl eq ↦ absurd (let bad : true ≡ false = sym (ap (same last) eq ∙ same_refl last) ∙ free in cc)
         | inr ne ↦ omega arith
       ] in
-      let k' : PlainAfter w m1 (state (with_bit (with_bit X (high_at n last) x) (low_at n last) y)
-      (frame c L (prologue (places n last own) last plain t) ∷ fs)) Q =
-      subst (λ vs. PlainAfter w m1 (state (written_globals (global (high_at n last) ∷ global (low_at n last) ∷ []) vs X)
-      (frame c (written_locals (global (high_at n last) ∷ global (low_at n last) ∷ []) vs L)
-      (prologue (places n last own) last plain t) ∷ fs)) Q) ex k1.2 in
-      let write : with_bit (with_bit X (high_at n last) x) (low_at n last) y ≡ now (suc q) false b =
-      rise_writes q b x y (ix ∙ high_is q b (omega arith)) (iy ∙ low_is q b (omega arith)) in
-      rose lt (m1, omega arith, subst (λ z. PlainAfter w m1 (on z (prologue (places n last own) last plain t)) Q) write k')
+      let k' : PlainAfter w m1 (state (written_globals rise_targets (risen q) X)
+      (frame c (written_locals rise_targets (risen q) L) (prologue (places n last own) last plain t) ∷ fs)) Q =
+      subst (λ vs. PlainAfter w m1 (state (written_globals rise_targets vs X)
+      (frame c (written_locals rise_targets vs L) (prologue (places n last own) last plain t) ∷ fs)) Q) risen_is k1.2 in
+      rose lt (m1, omega arith, subst (λ T. T) (rise_writes m1 q b (prologue (places n last own) last plain t)) k')
   exits_loop never N q b false t within h =
       let (m, e, k) = unstep w Q N _ _ fs never h in
       shorter N m q b t e (exits_stop never m q b k.0 t (branches m q b k.0 t k.2))

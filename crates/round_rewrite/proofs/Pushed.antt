@@ -4,7 +4,7 @@ use Rattle.std.proofs.Common.{arith, append_assoc, append-nil, drop, get_or, len
 use Rattle.std.proofs.lemmas.List.{map-append, drop_more, drop_all}
 use Rattle.language.specs.Sequential.{numbers}
 
-numbers_last : (start k : ℕ) → numbers start (suc k) ≡ numbers start k ++ (start + k) ∷ []
+pub numbers_last : (start k : ℕ) → numbers start (suc k) ≡ numbers start k ++ (start + k) ∷ []
 numbers_last start zero = ap (λ n. n ∷ []) (let e : start ≡ start + 0 = omega arith in e)
 numbers_last start (suc k) =
     ap (λ ns. start ∷ ns) (numbers_last (suc start) k

@@ -1,9 +1,9 @@
 -- The rewritten tree is one of the grammar where the source's tree is.
 use Rattle.std.proofs.Common.{◌≡◌, ℕ, zero, suc, ◌+◌, ◌<◌, ◌≤◌, true, false, cond, not, List, [], ◌∷◌, ◌++◌}
-use Rattle.std.proofs.Common.{length, map, codes, Some, refl, sym, ◌∙◌, subst, arith}
+use Rattle.std.proofs.Common.{length, map, reverse, codes, Some, refl, sym, ◌∙◌, subst, arith, length-append}
 use Rattle.std.proofs.lemmas.List.{length-map}
 use Rattle.std.specs.List.{AllByRecursion}
-use Rattle.language.specs.Tree.{Name, Expression, const, var, negation, two, xor, RightSide, any, value, Simple, skip, assign, assert}
+use Rattle.language.specs.Tree.{Name, Expression, const, var, negation, two, RightSide, any, value, Simple, skip, assign, assert}
 use Rattle.language.specs.Tree.{assume, goto, leave, call, leave_with, call_for, Mark, Block, done, one, choose, loop, Procedure}
 use Rattle.language.specs.Tree.{ThreadLine, Tree}
 use Rattle.language.specs.Rest.{join}
@@ -16,18 +16,22 @@ use Rattle.resolved.specs.Statements.{variables_of, variables_of_side, variables
 use Rattle.resolved.proofs.Each.{each_left, each_right}
 use Rattle.round_rewrite.specs.Table.{numbers, plain, temporaries, in_round, expression, side, rounds, targets, sides, draws, drawing}
 use Rattle.round_rewrite.specs.Table.{stop_test, rise, prologue, statement, rewritten, guess, guesses, starts, check, checks, copied}
-use Rattle.round_rewrite.specs.Table.{globals, takes, received}
-use Rattle.round_rewrite.specs.Names.{named, copy_name, save_name, drawn_name, names, rewritten_procedure, main_procedure, rewritten_tree}
+use Rattle.round_rewrite.specs.Table.{globals, takes, received, raised, each, reset_targets}
+use Rattle.round_rewrite.specs.Names.{named, bit_name, bit_names, copy_name, save_name, drawn_name, names, rewritten_procedure}
+use Rattle.round_rewrite.specs.Names.{main_procedure, rewritten_tree}
 use Rattle.round_rewrite.specs.Narrow.{IsNarrow}
 use Rattle.round_rewrite.specs.Places.{global_count}
 use Rattle.round_rewrite.specs.Writing.{procedure_needs, AreFew}
+use Rattle.round_rewrite.proofs.Counting.{bits_few}
+use Rattle.round_rewrite.proofs.Placing.{length-bit_names}
 use Rattle.round_rewrite.proofs.Resolved.{by_test, rest_room}
 use Rattle.round_rewrite.proofs.Widths.{narrow_procedures, few_needs}
-use Rattle.round_rewrite.proofs.Uses.{each_both, any_uses, written_each, drawn_each, sides_even, Held, at_uses, arguments_use, side_uses}
+use Rattle.round_rewrite.proofs.Uses.{each_both, any_uses, written_each, numbered_each, each_reversed, rise_uses, rise_even, zeros_use}
+use Rattle.round_rewrite.proofs.Uses.{sides_even, Held, at_uses, arguments_use, side_uses}
 use Rattle.round_rewrite.proofs.Uses.{targets_held, sides_use, expression_uses, receiver_held, landing_has}
-use Rattle.round_rewrite.proofs.Ids.{copy_id, save_id, drawn_id, high_id, low_id, stop_id, bad_id, main_id}
+use Rattle.round_rewrite.proofs.Ids.{copy_id, save_id, drawn_id, bit_id, stop_id, bad_id, main_id}
 use Rattle.resolved.specs.Limits.{most_places}
-use Rattle.round_rewrite.specs.Limits.{most_rounds}
+use Rattle.round_rewrite.specs.Limits.{most_rounds, round_bits}
 
 -- names, expressions and right sides of the grammar are those whose variables are ids
 ids_each : (xs : List Name) → AreIds xs → Each IsId xs
@@ -90,6 +94,10 @@ arguments_use_ids = list_uses_ids ExpressionInGrammar variables_of variables_of_
 arguments_ids_used : (es : List (Expression Name)) → Each IsId (variables_of_all es) → AllByRecursion ExpressionInGrammar es
 arguments_ids_used = list_ids_used ExpressionInGrammar variables_of variables_of_all (λ e es. refl) ids_used
 
+-- so many bits of the round
+bit_ids : (count : ℕ) → Each IsId (bit_names count)
+bit_ids count = numbered_each IsId bit_name count (λ j lt. bit_id j) 0 count (omega arith)
+
 -- an assignment of the grammar, by its variables
 assign_in_grammar : (xs : List Name) (rs : List (RightSide Name)) → 0 < length xs → length xs ≡ length rs → Each IsId xs
     → Each IsId (variables_of_sides rs) → SimpleInGrammar (assign xs rs)
@@ -111,8 +119,7 @@ some_joined (loop m r x t) b h = tt
 module _ (own : List Name) (last d : ℕ) (small : last < most_rounds) (few : d ≤ most_places) where
   held : Held own last d IsId IsId
   held = record {
-    high = high_id;
-    low = low_id;
+    bits = bit_ids (round_bits last);
     stop = stop_id;
     bad = bad_id;
     copied = λ x h hidden k le. copy_id k x (omega arith) h;
@@ -135,10 +142,9 @@ module _ (own : List Name) (last d : ℕ) (small : last < most_rounds) (few : d 
     ids_used (in_round (names own) last last) (at_uses own last d IsId IsId held last),
     (
       tt,
-      assign_in_grammar (named (codes "rh__") ∷ named (codes "rl__") ∷ [])
-          (value (two xor (var (named (codes "rh__"))) (var (named (codes "rl__")))) ∷ value (negation (var (named (codes "rl__"))))
-          ∷ [])
-          (omega arith) refl (high_id, (low_id, tt)) (high_id, (low_id, (low_id, tt))),
+      assign_in_grammar (reverse (bit_names (round_bits last))) (reverse (raised (bit_names (round_bits last))))
+          (omega (arith, bits_few last, length-bit_names (round_bits last))) (rise_even (bit_names (round_bits last)))
+          (each_reversed IsId (bit_names (round_bits last)) held.bits) (rise_uses IsId (bit_names (round_bits last)) held.bits),
       tt,
     ),
   )
@@ -168,7 +174,7 @@ module _ (own : List Name) (last d : ℕ) (small : last < most_rounds) (few : d 
     tt,
     assign_in_grammar (map drawn_name (numbers 0 (suc n))) (map (λ x. any) (numbers 0 (suc n))) (omega arith)
         (length-map (numbers 0 (suc n)) drawn_name ∙ sym (length-map {B = RightSide Name} (numbers 0 (suc n)) (λ x. any)))
-        (drawn_each IsId d held.drawn 0 (suc n) (omega arith)) (any_uses IsId (numbers 0 (suc n))),
+        (numbered_each IsId drawn_name d held.drawn 0 (suc n) (omega arith)) (any_uses IsId (numbers 0 (suc n))),
     h,
   )
 
@@ -289,7 +295,7 @@ procedures_in_grammar last small (p ∷ ps) few h =
         locals =
             each_ids (p.locals ++ map drawn_name (numbers 0 d))
             (each_both IsId p.locals (map drawn_name (numbers 0 d)) (ids_each p.locals h.0.locals)
-            (drawn_each IsId d (λ j lt. drawn_id j (omega (arith, few.0))) 0 d (omega arith)));
+            (numbered_each IsId drawn_name d (λ j lt. drawn_id j (omega (arith, few.0))) 0 d (omega arith)));
         some = some_rewritten own last d small few.0 p.body h.0.some;
         body = block_in_grammar own last d small few.0 p.body h.0.body (omega arith);
       },
@@ -299,7 +305,8 @@ procedures_in_grammar last small (p ∷ ps) few h =
 -- the globals, and the first procedure
 module _ (last : ℕ) (small : last < most_rounds) where
   rows_ids : (write : ℕ → Name → Name) → ((k : ℕ) (x : Name) → k < most_rounds → IsId x → IsId (write k x)) →
-      (xs : List Name) → Each IsId xs → (j m : ℕ) → j + m ≤ 4 → Each IsId (copied (names []) last write xs (numbers j m))
+      (xs : List Name) → Each IsId xs → (j m : ℕ) → j + m ≤ most_rounds
+      → Each IsId (copied (names []) last write xs (numbers j m))
   rows_ids write f xs h j zero le = tt
   rows_ids write f xs h j (suc m) le =
       each_both IsId (map (write j) xs) (copied (names []) last write xs (numbers (suc j) m))
@@ -309,12 +316,13 @@ module _ (last : ℕ) (small : last < most_rounds) where
   globals_ids xs h =
       let A : List Name = copied (names []) last copy_name xs (numbers 0 (suc last)) in
       let B : List Name = copied (names []) last save_name xs (numbers 1 last) in
-      let bits : List Name = named (codes "rh__") ∷ named (codes "rl__") ∷ [] in
+      let bits : List Name = reverse (bit_names (round_bits last)) in
       let lasts : List Name = named (codes "stop__") ∷ named (codes "bad__") ∷ [] in
       each_both IsId (A ++ B ++ bits) lasts
       (each_both IsId (A ++ B) bits
       (each_both IsId A B (rows_ids copy_name copy_id xs h 0 (suc last) (omega arith))
-      (rows_ids save_name save_id xs h 1 last (omega arith))) (high_id, (low_id, tt)))
+      (rows_ids save_name save_id xs h 1 last (omega arith)))
+      (each_reversed IsId (bit_names (round_bits last)) (bit_ids (round_bits last))))
       (stop_id, (bad_id, tt))
 
   reads_ids : (k : ℕ) (xs : List Name) → k < most_rounds → Each IsId xs →
@@ -341,7 +349,8 @@ module _ (last : ℕ) (small : last < most_rounds) where
         ),
       )
 
-  guesses_in_grammar : (xs : List Name) (k m : ℕ) (b : Block Name Name Name) → k + m ≤ 4 → Each IsId xs → BlockInGrammar b
+  guesses_in_grammar : (xs : List Name) (k m : ℕ) (b : Block Name Name Name) → k + m ≤ most_rounds → Each IsId xs
+      → BlockInGrammar b
       → BlockInGrammar (guesses (names []) last xs (numbers k m) b)
   guesses_in_grammar xs k zero b le h g = g
   guesses_in_grammar xs k (suc m) b le h g =
@@ -353,9 +362,12 @@ module _ (last : ℕ) (small : last < most_rounds) where
   starts_in_grammar [] b s g = g
   starts_in_grammar (line ∷ lines) b s g = (
     tt,
-    assign_in_grammar (named (codes "rh__") ∷ named (codes "rl__") ∷ named (codes "stop__") ∷ [])
-        (value (const false) ∷ value (const false) ∷ value (const false) ∷ []) (omega arith) refl
-        (high_id, (low_id, (stop_id, tt))) tt,
+    assign_in_grammar (reset_targets (names []) last) (each (value (const false)) (reset_targets (names []) last))
+        (let sum = length-append (reverse (bit_names (round_bits last))) (named (codes "stop__") ∷ []) in omega (arith, sum))
+        (sym (length-map {B = RightSide Name} (reset_targets (names []) last) (λ x. value (const false))))
+        (each_both IsId (reverse (bit_names (round_bits last))) (named (codes "stop__") ∷ [])
+        (each_reversed IsId (bit_names (round_bits last)) (bit_ids (round_bits last))) (stop_id, tt))
+        (zeros_use IsId (reset_targets (names []) last)),
     (tt, (s.0, tt), starts_in_grammar lines b s.1 g),
   )
 
@@ -364,7 +376,7 @@ module _ (last : ℕ) (small : last < most_rounds) where
   check_in_grammar [] k b lt h g = g
   check_in_grammar (x ∷ xs) k b lt h g = (tt, (save_id (suc k) x lt h.0, copy_id k x (omega arith) h.0), check_in_grammar xs k b lt h.1 g)
 
-  checks_in_grammar : (xs : List Name) (k m : ℕ) (b : Block Name Name Name) → k + m < 4 → Each IsId xs → BlockInGrammar b
+  checks_in_grammar : (xs : List Name) (k m : ℕ) (b : Block Name Name Name) → k + m < most_rounds → Each IsId xs → BlockInGrammar b
       → BlockInGrammar (checks (names []) last xs (numbers k m) b)
   checks_in_grammar xs k zero b le h g = g
   checks_in_grammar xs k (suc m) b le h g =

@@ -1,6 +1,7 @@
 -- The rewritten block by names, resolved, is the rewritten block by places of the resolved block.
 use Rattle.std.proofs.Common.{◌≡◌, ℕ, zero, suc, ◌+◌, ◌/◌, ◌%◌, ◌<◌, ◌≤◌, max, Bool, true, false, cond, not}
-use Rattle.std.proofs.Common.{List, [], ◌∷◌, ◌++◌, Some, length, map, codes, refl, sym, ◌∙◌, ap, subst, ap₂, arith}
+use Rattle.std.proofs.Common.{List, [], ◌∷◌, ◌++◌, Some, length, map, reverse, codes, refl, sym, ◌∙◌, ap, subst, ap₂}
+use Rattle.std.proofs.Common.{arith}
 use Rattle.std.proofs.lemmas.List.{map-append}
 use Rattle.language.specs.Tree.{Name, Expression, const, var, negation, two, or, and, xor, RightSide, any, value, Simple, skip, assign}
 use Rattle.language.specs.Tree.{assert, assume, goto, leave, call, leave_with, call_for, Mark, Block, done, one, choose, loop, Tree}
@@ -8,18 +9,17 @@ use Rattle.language.specs.Value.{Place, global, local}
 use Rattle.language.specs.Rest.{Label, join}
 use Rattle.language.specs.Resolve.{number_of, is_declared, Scope, place_of, resolve_expression, resolve_side, resolve_simple, resolve_mark}
 use Rattle.language.specs.Resolve.{resolve_block}
-use Rattle.round_rewrite.specs.Table.{Naming, numbers, plain, literal, in_round, joined, read, expression, side, written, rounds, targets}
+use Rattle.round_rewrite.specs.Table.{Naming, numbers, plain, literal, has_value, added, raised, each, reset_targets, in_round, joined}
+use Rattle.round_rewrite.specs.Table.{read, expression, side, written, rounds, targets}
 use Rattle.round_rewrite.specs.Table.{sides, draws, takes, temporaries, drawing, stop_test, prologue, received, receiver, statement}
 use Rattle.round_rewrite.specs.Table.{rewritten, draws_of}
-use Rattle.round_rewrite.specs.Places.{places, is_global, copy_at, high_at, low_at, stop_at, bad_at}
+use Rattle.round_rewrite.specs.Places.{places, is_global, copy_at, stop_at, bad_at}
 use Rattle.round_rewrite.specs.Names.{named, copy_name, drawn_name, names}
 use Rattle.scopes.specs.Rewritable.{Declared, AllDeclared, ExpressionDeclared, ExpressionsDeclared, SideDeclared, SidesDeclared}
-use Rattle.scopes.specs.Rewritable.{SimpleDeclared, BlockDeclared, AreFree}
-use Rattle.round_rewrite.proofs.Placing.{Vocabulary, scope, wider, copy_place, kept_place, drawn_place, high_place, low_bit_place}
-use Rattle.round_rewrite.proofs.Placing.{stop_place, bad_place}
+use Rattle.scopes.specs.Rewritable.{SimpleDeclared, BlockDeclared}
+use Rattle.round_rewrite.proofs.Counting.{map-reversed}
+use Rattle.round_rewrite.proofs.Placing.{Vocabulary, scope, wider, copy_place, kept_place, drawn_place, bits_placed, stop_place, bad_place}
 use Rattle.language.specs.Parts as parts
-use Rattle.resolved.specs.Limits.{most_places}
-use Rattle.round_rewrite.specs.Limits.{most_rounds}
 
 -- a test made once
 pub by_test : {A : Type 0} (c : Bool) → (c ≡ true → A) → (c ≡ false → A) → A
@@ -42,6 +42,26 @@ literal_resolved : (s : Scope) (m : ℕ) (x : Name) → resolve_expression s (li
 literal_resolved s zero x = refl
 literal_resolved s (suc m) x = refl
 
+value_resolved : (s : Scope) (k : ℕ) (xs : List Name) → resolve_expression s (has_value k xs) ≡ has_value k (map (place_of s) xs)
+value_resolved s k [] = refl
+value_resolved s k (x ∷ []) = literal_resolved s (k % 2) x
+value_resolved s k (x ∷ y ∷ xs) = λ i. two and (value_resolved s (k / 2) (y ∷ xs) i) (literal_resolved s (k % 2) x i)
+
+added_resolved : (s : Scope) (carry : Expression Name) (xs : List Name)
+    → map (resolve_side s) (added carry xs) ≡ added (resolve_expression s carry) (map (place_of s) xs)
+added_resolved s carry [] = refl
+added_resolved s carry (x ∷ xs) =
+    ap (λ rs. value (two xor (var (place_of s x)) (resolve_expression s carry)) ∷ rs) (added_resolved s (two and (var x) carry) xs)
+
+raised_resolved : (s : Scope) (xs : List Name) → map (resolve_side s) (raised xs) ≡ raised (map (place_of s) xs)
+raised_resolved s [] = refl
+raised_resolved s (x ∷ xs) = ap (λ rs. value (negation (var (place_of s x))) ∷ rs) (added_resolved s (var x) xs)
+
+pub zeros_resolved : (s : Scope) (xs : List Name)
+    → map (resolve_side s) (each (value (const false)) xs) ≡ each (value (const false)) (map (place_of s) xs)
+zeros_resolved s [] = refl
+zeros_resolved s (x ∷ xs) = ap (λ rs. value (const false) ∷ rs) (zeros_resolved s xs)
+
 module _ (t : Tree) (vocabulary : Vocabulary) (ps' : List Name)
     (called : (q : Name) → is_declared q.text vocabulary.ps ≡ true
     → number_of q.text ps' ≡ suc (number_of q.text vocabulary.ps)) where
@@ -59,13 +79,14 @@ module _ (t : Tree) (vocabulary : Vocabulary) (ps' : List Name)
   abbrev pub P : Naming Place Place ℕ ℕ
   P = places (length gs) last (length own)
 
-  pub lo : place_of s' (named (codes "rl__")) ≡ global (low_at (length gs) last)
-  lo = low_bit_place vocabulary ps'
+  bits : map (place_of s') (N.bits last) ≡ P.bits last
+  bits = bits_placed vocabulary ps'
 
-  pub hi : place_of s' (named (codes "rh__")) ≡ global (high_at (length gs) last)
-  hi = high_place vocabulary ps'
+  -- the bits, the highest first
+  bits_down : map (place_of s') (reverse (N.bits last)) ≡ reverse (P.bits last)
+  bits_down = map-reversed (place_of s') (N.bits last) ∙ ap reverse bits
 
-  pub st : place_of s' (named (codes "stop__")) ≡ global (stop_at (length gs) last)
+  st : place_of s' (named (codes "stop__")) ≡ global (stop_at (length gs) last)
   st = stop_place vocabulary ps'
 
   bd : place_of s' (named (codes "bad__")) ≡ global (bad_at (length gs) last)
@@ -83,9 +104,16 @@ module _ (t : Tree) (vocabulary : Vocabulary) (ps' : List Name)
   copied_place x h hidden k le = copy_place vocabulary ps' x k le hidden (h hidden)
 
   pub at_resolved : (k : ℕ) → resolve_expression s' (in_round N last k) ≡ in_round P last k
-  at_resolved k =
-      λ i. two and ((literal_resolved s' (k / 2 % 2) (named (codes "rh__")) ∙ ap (literal (k / 2 % 2)) hi) i)
-      ((literal_resolved s' (k % 2) (named (codes "rl__")) ∙ ap (literal (k % 2)) lo) i)
+  at_resolved k = value_resolved s' k (N.bits last) ∙ ap (has_value k) bits
+
+  -- what the prologue writes when it rises
+  rise_resolved : map (resolve_side s') (reverse (raised (N.bits last))) ≡ reverse (raised (P.bits last))
+  rise_resolved = map-reversed (resolve_side s') (raised (N.bits last)) ∙ ap reverse (raised_resolved s' (N.bits last) ∙ ap raised bits)
+
+  -- what is set to 0 before a thread starts
+  pub reset_resolved : map (place_of s') (reset_targets N last) ≡ reset_targets P last
+  reset_resolved =
+      map-append (place_of s') (reverse (N.bits last)) (named (codes "stop__") ∷ []) ∙ (λ i. bits_down i ++ st i ∷ [])
 
   joined_resolved : (x : Name) → Declared s x → is_declared x.text own ≡ false → (k : ℕ) → k ≤ last
       → resolve_expression s' (joined N last k x) ≡ joined P last k (place_of s x)
@@ -266,7 +294,7 @@ module _ (t : Tree) (vocabulary : Vocabulary) (ps' : List Name)
   prologue_resolved m k =
       λ i. loop (resolve_mark m) any
       (one plain (assume (value (negation (at_resolved last i))))
-      (one plain (assign (hi i ∷ lo i ∷ []) (value (two xor (var (hi i)) (var (lo i))) ∷ value (negation (var (lo i))) ∷ [])) done))
+      (one plain (assign (bits_down i) (rise_resolved i)) done))
       (choose plain any (one plain (assign (st i ∷ []) (value (const true) ∷ [])) done) (one plain skip done)
       (choose plain (value (var (st i))) (one plain leave done) (one plain skip done) (resolve_block s' k)))
 

@@ -65,7 +65,11 @@ digit_is zero h = refl
 digit_is (suc zero) h = refl
 digit_is (suc (suc zero)) h = refl
 digit_is (suc (suc (suc zero))) h = refl
-digit_is (suc (suc (suc (suc k)))) h = absurd (omega arith)
+digit_is (suc (suc (suc (suc zero)))) h = refl
+digit_is (suc (suc (suc (suc (suc zero))))) h = refl
+digit_is (suc (suc (suc (suc (suc (suc zero)))))) h = refl
+digit_is (suc (suc (suc (suc (suc (suc (suc zero))))))) h = refl
+digit_is (suc (suc (suc (suc (suc (suc (suc (suc k)))))))) h = absurd (omega arith)
 
 -- the texts, with their last digit
 pub copy_text : (x : List ℕ) (k : ℕ) → k < most_rounds

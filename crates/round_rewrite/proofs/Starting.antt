@@ -1,18 +1,24 @@
 -- The first procedure runs the threads, one after the other, both ways.
-use Rattle.std.proofs.Common.{◌≡◌, ℕ, suc, ◌+◌, ◌-◌, Bool, true, false, List, [], ◌∷◌, ◌++◌, length, map, Option}
-use Rattle.std.proofs.Common.{Some, None, option_map, slice_get, refl, sym, ◌∙◌, ap, subst, arith, ◌⊎◌, inl, inr}
+use Rattle.std.proofs.Common.{◌≡◌, ℕ, suc, ◌+◌, ◌-◌, Bool, true, false, List, [], ◌∷◌, ◌++◌, length, map}
+use Rattle.std.proofs.Common.{reverse, Option}
+use Rattle.std.proofs.Common.{Some, None, option_map, slice_get, refl, sym, ◌∙◌, ap, ap₂, subst, arith, length-append}
+use Rattle.std.proofs.Common.{◌⊎◌, inl, inr}
 use Rattle.language.specs.Tree.{RightSide, value, const, assign, call, one}
-use Rattle.language.specs.Value.{Place, global, with_bit, AreValues, written_globals, written_locals}
+use Rattle.language.specs.Value.{Place, global, with_bit, written_globals, written_locals}
 use Rattle.language.specs.Rest.{Code}
 use Rattle.language.specs.Step.{Routine, Program, Frame, frame, State, state, zeros, fresh, frame_size, AtRoutine}
 use Rattle.language.specs.Rounds.{starting_stack}
-use Rattle.round_rewrite.specs.Table.{Naming, plain, temporaries, starts}
-use Rattle.round_rewrite.specs.Places.{places, is_global, high_at, low_at, stop_at}
+use Rattle.round_rewrite.specs.Limits.{round_bits}
+use Rattle.round_rewrite.specs.Table.{Naming, plain, temporaries, each, reset_targets, starts}
+use Rattle.round_rewrite.specs.Places.{places, is_global, bits_at, bits_from, stop_at}
 use Rattle.resolved.specs.Scoped.{EachThread}
-use Rattle.round_rewrite.proofs.Laid.{Long, AreRows, bits_of, lay, Shape, bits_with}
+use Rattle.round_rewrite.proofs.Counting.{low_first, Outside, outside_both, outside_bits, frame_kept, certain_zeros, one_choice, zeros_are}
+use Rattle.round_rewrite.proofs.Counting.{written_both, zeros_first, length-bits, length-reversed_low}
+use Rattle.round_rewrite.proofs.Laid.{Long, AreRows, bits_of, lay, Shape, stop_with, bits_written}
 use Rattle.round_rewrite.proofs.Plain.{PlainAfter}
 use Rattle.round_rewrite.proofs.Leading.{Leads}
-use Rattle.round_rewrite.proofs.Frames.{entered, results, source, GoodStack, put_rest, put_routine, stack, Setting, source_fresh, put_fresh}
+use Rattle.round_rewrite.proofs.Frames.{entered, results, source, GoodStack, put_rest, put_routine, stack, Setting, source_fresh}
+use Rattle.round_rewrite.proofs.Frames.{put_fresh, zeros-add}
 use Rattle.round_rewrite.proofs.Forward.{call_good}
 use Rattle.round_rewrite.proofs.Turns.{Turns, FailTurns}
 use Rattle.round_rewrite.proofs.Compose.{Threads, FailThreads, run_keeps, fail_is_turns}
@@ -99,31 +105,53 @@ module _ (setting : Setting) (S : List (List Bool)) (saves : AreRows setting.p.g
     long = are.0.0;
   }
 
-  -- what is set before a thread starts: the bits of the round, and `stop`
+  -- what is set before a thread starts, to which values
   abbrev zero_targets : List Place
-  zero_targets = global (high_at p.globals last) ∷ global (low_at p.globals last) ∷ global (stop_at p.globals last) ∷ []
+  zero_targets = reset_targets naming last
 
-  -- the values they are set to
   abbrev zero_sides : List (RightSide Place)
-  zero_sides = value (const false) ∷ value (const false) ∷ value (const false) ∷ []
+  zero_sides = each (value (const false)) zero_targets
+
+  abbrev zero_values : List Bool
+  zero_values = zeros (length zero_targets)
+
+  -- the bits of the round come before `stop`
+  abbrev bit_targets : List Place
+  bit_targets = reverse (bits_from (bits_at p.globals last) (round_bits last))
+
+  abbrev bit_values : List Bool
+  bit_values = reverse (low_first (round_bits last) 0)
+
+  zero_parts : zero_values ≡ bit_values ++ false ∷ []
+  zero_parts =
+      ap zeros (length-append bit_targets (global (stop_at p.globals last) ∷ [])
+      ∙ ap (λ k. k + 1) (length-bits (bits_at p.globals last) (round_bits last)))
+      ∙ (zeros-add (round_bits last) 1 ∙ ap (λ z. z ++ false ∷ []) (sym (zeros_first (round_bits last))))
+
+  zeros_outside : Outside zero_targets
+  zeros_outside =
+      outside_both bit_targets (global (stop_at p.globals last) ∷ []) (outside_bits (bits_at p.globals last) (round_bits last)) tt
 
   -- these writes lead to round 0, where stop is 0
-  zero_writes : (G : List (List Bool)) → Shape p.globals last G S → (q : ℕ) (s b : Bool) →
-      with_bit (with_bit (with_bit (lay G S (bits_of q s b)) (high_at p.globals last) false) (low_at p.globals last)
-      false) (stop_at p.globals last) false ≡ lay G S (bits_of 0 false b)
+  zero_writes : (G : List (List Bool)) → Shape p.globals last G S → (q : ℕ) (s b : Bool)
+      → written_globals zero_targets zero_values (lay G S (bits_of last q s b)) ≡ lay G S (bits_of last 0 false b)
   zero_writes G shape q s b =
-      ap (λ z. with_bit (with_bit z (low_at p.globals last) false) (stop_at p.globals last) false)
-      (bits_with p.globals last G S (bits_of q s b) 0 false shape)
-      ∙ (ap (λ z. with_bit z (stop_at p.globals last) false) (bits_with p.globals last G S _ 1 false shape)
-      ∙ bits_with p.globals last G S _ 2 false shape)
+      ap (λ vs. written_globals zero_targets vs (lay G S (bits_of last q s b))) zero_parts
+      ∙ (written_both bit_targets (global (stop_at p.globals last) ∷ []) bit_values (false ∷ []) (lay G S (bits_of last q s b))
+      (length-bits (bits_at p.globals last) (round_bits last) ∙ sym (length-reversed_low (round_bits last) 0))
+      ∙ (ap (λ z. with_bit z (stop_at p.globals last) false) (bits_written p.globals last G S shape 0 q s b)
+      ∙ stop_with p.globals last G S shape 0 s b false))
 
-  -- there is one choice of these values
-  zero_back : (X L : List Bool) (vs : List Bool) → AreValues X L zero_sides vs → vs ≡ false ∷ false ∷ false ∷ []
-  zero_back X L [] a = absurd a
-  zero_back X L (x ∷ []) a = absurd a.1
-  zero_back X L (x ∷ y ∷ []) a = absurd a.1.1
-  zero_back X L (x ∷ y ∷ z ∷ []) (ax, (ay, (az, none))) = λ i. ax i ∷ ay i ∷ az i ∷ []
-  zero_back X L (x ∷ y ∷ z ∷ u ∷ vs) (ax, (ay, (az, more))) = absurd more
+  -- the state behind these writes
+  zero_state : (G : List (List Bool)) → Shape p.globals last G S → (q : ℕ) (s b : Bool) (k : ℕ) (Q : State → Type 0)
+      (t : Code) →
+      PlainAfter w k
+      (state (written_globals zero_targets zero_values (lay G S (bits_of last q s b)))
+      (frame 0 (written_locals zero_targets zero_values []) t ∷ [])) Q
+      ≡ PlainAfter w k (main_at (lay G S (bits_of last 0 false b)) t) Q
+  zero_state G shape q s b k Q t =
+      ap₂ (λ X l. PlainAfter w k (state X (frame 0 l t ∷ [])) Q) (zero_writes G shape q s b)
+      (frame_kept zero_targets zero_values [] zeros_outside)
 
   -- the call of a procedure of the source
   enters_now : (c : ℕ) (r : Routine) → slice_get p.routines c ≡ Some r → w.enters (suc c) ≡ Some (put_routine p last r)
@@ -138,10 +166,10 @@ module _ (setting : Setting) (S : List (List Bool)) (saves : AreRows setting.p.g
     -- the start of one thread
     start_leads : (G : List (List Bool)) → Shape p.globals last G S → (q : ℕ) (s b : Bool) (c : ℕ) (r : Routine)
         → slice_get p.routines c ≡ Some r
-        → Leads w (state (lay G S (bits_of 0 false b)) (stack p last (entered c r [] ∷ []) t)) Q
-        → Leads w (main_at (lay G S (bits_of q s b)) (one plain (assign zero_targets zero_sides) (one plain (call (suc c) []) t))) Q
+        → Leads w (state (lay G S (bits_of last 0 false b)) (stack p last (entered c r [] ∷ []) t)) Q
+        → Leads w (main_at (lay G S (bits_of last q s b)) (one plain (assign zero_targets zero_sides) (one plain (call (suc c) []) t))) Q
     start_leads G shape q s b c r e (k, h) =
-        let Y : List Bool = lay G S (bits_of 0 false b) in
+        let Y : List Bool = lay G S (bits_of last 0 false b) in
         let h1 : PlainAfter w k
         (state Y
         (frame (suc c) (fresh (frame_size (put_routine p last r)) []) (put_rest p last r.places r.body) ∷ frame 0 [] t ∷ [])) Q =
@@ -153,9 +181,9 @@ module _ (setting : Setting) (S : List (List Bool)) (saves : AreRows setting.p.g
         (sym (enters_now c r e)) h1 in (
           suc (suc k),
           (
-            false ∷ false ∷ false ∷ [],
-            (refl, (refl, (refl, tt))),
-            subst (λ z. PlainAfter w (suc k) (main_at z (one plain (call (suc c) []) t)) Q) (sym (zero_writes G shape q s b)) h2,
+            zero_values,
+            zeros_are (lay G S (bits_of last q s b)) [] zero_targets,
+            subst (λ T. T) (sym (zero_state G shape q s b (suc k) Q (one plain (call (suc c) []) t))) h2,
           ),
         )
 
@@ -165,8 +193,8 @@ module _ (setting : Setting) (S : List (List Bool)) (saves : AreRows setting.p.g
         → AreRows p.globals (suc last) (g ∷ G) → (x : List Bool) (H : List (List Bool)) (s' : List Frame)
         → Turns p (g ∷ G) (starting_stack p.routines c) (x ∷ H) s' → (b : Bool)
         → (AreRows p.globals (suc last) (x ∷ H) → (q : ℕ) (s : Bool)
-        → Leads w (main_at (lay (x ∷ H) S (bits_of q s b)) (starts naming last T t)) Q) → (q : ℕ) (s : Bool)
-        → Leads w (main_at (lay (g ∷ G) S (bits_of q s b)) (starts naming last (c ∷ T) t)) Q
+        → Leads w (main_at (lay (x ∷ H) S (bits_of last q s b)) (starts naming last T t)) Q) → (q : ℕ) (s : Bool)
+        → Leads w (main_at (lay (g ∷ G) S (bits_of last q s b)) (starts naming last (c ∷ T) t)) Q
     first_leads c T there g G are x H s' ts b on q s =
         let (r, e) = there_is (slice_get p.routines c) there.0 in
         let seat : Seat p.globals last S G = first_seat g G are in
@@ -179,9 +207,9 @@ module _ (setting : Setting) (S : List (List Bool)) (saves : AreRows setting.p.g
     -- the threads run, and none fails
     pub starts_lead : (T : List ℕ) → EachThread p.routines T → (G : List (List Bool)) → AreRows p.globals (suc last) G
         → (G' : List (List Bool)) (ss' : List (List Frame)) → Threads p G (map (starting_stack p.routines) T) G' ss' → (b : Bool)
-        → ((q : ℕ) (s : Bool) → Leads w (main_at (lay G' S (bits_of q s b)) t) Q) → (q : ℕ) (s : Bool)
-        → Leads w (main_at (lay G S (bits_of q s b)) (starts naming last T t)) Q
-    starts_lead [] there G are G' [] e b out q s = subst (λ z. Leads w (main_at (lay z S (bits_of q s b)) t) Q) e (out q s)
+        → ((q : ℕ) (s : Bool) → Leads w (main_at (lay G' S (bits_of last q s b)) t) Q) → (q : ℕ) (s : Bool)
+        → Leads w (main_at (lay G S (bits_of last q s b)) (starts naming last T t)) Q
+    starts_lead [] there G are G' [] e b out q s = subst (λ z. Leads w (main_at (lay z S (bits_of last q s b)) t) Q) e (out q s)
     starts_lead [] there G are G' (x ∷ ss') h b out q s = absurd h
     starts_lead (c ∷ T) there G are G' [] h b out q s = absurd h
     starts_lead (c ∷ T) there [] are G' (s' ∷ ss') h b out q s = absurd (let e : 0 ≡ suc last = are.1 in omega arith)
@@ -192,8 +220,8 @@ module _ (setting : Setting) (S : List (List Bool)) (saves : AreRows setting.p.g
     -- the threads run, and one fails
     pub fails_lead : (T : List ℕ) → EachThread p.routines T → (G : List (List Bool)) → AreRows p.globals (suc last) G
         → (G' : List (List Bool)) → FailThreads p G (map (starting_stack p.routines) T) G'
-        → ((q : ℕ) (s : Bool) → Leads w (main_at (lay G' S (bits_of q s true)) t) Q) → (b : Bool) (q : ℕ) (s : Bool)
-        → Leads w (main_at (lay G S (bits_of q s b)) (starts naming last T t)) Q
+        → ((q : ℕ) (s : Bool) → Leads w (main_at (lay G' S (bits_of last q s true)) t) Q) → (b : Bool) (q : ℕ) (s : Bool)
+        → Leads w (main_at (lay G S (bits_of last q s b)) (starts naming last T t)) Q
     fails_lead [] there G are G' h out b q s = absurd h
     fails_lead (c ∷ T) there [] are G' h out b q s = absurd (let e : 0 ≡ suc last = are.1 in omega arith)
     fails_lead (c ∷ T) there (g ∷ G) are G' (inl ([], ss', ft, more)) out b q s = absurd ft
@@ -214,25 +242,26 @@ module _ (setting : Setting) (S : List (List Bool)) (saves : AreRows setting.p.g
   -- a run through the start of one thread
   start_back : (G : List (List Bool)) → Shape p.globals last G S → (q : ℕ) (s b : Bool) (c : ℕ) (r : Routine)
       → slice_get p.routines c ≡ Some r → (t : Code) (N : ℕ)
-      → PlainAfter w N (main_at (lay G S (bits_of q s b)) (one plain (assign zero_targets zero_sides) (one plain (call (suc c) []) t)))
+      → PlainAfter w N
+      (main_at (lay G S (bits_of last q s b)) (one plain (assign zero_targets zero_sides) (one plain (call (suc c) []) t)))
       (Bad p.globals last)
       → (M : ℕ)
-      × PlainAfter w M (state (lay G S (bits_of 0 false b)) (stack p last (entered c r [] ∷ []) t)) (Bad p.globals last)
+      × PlainAfter w M (state (lay G S (bits_of last 0 false b)) (stack p last (entered c r [] ∷ []) t)) (Bad p.globals last)
   start_back G shape q s b c r e t N h =
       let n : ℕ = p.globals in
-      let X : List Bool = lay G S (bits_of q s b) in
-      let Y : List Bool = lay G S (bits_of 0 false b) in
+      let X : List Bool = lay G S (bits_of last q s b) in
+      let Y : List Bool = lay G S (bits_of last 0 false b) in
       let t' : Code = one plain (call (suc c) []) t in
       let (M1, e1, (vs, a, h1)) = unstep_main w n last N X [] plain (assign zero_targets zero_sides) t' h in
-      let h2 : PlainAfter w M1 (main_at
-      (with_bit (with_bit (with_bit X (high_at n last) false) (low_at n last) false) (stop_at n last) false) t')
-      (Bad n last) =
+      let zero_is : vs ≡ zero_values =
+      one_choice X [] zero_sides vs zero_values (certain_zeros zero_targets) a (zeros_are X [] zero_targets) in
+      let h2 : PlainAfter w M1
+      (state (written_globals zero_targets zero_values X) (frame 0 (written_locals zero_targets zero_values []) t' ∷ [])) (Bad n last) =
       subst
       (λ z.
       PlainAfter w M1 (state (written_globals zero_targets z X) (frame 0 (written_locals zero_targets z []) t' ∷ [])) (Bad n last))
-      (zero_back X [] vs a) h1 in
-      let h3 : PlainAfter w M1 (main_at Y t') (Bad n last) =
-      subst (λ z. PlainAfter w M1 (main_at z t') (Bad n last)) (zero_writes G shape q s b) h2 in
+      zero_is h1 in
+      let h3 : PlainAfter w M1 (main_at Y t') (Bad n last) = subst (λ T. T) (zero_state G shape q s b M1 (Bad n last) t') h2 in
       let (M2, e2, h4) = unstep_main w n last M1 Y [] plain (call (suc c) []) t h3 in
       let h5 : PlainAfter w M2
       (state Y
@@ -256,7 +285,7 @@ module _ (setting : Setting) (S : List (List Bool)) (saves : AreRows setting.p.g
     pub round : ℕ
     pub stop : Bool
     pub bad : Bool
-    pub run : PlainAfter w left (main_at (lay rows S (bits_of round stop bad)) t) (Bad p.globals last)
+    pub run : PlainAfter w left (main_at (lay rows S (bits_of last round stop bad)) t) (Bad p.globals last)
     pub turns : ((bad ≡ b) × ((ss' : List (List Frame)) × Threads p G (map (starting_stack p.routines) T) rows ss'))
         ⊎ ((bad ≡ true) × FailThreads p G (map (starting_stack p.routines) T) rows)
 
@@ -293,7 +322,7 @@ module _ (setting : Setting) (S : List (List Bool)) (saves : AreRows setting.p.g
     one_ran : (c : ℕ) (r : Routine) → slice_get p.routines c ≡ Some r → (g : List Bool) (G : List (List Bool))
         (are : AreRows p.globals (suc last) (g ∷ G)) (q : ℕ) (s b : Bool) (N : ℕ)
         → PlainAfter w N
-        (main_at (lay (g ∷ G) S (bits_of q s b)) (one plain (assign zero_targets zero_sides) (one plain (call (suc c) []) t)))
+        (main_at (lay (g ∷ G) S (bits_of last q s b)) (one plain (assign zero_targets zero_sides) (one plain (call (suc c) []) t)))
         (Bad p.globals last)
         → (f : ℕ)
         × Ends setting S t (Bad p.globals last) (bad_single p.globals last) f G (first_seat g G are) b
@@ -309,7 +338,7 @@ module _ (setting : Setting) (S : List (List Bool)) (saves : AreRows setting.p.g
   -- a run through the starts of all threads
   pub starts_back : (t : Code) (T : List ℕ) → EachThread p.routines T → (G : List (List Bool)) → AreRows p.globals (suc last) G
       → (q : ℕ) (s b : Bool) (N : ℕ)
-      → PlainAfter w N (main_at (lay G S (bits_of q s b)) (starts naming last T t)) (Bad p.globals last)
+      → PlainAfter w N (main_at (lay G S (bits_of last q s b)) (starts naming last T t)) (Bad p.globals last)
       → Ran T t G b
   starts_back t [] there G are q s b N h = record {
     left = N;

@@ -130,7 +130,7 @@ module _ (setting : Setting) (S : List (List Bool)) (m : Code) (Q : State → Ty
     pub round : ℕ
     pub stop : Bool
     pub bad : Bool
-    pub run : PlainAfter w left (state (lay (pre ++ g' ∷ post') S (bits_of round stop bad)) (frame 0 [] m ∷ [])) Q
+    pub run : PlainAfter w left (state (lay (pre ++ g' ∷ post') S (bits_of last round stop bad)) (frame 0 [] m ∷ [])) Q
 
   -- the run comes down to the first procedure, and the thread has made its turns
   pub record Ends (N : ℕ) (post : List (List Bool)) (r : Seat p.globals last S post) (b : Bool) (s : List Frame) : Type 0 where
@@ -191,7 +191,7 @@ module _ (setting : Setting) (S : List (List Bool)) (m : Code) (Q : State → Ty
       stop = e.stop;
       bad = e.bad;
       run =
-          subst (λ z. PlainAfter w e.left (state (lay z S (bits_of e.round e.stop e.bad)) (frame 0 [] m ∷ [])) Q)
+          subst (λ z. PlainAfter w e.left (state (lay z S (bits_of last e.round e.stop e.bad)) (frame 0 [] m ∷ [])) Q)
           (append_assoc r.pre (r.g ∷ []) (e.g' ∷ e.post')) e.run;
     };
     turns = elim e.turns [
@@ -202,7 +202,7 @@ module _ (setting : Setting) (S : List (List Bool)) (m : Code) (Q : State → Ty
 
   -- the first procedure is on top, and the rows are as they were
   abbrev down_here : (N : ℕ) (post : List (List Bool)) (r : Seated post) (q : ℕ) (s b : Bool)
-      → PlainAfter w N (state (lay (r.pre ++ r.g ∷ post) S (bits_of q s b)) (frame 0 [] m ∷ [])) Q → Down N r.pre post
+      → PlainAfter w N (state (lay (r.pre ++ r.g ∷ post) S (bits_of last q s b)) (frame 0 [] m ∷ [])) Q → Down N r.pre post
   down_here N post r q s b run = record {
     left = N;
     fewer = omega arith;
@@ -219,7 +219,7 @@ module _ (setting : Setting) (S : List (List Bool)) (m : Code) (Q : State → Ty
 
   -- the thread stops where it is
   ended : (N : ℕ) (post : List (List Bool)) (r : Seated post) (q : ℕ) (s b : Bool) (fs : List Frame)
-      → PlainAfter w N (state (lay (r.pre ++ r.g ∷ post) S (bits_of q s b)) (frame 0 [] m ∷ [])) Q → Ends N post r b fs
+      → PlainAfter w N (state (lay (r.pre ++ r.g ∷ post) S (bits_of last q s b)) (frame 0 [] m ∷ [])) Q → Ends N post r b fs
   ended N post r q s b fs run =
       record { down = down_here N post r q s b run; turns = inl (refl, (fs, idle p (r.g ∷ post) fs)) }
 
@@ -232,7 +232,7 @@ module _ (setting : Setting) (S : List (List Bool)) (m : Code) (Q : State → Ty
         let step' : StepsTo p (state r.g here) (λ u. u ≡ state h (map source bs')) =
         subst (λ y. StepsTo p (state y here) (λ u. u ≡ state h (map source bs'))) (row_middle r.pre r.g post) step in
         let run' : PlainAfter w M (state (globals_at (moment (reseat r h eh) b)) (stack p last bs' m)) Q =
-        subst (λ y. PlainAfter w M (state (lay y S (bits_of (length r.pre) false b)) (stack p last bs' m)) Q)
+        subst (λ y. PlainAfter w M (state (lay y S (bits_of last (length r.pre) false b)) (stack p last bs' m)) Q)
         (with_middle r.pre r.g h post) run in
         longer N M (omega arith) post r b here
         (after_step M post r h eh b here (map source bs') step' (rec M (omega arith) post (reseat r h eh) b (level bs') good run'))
@@ -249,15 +249,15 @@ module _ (setting : Setting) (S : List (List Bool)) (m : Code) (Q : State → Ty
     -- a run that goes on in the next row
     rose_back : (N : ℕ) → N < f → (post : List (List Bool)) (r : Seated post) (b : Bool) (s : Stand) → GoodStand s
         → length r.pre < last
-        → PlainAfter w N (state (lay (r.pre ++ r.g ∷ post) S (bits_of (suc (length r.pre)) false b)) (put_stand s)) Q
+        → PlainAfter w N (state (lay (r.pre ++ r.g ∷ post) S (bits_of last (suc (length r.pre)) false b)) (put_stand s)) Q
         → Ends N post r b (map source (frames_of s))
     rose_back N lt [] r b s good more run = absurd (let c : length r.pre + 0 ≡ last = r.zip.count in omega arith)
     rose_back N lt (h ∷ post) r b s good more run =
         after_row N h post r b (map source (frames_of s))
         (rec N lt post (next_seat r) b s good
-        (subst (λ y. PlainAfter w N (state (lay y S (bits_of (length (r.pre ++ r.g ∷ [])) false b)) (put_stand s)) Q)
+        (subst (λ y. PlainAfter w N (state (lay y S (bits_of last (length (r.pre ++ r.g ∷ [])) false b)) (put_stand s)) Q)
         (sym (append_assoc r.pre (r.g ∷ []) (h ∷ post)))
-        (subst (λ k. PlainAfter w N (state (lay (r.pre ++ r.g ∷ h ∷ post) S (bits_of k false b)) (put_stand s)) Q)
+        (subst (λ k. PlainAfter w N (state (lay (r.pre ++ r.g ∷ h ∷ post) S (bits_of last k false b)) (put_stand s)) Q)
         (sym (length-next r.pre r.g)) run)))
 
     module _ (N : ℕ) (le : N ≤ f) (post : List (List Bool)) (r : Seated post) (b : Bool) where
@@ -275,7 +275,7 @@ module _ (setting : Setting) (S : List (List Bool)) (m : Code) (Q : State → Ty
           (rose_back M (omega (arith, le)) post r b (level (both a rest ∷ bs)) (refl, h, good) more
           (subst
           (λ t. PlainAfter w M
-          (state (lay now.C S (bits_of (suc (length r.pre)) false b)) (top p last a t bs m)) Q)
+          (state (lay now.C S (bits_of last (suc (length r.pre)) false b)) (top p last a t bs m)) Q)
           (sym is) run))
       exited a rest bs h good is (went (M, lt, run)) =
           longer N M (omega arith) post r b (map source (both a rest ∷ bs))

@@ -1,7 +1,7 @@
 -- A thread's turns, or turns that fail, are a run of the rewritten thread down to the first procedure.
 use Rattle.std.proofs.Common.{◌≡◌, ℕ, zero, suc, ◌+◌, ◌-◌, ◌≤◌, Bool, true, false, List, [], ◌∷◌, ◌++◌}
 use Rattle.std.proofs.Common.{Option, Some, None}
-use Rattle.std.proofs.Common.{slice_get, length, map, refl, sym, ◌∙◌, ap, ap₂, subst, arith, append_assoc, inl, inr}
+use Rattle.std.proofs.Common.{length, map, refl, sym, ◌∙◌, ap, ap₂, subst, arith, append_assoc, inl, inr}
 use Rattle.std.proofs.lemmas.List.{get_or-set_same, length-set}
 use Rattle.language.specs.Tree.{skip, assign, assert, assume, goto, leave, call, leave_with, call_for, done, one, choose, loop}
 use Rattle.language.specs.Value.{Place, global, local, bit, with_bit, IsValue}
@@ -9,7 +9,7 @@ use Rattle.language.specs.Rest.{Code}
 use Rattle.language.specs.Step.{Frame, frame, State, state, result_of, given_back, StepsTo, AfterSteps, Fails}
 use Rattle.round_rewrite.specs.Table.{plain, temporaries, side, prologue, stop_test}
 use Rattle.round_rewrite.specs.Places.{places, is_global, stop_at, bad_at}
-use Rattle.round_rewrite.proofs.Laid.{row, with_row, row_middle, with_middle, bits_of, lay, Shape, Moment, globals_at, turned, bits_with}
+use Rattle.round_rewrite.proofs.Laid.{row, with_row, row_middle, with_middle, bits_of, lay, Shape, Moment, globals_at, turned, both_with}
 use Rattle.round_rewrite.proofs.Plain.{PlainAfter}
 use Rattle.round_rewrite.proofs.Leading.{Leads}
 use Rattle.round_rewrite.proofs.Drawing.{landed_leads}
@@ -32,7 +32,7 @@ module _ (setting : Setting) (S : List (List Bool)) (m : Code) (Q : State → Ty
   open setting use {p, last, small, w}
 
   abbrev pub At : List (List Bool) → ℕ → Bool → Bool → List Frame → Type 0
-  At C q s b fs = Leads w (state (lay C S (bits_of q s b)) fs) Q
+  At C q s b fs = Leads w (state (lay C S (bits_of last q s b)) fs) Q
 
   module _ (C : List (List Bool)) (shape : Shape p.globals last C S) (b : Bool) where
     -- frames that leave where stop is 1, whatever values they have
@@ -47,7 +47,7 @@ module _ (setting : Setting) (S : List (List Bool)) (m : Code) (Q : State → Ty
           suc r.0,
           subst (λ z. PlainAfter w r.0 z Q)
               (sym
-              (got_back p last v (lay C S (bits_of q true b)) d (stop_test (places p.globals last d.own) last goes_on)
+              (got_back p last v (lay C S (bits_of last q true b)) d (stop_test (places p.globals last d.own) last goes_on)
               (callers p last bs m))) r.1,
         )
 
@@ -208,8 +208,8 @@ module _ (setting : Setting) (S : List (List Bool)) (m : Code) (Q : State → Ty
               rec g' eg' (length r.pre) (omega arith) (both d' t ∷ bs)
               (refl, given_good p last result (awaiting d (global i) t) hd, goods) steps in
               let turned_is : turned (now_at g eg) (with_bit (row (rows g) (length r.pre)) i (bit d'.tmp 0))
-              ≡ lay (rows g') S (bits_of (length r.pre) false b) =
-              ap (λ y. lay y S (bits_of (length r.pre) false b))
+              ≡ lay (rows g') S (bits_of last (length r.pre) false b) =
+              ap (λ y. lay y S (bits_of last (length r.pre) false b))
               (ap₂ (λ z v. with_row (rows g) (length r.pre) (with_bit z i v)) (row_middle r.pre g post) there
               ∙ with_middle r.pre g g' post) in
               go_in (rows g) (now_at g eg).shape b q (length r.pre) le within d' _ bs
@@ -271,10 +271,8 @@ module _ (setting : Setting) (S : List (List Bool)) (m : Code) (Q : State → Ty
         let is : IsValue X (put_values a) (side (places p.globals last a.own) last v) false =
         subst (λ T. T) (sym (side_at setting (now_at g eg) m a good.long v good.fits.0.0.test false)) zero_is in
         let writes : with_bit (with_bit X (bad_at p.globals last) true) (stop_at p.globals last) true
-        ≡ lay (rows g) S (bits_of (length r.pre) true true) =
-        ap (λ y. with_bit y (stop_at p.globals last) true)
-        (bits_with p.globals last (rows g) S (bits_of (length r.pre) false b) 3 true shape)
-        ∙ bits_with p.globals last (rows g) S (bits_of (length r.pre) false true) 2 true shape in
+        ≡ lay (rows g) S (bits_of last (length r.pre) true true) =
+        both_with p.globals last (rows g) S shape (length r.pre) b in
         prologue_goes w small (site p last (rows g) S shape a bs m) Q (length r.pre) b _ (
           suc (suc (suc u.0)),
           (

@@ -1,64 +1,21 @@
 -- What the rewritten expressions are worth.
-use Rattle.std.proofs.Common.{◌≡◌, ℕ, zero, suc, ◌+◌, ◌*◌, ◌/◌, ◌%◌, ◌<◌, ◌≤◌, Bool, true, false, not}
+use Rattle.std.proofs.Common.{◌≡◌, ℕ, zero, suc, ◌+◌, ◌*◌, ◌^◌, ◌<◌, ◌≤◌, Bool, true, false, not}
 use Rattle.std.proofs.Common.{◌&&◌, ◌||◌, List, [], ◌∷◌, ◌++◌, length, map, refl, sym, ◌∙◌, ap, ap₂, arith, inl}
 use Rattle.std.proofs.Common.{inr}
 use Rattle.std.proofs.lemmas.Bool.{cases_eq}
 use Rattle.std.proofs.lemmas.List.{get_or_append_left}
 use Rattle.language.specs.Tree.{Expression, const, var, negation, two, RightSide, any, value}
-use Rattle.language.specs.Value.{Place, global, local, bit, operate, look_up, value_of, values_of, IsValue}
-use Rattle.round_rewrite.specs.Table.{literal, in_round, joined, expression, side}
-use Rattle.round_rewrite.specs.Places.{places}
+use Rattle.language.specs.Value.{Place, global, local, bit, operate, value_of, values_of, IsValue}
+use Rattle.round_rewrite.specs.Table.{in_round, joined, expression, side}
+use Rattle.round_rewrite.specs.Places.{places, bits_at}
 use Rattle.resolved.specs.Scoped.{InScope, AreInScope, SideInScope}
-use Rattle.round_rewrite.proofs.Laid.{row, row_bit, high, low, bits_of, Moment, globals_at, bits_bit}
-use Rattle.round_rewrite.specs.Limits.{most_rounds}
+use Rattle.round_rewrite.proofs.Counting.{same, same_refl, same_false, tells, bits_suffice}
+use Rattle.round_rewrite.proofs.Laid.{row, row_bit, Moment, globals_at, has_bits}
+use Rattle.round_rewrite.specs.Limits.{most_rounds, round_bits}
 
 pub or_false : (x : Bool) → (x || false) ≡ x
 or_false true = refl
 or_false false = refl
-
-abbrev pub same : ℕ → ℕ → Bool
-same zero zero = true
-same zero (suc b) = false
-same (suc a) zero = false
-same (suc a) (suc b) = same a b
-
-pub same_refl : (a : ℕ) → same a a ≡ true
-same_refl zero = refl
-same_refl (suc a) = same_refl a
-
-pub same_false : (a b : ℕ) → (a ≡ b → ⊥) → same a b ≡ false
-same_false zero zero h = absurd (h refl)
-same_false zero (suc b) h = refl
-same_false (suc a) zero h = refl
-same_false (suc a) (suc b) h = same_false a b (λ e. h (ap suc e))
-
-abbrev lit : ℕ → Bool → Bool
-lit zero b = not b
-lit (suc n) b = b
-
-literal_is : (X L : List Bool) (n : ℕ) (x : Place) → value_of X L (literal n x) ≡ lit n (look_up X L x)
-literal_is X L zero x = refl
-literal_is X L (suc n) x = refl
-
-closed : (k q : ℕ) → k < most_rounds → q < 4 → (lit (k / 2 % 2) (high q) && lit (k % 2) (low q)) ≡ same k q
-closed zero zero h h' = refl
-closed zero (suc zero) h h' = refl
-closed zero (suc (suc zero)) h h' = refl
-closed zero (suc (suc (suc zero))) h h' = refl
-closed (suc zero) zero h h' = refl
-closed (suc zero) (suc zero) h h' = refl
-closed (suc zero) (suc (suc zero)) h h' = refl
-closed (suc zero) (suc (suc (suc zero))) h h' = refl
-closed (suc (suc zero)) zero h h' = refl
-closed (suc (suc zero)) (suc zero) h h' = refl
-closed (suc (suc zero)) (suc (suc zero)) h h' = refl
-closed (suc (suc zero)) (suc (suc (suc zero))) h h' = refl
-closed (suc (suc (suc zero))) zero h h' = refl
-closed (suc (suc (suc zero))) (suc zero) h h' = refl
-closed (suc (suc (suc zero))) (suc (suc zero)) h h' = refl
-closed (suc (suc (suc zero))) (suc (suc (suc zero))) h h' = refl
-closed (suc (suc (suc (suc k)))) q h h' = absurd (omega arith)
-closed k (suc (suc (suc (suc q)))) h h' = absurd (omega arith)
 
 module _ {n last : ℕ} (small : last < most_rounds) (now : Moment n last) (own : ℕ) (L : List Bool) where
   open now use {C, S, q, b, shape, within}
@@ -69,10 +26,9 @@ module _ {n last : ℕ} (small : last < most_rounds) (now : Moment n last) (own 
   -- `at` k is the test that the round is k
   pub at_is : (k : ℕ) → k ≤ last → value_of globals_now L (in_round (places n last own) last k) ≡ same k q
   at_is k h =
-      ap₂ (λ x y. x && y) (literal_is globals_now L (k / 2 % 2) _) (literal_is globals_now L (k % 2) _)
-      ∙ (ap₂ (λ x y. lit (k / 2 % 2) x && lit (k % 2) y) (bits_bit n last C S (bits_of q false b) 0 shape)
-      (bits_bit n last C S (bits_of q false b) 1 shape)
-      ∙ closed k q (omega arith) (omega (arith, within)))
+      let suffice : last < 2 ^ round_bits last = bits_suffice last small in
+      tells globals_now L (bits_at n last) (round_bits last) k q (false ∷ b ∷ []) (has_bits n last C S shape q false b)
+      (omega (arith, suffice, h)) (omega (arith, suffice, within))
 
   copy_is : (k i : ℕ) → k ≤ last → i < n → bit globals_now (k * n + i) ≡ bit (row C k) i
   copy_is k i h h' = row_bit n C _ k i shape.copies (let e : length C ≡ suc last = shape.rounds in omega arith) h'

@@ -1,16 +1,20 @@
 -- Which variables the parts of the rewritten statements use, where D is to hold of each of them and S holds of those of
 -- the source.
 use Rattle.std.proofs.Common.{◌≡◌, ℕ, zero, suc, ◌+◌, ◌/◌, ◌%◌, ◌≤◌, ◌<◌, true, false, cond, not, List, []}
-use Rattle.std.proofs.Common.{◌∷◌, ◌++◌, Some, length, map, codes, refl, sym, ◌∙◌, ap, subst, ap₂, arith, length-append}
-use Rattle.std.proofs.lemmas.List.{length-map}
-use Rattle.language.specs.Tree.{Name, Expression, const, var, negation, two, RightSide, any, value, assign, Block, one}
+use Rattle.std.proofs.Common.{◌∷◌, ◌++◌, Some, length, map, reverse, codes, refl, sym, ◌∙◌, ap, subst, ap₂, arith}
+use Rattle.std.proofs.Common.{length-append}
+use Rattle.std.proofs.lemmas.List.{length-map, length-reverse}
+use Rattle.language.specs.Tree.{Name, Expression, const, var, negation, two, and, RightSide, any, value, assign, Block, one}
 use Rattle.language.specs.Resolve.{is_declared}
 use Rattle.resolved.specs.Resolves.{Each}
 use Rattle.resolved.specs.Statements.{variables_of, variables_of_side, variables_of_sides, variables_of_all}
 use Rattle.resolved.proofs.Each.{each_left, each_right}
-use Rattle.round_rewrite.specs.Table.{Naming, numbers, literal, in_round, joined, read, expression, side, written, rounds, targets, sides}
+use Rattle.round_rewrite.specs.Limits.{round_bits}
+use Rattle.round_rewrite.specs.Table.{Naming, numbers, each, literal, has_value, added, raised, in_round, joined, read, expression}
+use Rattle.round_rewrite.specs.Table.{side, written, rounds, targets, sides}
 use Rattle.round_rewrite.specs.Table.{draws, takes, plain, prologue, received, receiver}
-use Rattle.round_rewrite.specs.Names.{named, copy_name, drawn_name, names}
+use Rattle.round_rewrite.specs.Names.{named, bit_names, copy_name, drawn_name, names}
+use Rattle.round_rewrite.proofs.Counting.{reverse_first}
 use Rattle.round_rewrite.proofs.Resolved.{by_test}
 
 -- what holds of each of two lists holds of each of both
@@ -38,11 +42,71 @@ pub written_each : {X : Type 0} (D : Name → Type 0) (P : X → Type 0) (f : X 
 written_each D P f [] g h = tt
 written_each D P f (x ∷ xs) g h = (g x h.0, written_each D P f xs g h.1)
 
--- the temporaries up to a number
-pub drawn_each : (D : Name → Type 0) (d : ℕ) → ((j : ℕ) → j < d → D (drawn_name j)) → (j m : ℕ) → j + m ≤ d
-    → Each D (map drawn_name (numbers j m))
-drawn_each D d h j zero le = tt
-drawn_each D d h j (suc m) le = (h j (omega arith), drawn_each D d h (suc j) m (omega arith))
+-- the names that are written for numbers, up to one
+pub numbered_each : (D : Name → Type 0) (f : ℕ → Name) (d : ℕ) → ((j : ℕ) → j < d → D (f j)) → (j m : ℕ) → j + m ≤ d
+    → Each D (map f (numbers j m))
+numbered_each D f d h j zero le = tt
+numbered_each D f d h j (suc m) le = (h j (omega arith), numbered_each D f d h (suc j) m (omega arith))
+
+-- the same in reverse
+pub each_reversed : (D : Name → Type 0) (xs : List Name) → Each D xs → Each D (reverse xs)
+each_reversed D [] h = tt
+each_reversed D (x ∷ xs) h =
+    subst (Each D) (sym (reverse_first x xs)) (each_both D (reverse xs) (x ∷ []) (each_reversed D xs h.1) (h.0, tt))
+
+sides_reversed : (D : Name → Type 0) (rs : List (RightSide Name)) → Each D (variables_of_sides rs)
+    → Each D (variables_of_sides (reverse rs))
+sides_reversed D [] h = tt
+sides_reversed D (r ∷ rs) h =
+    subst (λ ss. Each D (variables_of_sides ss)) (sym (reverse_first r rs))
+    (sides_both D (reverse rs) (r ∷ [])
+    (sides_reversed D rs (each_right D (variables_of_side r) (variables_of_sides rs) h))
+    (each_both D (variables_of_side r) [] (each_left D (variables_of_side r) (variables_of_sides rs) h) tt))
+
+literal_uses : (D : Name → Type 0) (n : ℕ) (x : Name) → D x → Each D (variables_of (literal n x))
+literal_uses D zero x h = (h, tt)
+literal_uses D (suc n) x h = (h, tt)
+
+-- a test of the round uses its bits
+value_uses : (D : Name → Type 0) (k : ℕ) (xs : List Name) → Each D xs → Each D (variables_of (has_value k xs))
+value_uses D k [] h = tt
+value_uses D k (x ∷ []) h = literal_uses D (k % 2) x h.0
+value_uses D k (x ∷ y ∷ xs) h =
+    each_both D (variables_of (has_value (k / 2) (y ∷ xs))) (variables_of (literal (k % 2) x)) (value_uses D (k / 2) (y ∷ xs) h.1)
+    (literal_uses D (k % 2) x h.0)
+
+added_uses : (D : Name → Type 0) (carry : Expression Name) (xs : List Name) → Each D (variables_of carry) → Each D xs
+    → Each D (variables_of_sides (added carry xs))
+added_uses D carry [] g h = tt
+added_uses D carry (x ∷ xs) g h = (
+  h.0,
+  each_both D (variables_of carry) (variables_of_sides (added (two and (var x) carry) xs)) g
+      (added_uses D (two and (var x) carry) xs (h.0, g) h.1),
+)
+
+raised_uses : (D : Name → Type 0) (xs : List Name) → Each D xs → Each D (variables_of_sides (raised xs))
+raised_uses D [] h = tt
+raised_uses D (x ∷ xs) h = (h.0, added_uses D (var x) xs (h.0, tt) h.1)
+
+-- and so does the rise to the next round
+pub rise_uses : (D : Name → Type 0) (xs : List Name) → Each D xs → Each D (variables_of_sides (reverse (raised xs)))
+rise_uses D xs h = sides_reversed D (raised xs) (raised_uses D xs h)
+
+length-added : (carry : Expression Name) (xs : List Name) → length (added carry xs) ≡ length xs
+length-added carry [] = refl
+length-added carry (x ∷ xs) = ap suc (length-added (two and (var x) carry) xs)
+
+length-raised : (xs : List Name) → length (raised xs) ≡ length xs
+length-raised [] = refl
+length-raised (x ∷ xs) = ap suc (length-added (var x) xs)
+
+pub rise_even : (xs : List Name) → length (reverse xs) ≡ length (reverse (raised xs))
+rise_even xs = length-reverse xs ∙ (sym (length-raised xs) ∙ sym (length-reverse (raised xs)))
+
+-- a constant uses no variable
+pub zeros_use : (D : Name → Type 0) (xs : List Name) → Each D (variables_of_sides (each (value (const false)) xs))
+zeros_use D [] = tt
+zeros_use D (x ∷ xs) = zeros_use D xs
 
 -- there are as many right sides as targets
 pub sides_even : (own : List Name) (last j : ℕ) (xs : List Name) (rs : List (RightSide Name))
@@ -90,8 +154,7 @@ sides_even own last j (x ∷ xs) (value v ∷ rs) =
 
 -- D holds of the names of the bits, of `stop__` and `bad__`, of the copies of globals, of locals and of temporaries
 pub record Held (own : List Name) (last d : ℕ) (D S : Name → Type 0) : Type 0 where
-  pub high : D (named (codes "rh__"))
-  pub low : D (named (codes "rl__"))
+  pub bits : Each D (bit_names (round_bits last))
   pub stop : D (named (codes "stop__"))
   pub bad : D (named (codes "bad__"))
   pub copied : (x : Name) → S x → is_declared x.text own ≡ false → (k : ℕ) → k ≤ last → D (copy_name k x)
@@ -102,14 +165,8 @@ module _ (own : List Name) (last d : ℕ) (D S : Name → Type 0) (held : Held o
   N : Naming Name Name Name Name
   N = names own
 
-  literal_uses : (n : ℕ) (w : Name) → D w → Each D (variables_of (literal n w))
-  literal_uses zero w h = (h, tt)
-  literal_uses (suc n) w h = (h, tt)
-
   pub at_uses : (k : ℕ) → Each D (variables_of (in_round (names own) last k))
-  at_uses k =
-      each_both D (variables_of (literal (k / 2 % 2) (named (codes "rh__")))) (variables_of (literal (k % 2) (named (codes "rl__"))))
-      (literal_uses (k / 2 % 2) (named (codes "rh__")) held.high) (literal_uses (k % 2) (named (codes "rl__")) held.low)
+  at_uses k = value_uses D k (bit_names (round_bits last)) held.bits
 
   copy_uses : (x : Name) → S x → is_declared x.text own ≡ false → (k : ℕ) → k ≤ last →
       Each D (variables_of (in_round (names own) last k) ++ (copy_name k x ∷ []))

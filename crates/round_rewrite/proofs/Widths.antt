@@ -1,7 +1,7 @@
 -- How wide the procedures of the rewritten program are, and how many there are.
 use Rattle.std.proofs.Common.{◌≡◌, ℕ, zero, suc, ◌+◌, ◌<◌, ◌≤◌, cond, Some, inl, refl, slice_get, take, is_some}
-use Rattle.std.proofs.Common.{true≢false, List, [], ◌∷◌, ◌++◌, length, length-append, get_or, map, codes, sym, ◌∙◌, ap}
-use Rattle.std.proofs.Common.{subst, arith, append_assoc}
+use Rattle.std.proofs.Common.{true≢false, List, [], ◌∷◌, ◌++◌, length, length-append, get_or, map, sym, ◌∙◌, ap}
+use Rattle.std.proofs.Common.{subst, arith}
 use Rattle.std.proofs.lemmas.List.{length-map}
 use Rattle.std.proofs.lemmas.Option.{same_Some}
 use Rattle.language.specs.Tree.{Name, Procedure, ThreadLine, Tree}
@@ -12,36 +12,15 @@ use Rattle.trees.specs.Trees.{proc_of, procs_of}
 use Rattle.scopes.specs.declared.fault.ScopeFault.TheVariants as fault
 use Rattle.scopes.specs.Checked.{IsChecked}
 use Rattle.resolved.specs.There.{IsThere}
-use Rattle.round_rewrite.specs.Table.{numbers, copied, globals}
+use Rattle.round_rewrite.specs.Table.{numbers}
 use Rattle.round_rewrite.specs.Places.{global_count}
-use Rattle.round_rewrite.specs.Names.{named, names, copy_name, save_name, drawn_name, rewritten_procedure, main_procedure, rewritten_tree}
+use Rattle.round_rewrite.specs.Names.{names, drawn_name, rewritten_procedure, main_procedure, rewritten_tree}
 use Rattle.resolved.specs.Narrow.{EachProcedure, width}
 use Rattle.round_rewrite.specs.Narrow.{rewritten_width, AreNarrow, IsNarrow}
 use Rattle.round_rewrite.specs.Writing.{own_width, procedure_needs, IsOwnNarrow, AreFew}
-use Rattle.round_rewrite.proofs.Numbering.{length-rows}
-use Rattle.round_rewrite.proofs.Placing.{length-numbers}
-use Rattle.round_rewrite.proofs.Copied.{gathered}
+use Rattle.round_rewrite.proofs.Placing.{length-numbers, length-globals}
 use Rattle.round_rewrite.proofs.Giving.{gives_rewritten, gives_main}
 use Rattle.resolved.specs.Limits.{most_places}
-
-four_behind : {B : Type 0} (xs : List B) (a b c d : B)
-    → (((xs ++ a ∷ []) ++ b ∷ []) ++ c ∷ []) ++ d ∷ [] ≡ xs ++ (a ∷ b ∷ c ∷ d ∷ [])
-four_behind xs a b c d =
-    ap (λ ns. (ns ++ c ∷ []) ++ d ∷ []) (append_assoc xs (a ∷ []) (b ∷ []))
-    ∙ (ap (λ ns. ns ++ d ∷ []) (append_assoc xs (a ∷ b ∷ []) (c ∷ [])) ∙ append_assoc xs (a ∷ b ∷ c ∷ []) (d ∷ []))
-
-pub length-globals : (last : ℕ) (xs : List Name) → length (globals (names []) last xs) ≡ global_count (length xs) last
-length-globals last xs =
-    let a = length-rows (names []) last copy_name xs 0 (suc last) in
-    let b = length-rows (names []) last save_name xs 1 last in
-    let four = named (codes "rh__") ∷ named (codes "rl__") ∷ named (codes "stop__") ∷ named (codes "bad__") ∷ [] in
-    let first = copied (names []) last copy_name xs (numbers 0 (suc last)) in
-    let second = copied (names []) last save_name xs (numbers 1 last) in
-    let c : length (globals (names []) last xs) ≡ length ((first ++ second) ++ four) =
-    ap length
-    (sym (gathered first second (named (codes "rh__")) (named (codes "rl__")) (named (codes "stop__")) (named (codes "bad__")))
-    ∙ four_behind (first ++ second) (named (codes "rh__")) (named (codes "rl__")) (named (codes "stop__")) (named (codes "bad__"))) in
-    c ∙ (length-append (first ++ second) four ∙ (ap (λ n. n + 4) (length-append first second ∙ (λ i. a i + b i))))
 
 own_places : (last : ℕ) (p : Procedure)
     → length ((rewritten_procedure last p).formals ++ (rewritten_procedure last p).locals)

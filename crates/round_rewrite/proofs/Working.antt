@@ -1,10 +1,12 @@
 -- Each statement of a checked tree rewritten works: its variables are declared, what it calls and goes to is there, and
 -- each target has its right side. So the rewritten tree resolves.
 use Rattle.std.proofs.Common.{◌≡◌, ℕ, zero, suc, ◌+◌, ◌<◌, ◌≤◌, Bool, true, false, cond, List, [], ◌∷◌}
-use Rattle.std.proofs.Common.{◌++◌, length, map, codes, Option, Some, None, option_map, inl, inr, refl, sym, ◌∙◌, ap, subst}
+use Rattle.std.proofs.Common.{◌++◌, length, map, reverse, codes, Option, Some, None, option_map, inl, inr, refl, sym, ◌∙◌, ap}
+use Rattle.std.proofs.Common.{subst}
 use Rattle.std.proofs.Common.{ap₂, arith, append_assoc}
-use Rattle.std.proofs.lemmas.List.{length-map}
-use Rattle.language.specs.Tree.{Name, var, RightSide, any, value, Simple, skip, assign, assert, assume, goto, leave, call, leave_with}
+use Rattle.std.proofs.lemmas.List.{length-map, reverse-reverse}
+use Rattle.language.specs.Tree.{Name, const, var, RightSide, any, value, Simple, skip, assign, assert, assume, goto, leave, call}
+use Rattle.language.specs.Tree.{leave_with}
 use Rattle.language.specs.Tree.{call_for, Mark, Block, done, one, choose, loop, Procedure, ThreadLine, Tree}
 use Rattle.language.specs.Rest.{same_text, join}
 use Rattle.language.specs.Resolve.{is_declared}
@@ -21,18 +23,21 @@ use Rattle.scopes.proofs.Works.{in_either, named_declared, Works, IsGood, Starts
 use Rattle.scopes.proofs.Resolving.{labels_append, working_resolves}
 use Rattle.scopes.proofs.Rewriting.{checked_rewritable}
 use Rattle.round_rewrite.specs.Table as table
-use Rattle.round_rewrite.specs.Table.{numbers, temporaries, in_round, expression, side, targets, sides, draws, drawing, stop_test, prologue}
+use Rattle.round_rewrite.specs.Table.{numbers, temporaries, raised, each, reset_targets, in_round, expression, side, targets, sides}
+use Rattle.round_rewrite.specs.Table.{draws, drawing, stop_test, prologue}
 use Rattle.round_rewrite.specs.Table.{takes, received, statement, rewritten, guess, guesses, starts, check, checks, main, copied, globals}
 use Rattle.round_rewrite.specs.Names as renamed
-use Rattle.round_rewrite.specs.Names.{copy_name, save_name, drawn_name, names, rewritten_procedure, main_procedure, rewritten_tree}
+use Rattle.round_rewrite.specs.Names.{bit_names, copy_name, save_name, drawn_name, names, rewritten_procedure, main_procedure}
+use Rattle.round_rewrite.specs.Names.{rewritten_tree}
 use Rattle.round_rewrite.proofs.Spelling.{same_text_refl}
 use Rattle.round_rewrite.proofs.Numbering.{number_right, number_left, in_rows}
-use Rattle.round_rewrite.proofs.Placing.{bit_names, last_names, copies_spelled, saves_spelled}
+use Rattle.round_rewrite.proofs.Placing.{last_names, copies_spelled, saves_spelled}
 use Rattle.round_rewrite.proofs.Resolved.{by_test, rest_room}
 use Rattle.round_rewrite.proofs.Meaning.{not_main}
-use Rattle.round_rewrite.proofs.Uses.{each_both, any_uses, written_each, drawn_each, sides_even, Held, at_uses, arguments_use, side_uses}
+use Rattle.round_rewrite.proofs.Uses.{each_both, any_uses, written_each, numbered_each, each_reversed, rise_uses, rise_even, zeros_use}
+use Rattle.round_rewrite.proofs.Uses.{sides_even, Held, at_uses, arguments_use, side_uses}
 use Rattle.round_rewrite.proofs.Uses.{targets_held, sides_use, receiver_held, landing_has}
-use Rattle.round_rewrite.specs.Limits.{most_rounds}
+use Rattle.round_rewrite.specs.Limits.{most_rounds, round_bits}
 
 -- a name that is declared in the second of two lists is declared in both
 pub declared_right : (x : List ℕ) (xs ys : List Name) → is_declared x ys ≡ true → is_declared x (xs ++ ys) ≡ true
@@ -180,6 +185,9 @@ module _ (t : Tree) (last : ℕ) (ok : IsChecked t) (small : last < most_rounds)
   abbrev B : List Name
   B = copied (names []) last save_name t.globals (numbers 1 last)
 
+  abbrev bits : List Name
+  bits = reverse (bit_names (round_bits last))
+
   copies_there : (x : Name) → is_declared x.text t.globals ≡ true → (k : ℕ) → k ≤ last
       → is_declared (copy_name k x).text t'.globals ≡ true
   copies_there x h k le =
@@ -187,8 +195,8 @@ module _ (t : Tree) (last : ℕ) (ok : IsChecked t) (small : last < most_rounds)
       let inA : is_declared (copy_name k x).text A ≡ true =
       subst (λ y. is_declared (copy_name y x).text A ≡ true) z
       (in_rows (names []) last copy_name t.globals copies_spelled x h k 0 (suc last) (omega arith) (omega arith)).0 in
-      declared_first (copy_name k x).text (A ++ B ++ bit_names) last_names
-      (declared_first (copy_name k x).text (A ++ B) bit_names (declared_first (copy_name k x).text A B inA))
+      declared_first (copy_name k x).text (A ++ B ++ bits) last_names
+      (declared_first (copy_name k x).text (A ++ B) bits (declared_first (copy_name k x).text A B inA))
 
   saves_there : (x : Name) → is_declared x.text t.globals ≡ true → (k : ℕ) → k < last
       → is_declared (save_name (suc k) x).text t'.globals ≡ true
@@ -197,16 +205,16 @@ module _ (t : Tree) (last : ℕ) (ok : IsChecked t) (small : last < most_rounds)
       let inB : is_declared (save_name (suc k) x).text B ≡ true =
       subst (λ y. is_declared (save_name y x).text B ≡ true) z
       (in_rows (names []) last save_name t.globals saves_spelled x h k 1 last lt (omega arith)).0 in
-      declared_first (save_name (suc k) x).text (A ++ B ++ bit_names) last_names
-      (declared_first (save_name (suc k) x).text (A ++ B) bit_names (declared_right (save_name (suc k) x).text A B inB))
+      declared_first (save_name (suc k) x).text (A ++ B ++ bits) last_names
+      (declared_first (save_name (suc k) x).text (A ++ B) bits (declared_right (save_name (suc k) x).text A B inB))
 
-  bits_there : (x : List ℕ) → is_declared x bit_names ≡ true → is_declared x t'.globals ≡ true
+  bits_there : (x : List ℕ) → is_declared x bits ≡ true → is_declared x t'.globals ≡ true
   bits_there x h =
-      declared_first x (A ++ B ++ bit_names) last_names (declared_right x (A ++ B) bit_names h)
+      declared_first x (A ++ B ++ bits) last_names (declared_right x (A ++ B) bits h)
 
   lasts_there : (x : List ℕ) → is_declared x last_names ≡ true → is_declared x t'.globals ≡ true
   lasts_there x h =
-      declared_right x (A ++ B ++ bit_names) last_names h
+      declared_right x (A ++ B ++ bits) last_names h
 
   -- in a procedure of the rewritten tree
   module _ (p' : Procedure) where
@@ -220,11 +228,8 @@ module _ (t : Tree) (last : ℕ) (ok : IsChecked t) (small : last < most_rounds)
     in_globals : (x : Name) → is_declared x.text t'.globals ≡ true → In x
     in_globals x h = declared_right x.text (p'.formals ++ p'.locals) t'.globals h
 
-    high_in : In (renamed.named (codes "rh__"))
-    high_in = in_globals (renamed.named (codes "rh__")) (bits_there (codes "rh__") refl)
-
-    low_in : In (renamed.named (codes "rl__"))
-    low_in = in_globals (renamed.named (codes "rl__")) (bits_there (codes "rl__") refl)
+    bits_in : Each In bits
+    bits_in = each_declared bits (known t' p') (λ x h. declared_right x (p'.formals ++ p'.locals) t'.globals (bits_there x h))
 
     stop_in : In (renamed.named (codes "stop__"))
     stop_in = in_globals (renamed.named (codes "stop__")) (lasts_there (codes "stop__") refl)
@@ -293,8 +298,7 @@ module _ (t : Tree) (last : ℕ) (ok : IsChecked t) (small : last < most_rounds)
 
     held : Held own last drawn (In p') Known
     held = record {
-      high = high_in p';
-      low = low_in p';
+      bits = subst (Each (In p')) (reverse-reverse (bit_names (round_bits last))) (each_reversed (In p') bits (bits_in p'));
       stop = stop_in p';
       bad = bad_in p';
       copied = copied_in;
@@ -313,7 +317,10 @@ module _ (t : Tree) (last : ℕ) (ok : IsChecked t) (small : last < most_rounds)
       (
         assume_works p' _ (at_uses own last drawn (In p') Known held last),
         (
-          assign_works p' _ _ (high_in p', (low_in p', (high_in p', (low_in p', (low_in p', tt))))) refl,
+          assign_works p' bits (reverse (raised (bit_names (round_bits last))))
+              (each_both (In p') bits (variables_of_sides (reverse (raised (bit_names (round_bits last))))) (bits_in p')
+              (rise_uses (In p') (bit_names (round_bits last)) held.bits))
+              (rise_even (bit_names (round_bits last))),
           (
             test_works p' any tt,
             (
@@ -333,7 +340,8 @@ module _ (t : Tree) (last : ℕ) (ok : IsChecked t) (small : last < most_rounds)
     drawing_works zero k le h = h
     drawing_works (suc n) k le h = (
       assign_works p' (map drawn_name (numbers 0 (suc n))) (map (λ x. any) (numbers 0 (suc n)))
-          (each_both (In p') (map drawn_name (numbers 0 (suc n))) _ (drawn_each (In p') drawn held.drawn 0 (suc n) (omega arith))
+          (each_both (In p') (map drawn_name (numbers 0 (suc n))) _
+          (numbered_each (In p') drawn_name drawn held.drawn 0 (suc n) (omega arith))
           (any_uses (In p') (numbers 0 (suc n))))
           (length-map (numbers 0 (suc n)) drawn_name ∙ sym (length-map {B = RightSide Name} (numbers 0 (suc n)) (λ x. any))),
       h,
@@ -506,7 +514,11 @@ module _ (t : Tree) (last : ℕ) (ok : IsChecked t) (small : last < most_rounds)
       → Work first (statements_of (starts (names []) last (map (λ (line : ThreadLine). line.name) lines) b))
   starts_work [] b s h = h
   starts_work (line ∷ lines) b s h = (
-    assign_works first _ _ (high_in first, (low_in first, (stop_in first, tt))) refl,
+    assign_works first (reset_targets (names []) last) (each (value (const false)) (reset_targets (names []) last))
+        (each_both (In first) (reset_targets (names []) last) _
+        (each_both (In first) bits (renamed.named (codes "stop__") ∷ []) (bits_in first) (stop_in first, tt))
+        (zeros_use (In first) (reset_targets (names []) last)))
+        (sym (length-map {B = RightSide Name} (reset_targets (names []) last) (λ x. value (const false)))),
     (record { variables = tt; called = takes_there line.name 0 s.0; sides = λ is. refl; labelled = tt }, starts_work lines b s.1 h),
   )
 

@@ -1,10 +1,10 @@
 -- The rewriting of a text's tree, by the names that are printed.
-use Rattle.std.specs.Prelude.{ℕ, suc, not, List, [], ◌∷◌, ◌++◌, map, codes, decimal}
+use Rattle.std.specs.Prelude.{ℕ, zero, suc, not, List, [], ◌∷◌, ◌++◌, map, codes, decimal}
 use Rattle.language.specs.Tree.{Name, Procedure, ThreadLine, Tree}
 use Rattle.language.specs.Resolve.{is_declared}
 use Rattle.language.specs.Sequential.{sequential_of}
 use Rattle.language.specs.Step.{Program}
-use Rattle.round_rewrite.specs.Limits.{last_of}
+use Rattle.round_rewrite.specs.Limits.{last_of, round_bits}
 use Rattle.round_rewrite.specs.Table.{Naming, numbers, temporaries, rewritten, main, globals}
 
 -- a name that stands in no text
@@ -23,6 +23,16 @@ save_name round name = named (name.text ++ (codes "__s" ++ decimal (suc round)))
 abbrev pub drawn_name : ℕ → Name
 drawn_name number = named (codes "tmp__t" ++ decimal (suc number))
 
+-- the name of a bit of the round, by its number, where the low bit is 0
+abbrev pub bit_name : ℕ → Name
+bit_name zero = named (codes "rl__")
+bit_name (suc zero) = named (codes "rh__")
+bit_name (suc (suc number)) = named (codes "rt__")
+
+-- so many bits of the round, the low bit first
+abbrev pub bit_names : ℕ → List Name
+bit_names count = map bit_name (numbers 0 count)
+
 -- the names in a procedure with these formals and locals
 abbrev pub names : List Name → Naming Name Name Name Name
 names own = record {
@@ -31,7 +41,7 @@ names own = record {
   save = save_name;
   kept = λ x. x;
   drawn = drawn_name;
-  bits = named (codes "rl__") ∷ named (codes "rh__") ∷ [];
+  bits = λ last. bit_names (round_bits last);
   stop = named (codes "stop__");
   bad = named (codes "bad__");
   called = λ p. p;

@@ -2,6 +2,7 @@
 use Rattle.std.specs.Prelude.{ℕ, zero, suc, ◌+◌, ◌*◌, Bool, true, false, List, [], ◌∷◌, map}
 use Rattle.language.specs.Value.{Place, global, local}
 use Rattle.language.specs.Step.{Routine, Program}
+use Rattle.round_rewrite.specs.Limits.{round_bits}
 use Rattle.round_rewrite.specs.Table.{Naming, numbers, temporaries, rewritten, main}
 
 -- the place is a global
@@ -24,22 +25,21 @@ save_at globals last (suc round) (local i) = local i
 abbrev pub bits_at : ℕ → ℕ → ℕ
 bits_at globals last = suc last * globals + last * globals
 
--- behind them stand the two bits of the round, stop and bad
-abbrev pub high_at : ℕ → ℕ → ℕ
-high_at globals last = bits_at globals last + 0
+-- behind them stand the bits of the round, the highest first: so many from a place on, as a list with the low bit first
+abbrev pub bits_from : ℕ → ℕ → List Place
+bits_from at zero = []
+bits_from at (suc count) = global (at + count) ∷ bits_from at count
 
-abbrev pub low_at : ℕ → ℕ → ℕ
-low_at globals last = bits_at globals last + 1
-
+-- behind the bits stand stop and bad
 abbrev pub stop_at : ℕ → ℕ → ℕ
-stop_at globals last = bits_at globals last + 2
+stop_at globals last = bits_at globals last + round_bits last
 
 abbrev pub bad_at : ℕ → ℕ → ℕ
-bad_at globals last = bits_at globals last + 3
+bad_at globals last = bits_at globals last + (round_bits last + 1)
 
 -- how many globals the rewritten program has
 abbrev pub global_count : ℕ → ℕ → ℕ
-global_count globals last = bits_at globals last + 4
+global_count globals last = bits_at globals last + (round_bits last + 2)
 
 -- the places of the rewritten program, in a procedure with so many places: the copies of all globals for
 -- round 0, 1, .., then the guesses saved for round 1, .., then the bits, stop and bad; the temporaries
@@ -51,7 +51,7 @@ places globals last own = record {
   save = save_at globals last;
   kept = λ x. x;
   drawn = λ j. local (own + j);
-  bits = global (low_at globals last) ∷ global (high_at globals last) ∷ [];
+  bits = λ k. bits_from (bits_at globals last) (round_bits k);
   stop = global (stop_at globals last);
   bad = global (bad_at globals last);
   called = suc;

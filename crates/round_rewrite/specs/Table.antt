@@ -14,15 +14,15 @@ use Rattle.language.specs.Rest.{join}
 -- How the rewritten program writes its variables W, where those of the source are V. The names of one
 -- procedure: `is_shared` says of a variable that it is a global, `copy` and `save` write the copy of a
 -- global for a round and the guess saved for a round, `kept` writes a formal or local, `drawn` a temporary
--- by its number from 0. `bits` are the bits of the round, the low bit first. Procedures are P in the source, Q
--- in the rewritten program, and `called` writes one.
+-- by its number from 0. `bits` are the bits of the round, the low bit first, by the last round. Procedures are P in
+-- the source, Q in the rewritten program, and `called` writes one.
 pub record Naming (V W P Q : Type 0) : Type 0 where
   pub is_shared : V → Bool
   pub copy : ℕ → V → W
   pub save : ℕ → V → W
   pub kept : V → W
   pub drawn : ℕ → W
-  pub bits : List W
+  pub bits : ℕ → List W
   pub stop : W
   pub bad : W
   pub called : P → Q
@@ -83,7 +83,7 @@ temporaries is_shared (loop mark right_side body rest) = max (temporaries is_sha
 module _ {V W P Q : Type 0} (naming : Naming V W P Q) (last : ℕ) where
   -- the round is this one
   abbrev pub in_round : ℕ → Expression W
-  in_round round = has_value round naming.bits
+  in_round round = has_value round (naming.bits last)
 
   -- the copy of a variable for the round, where the round is at most this one
   abbrev pub joined : ℕ → V → Expression W
@@ -136,6 +136,10 @@ module _ {V W P Q : Type 0} (naming : Naming V W P Q) (last : ℕ) where
   abbrev pub receiver : V → W
   receiver x = cond (naming.is_shared x) (naming.drawn 0) (naming.kept x)
 
+  -- what is set to 0 before a thread starts: the bits of the round, and `stop`
+  abbrev pub reset_targets : List W
+  reset_targets = reverse (naming.bits last) ++ naming.stop ∷ []
+
   module _ {L : Type 0} where
     -- the draw of so many temporaries, if any
     abbrev pub drawing : ℕ → Block W Q L → Block W Q L
@@ -151,7 +155,7 @@ module _ {V W P Q : Type 0} (naming : Naming V W P Q) (last : ℕ) where
     abbrev pub rise : Block W Q L
     rise =
         one plain (assume (value (negation (in_round last))))
-        (one plain (assign (reverse naming.bits) (reverse (raised naming.bits))) done)
+        (one plain (assign (reverse (naming.bits last)) (reverse (raised (naming.bits last)))) done)
 
     -- the prologue: rise by any number of rounds, stop or not, and leave where `stop` is 1
     abbrev pub prologue : Mark L → Block W Q L → Block W Q L
@@ -211,7 +215,7 @@ module _ {V W P Q : Type 0} (naming : Naming V W P Q) (last : ℕ) where
     abbrev pub starts : List P → Block W Q L → Block W Q L
     starts [] rest = rest
     starts (callee ∷ callees) rest =
-        one plain (assign (reverse naming.bits ++ naming.stop ∷ []) (each (value (const false)) (reverse naming.bits ++ naming.stop ∷ [])))
+        one plain (assign reset_targets (each (value (const false)) reset_targets))
         (one plain (call (naming.called callee) []) (starts callees rest))
 
     -- the check that a round ended with the guess for the round after it
@@ -238,4 +242,5 @@ module _ {V W P Q : Type 0} (naming : Naming V W P Q) (last : ℕ) where
   -- the globals in order: the copies round by round, the guesses saved, the round's bits, stop, bad
   abbrev pub globals : List V → List W
   globals xs =
-      copied naming.copy xs rounds ++ copied naming.save xs (numbers 1 last) ++ reverse naming.bits ++ naming.stop ∷ naming.bad ∷ []
+      copied naming.copy xs rounds ++ copied naming.save xs (numbers 1 last) ++ reverse (naming.bits last)
+      ++ naming.stop ∷ naming.bad ∷ []

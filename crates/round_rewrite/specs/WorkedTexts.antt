@@ -148,6 +148,37 @@ skipping_in_one_round =
     codes "thread main__;" ∷
     [])
 
+-- the first, rewritten for five rounds, which have a third bit
+abbrev pub skipping_in_five_rounds : List ℕ
+skipping_in_five_rounds =
+    text (
+    codes "decl rt__, rh__, rl__, stop__, bad__;" ∷
+    codes "main__()" ∷
+    codes "begin" ∷
+    codes "  rt__, rh__, rl__, stop__ := 0, 0, 0, 0;" ∷
+    codes "  t();" ∷
+    codes "end" ∷
+    codes "t()" ∷
+    codes "begin" ∷
+    codes "  while (?) do" ∷
+    codes "    assume(!((rt__ & !rh__) & !rl__));" ∷
+    codes "    rt__, rh__, rl__ := rt__ ^ (rh__ & rl__), rh__ ^ rl__, !rl__;" ∷
+    codes "  od" ∷
+    codes "  if (?) then" ∷
+    codes "    stop__ := 1;" ∷
+    codes "  else" ∷
+    codes "    skip;" ∷
+    codes "  fi" ∷
+    codes "  if (stop__) then" ∷
+    codes "    return;" ∷
+    codes "  else" ∷
+    codes "    skip;" ∷
+    codes "  fi" ∷
+    codes "  skip;" ∷
+    codes "end" ∷
+    codes "thread main__;" ∷
+    [])
+
 -- the text of the second
 abbrev pub drawing_text : List ℕ
 drawing_text =

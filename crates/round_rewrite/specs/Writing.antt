@@ -1,7 +1,8 @@
 -- What a writer stands for, and what it is to put statements behind others.
-use Rattle.std.specs.Prelude.{◌≡◌, ◌≤◌, ◌+◌, ℕ, length, Bool, max, cond, true, List, [], ◌∷◌, ◌++◌, map, codes}
+use Rattle.std.specs.Prelude.{◌≡◌, ◌≤◌, ◌+◌, ℕ, zero, suc, length, Bool, max, cond, true, List, [], ◌∷◌}
+use Rattle.std.specs.Prelude.{◌++◌, map, codes}
 use Rattle.language.specs.Tree as tree
-use Rattle.language.specs.Tree.{const, var, any, value, skip, assign, leave, Mark, Block, done, one, choose, loop}
+use Rattle.language.specs.Tree.{const, var, negation, two, and, xor, any, value, skip, assign, leave, Mark, Block, done, one, choose, loop}
 use Rattle.trees.specs.declared.tree.Stmt.{Stmt}
 use Rattle.trees.specs.Trees.{Deed, simple, branch, repeat, Item, names_of, items_of, all_before}
 use Rattle.trees.specs.Parts.{head_of, first_inside, second_inside}
@@ -9,7 +10,7 @@ use Rattle.language.specs.Rest.{join}
 use Rattle.language.specs.Resolve.{gives_value}
 use Rattle.round_rewrite.specs.declared.writer.Writer.{Writer}
 use Rattle.round_rewrite.specs.Table.{Naming, draws_of, temporaries, plain, side, prologue, statement, rewritten}
-use Rattle.round_rewrite.specs.Names.{named, names}
+use Rattle.round_rewrite.specs.Names.{named, bit_name, names}
 use Rattle.resolved.specs.Limits.{most_places}
 
 -- how the procedure's names are written
@@ -28,6 +29,16 @@ Lays old new form = (rest : TextBlock) → all_before (items_of new) rest ≡ al
 -- the names that thread lines have
 abbrev pub line_names : List tree.ThreadLine → List tree.Name
 line_names ts = map (λ (line : tree.ThreadLine). line.name) ts
+
+-- what is carried out of the bits of the round up to this one where 1 is added
+abbrev pub carried : ℕ → tree.Expression tree.Name
+carried zero = var (bit_name 0)
+carried (suc number) = two and (var (bit_name (suc number))) (carried number)
+
+-- a bit of the next round
+abbrev pub raised_bit : ℕ → tree.Expression tree.Name
+raised_bit zero = negation (var (bit_name 0))
+raised_bit (suc number) = two xor (var (bit_name (suc number))) (carried number)
 
 -- what tests whether to stop
 abbrev pub stop_testing : Deed

@@ -1,15 +1,16 @@
 //! The statements of the rewriting that hold others.
 
-ghost use Rattle.std.specs.Prelude.{◌≡◌, true, [], ◌∷◌, ◌++◌, IfOk, reverse, codes};
-ghost use Rattle.language.specs.Tree.{const, any, var, negation, two, xor, value, assign, assume};
+ghost use Rattle.std.specs.Prelude.{◌≡◌, true, [], ◌∷◌, ◌++◌, IfOk, reverse};
+ghost use Rattle.language.specs.Tree.{const, any, negation, value, assign, assume};
 ghost use Rattle.trees.specs.Trees.{simple, repeat, names_of, expr_of, rhs_of, rhss_of, deed_of};
 ghost use Rattle.round_rewrite.specs.Table.{in_round, rise, raised};
-ghost use Rattle.round_rewrite.specs.Names.{named};
-ghost use Rattle.round_rewrite.specs.Writing.{stop_testing, stopping, failing};
+ghost use Rattle.round_rewrite.specs.Names.{named, bit_names};
+ghost use Rattle.round_rewrite.specs.Writing.{carried, raised_bit, stop_testing, stopping};
+ghost use Rattle.round_rewrite.specs.Writing.{failing};
 
 use crate::block::{push, single};
-use crate::expression::{not, operation, variable};
-use crate::names::fixed;
+use crate::expression::{bit_of, not, operation, variable};
+use crate::names::{bit, fixed};
 use crate::writer::Writer;
 use std::alloc::{AllocError, Allocator};
 use trees::{Core, Expr, Name, Op, Rhs};
@@ -35,10 +36,7 @@ pub fn push_name<A: Allocator + Copy>(
 }
 
 /// Puts a right side behind others.
-pub fn push_side<A: Allocator>(
-    side: Rhs<A>,
-    into: Vec<Rhs<A>, A>,
-) -> Result<Vec<Rhs<A>, A>, AllocError>
+fn push_side<A: Allocator>(side: Rhs<A>, into: Vec<Rhs<A>, A>) -> Result<Vec<Rhs<A>, A>, AllocError>
     ensures { IfOk result (λ v. rhss_of v.items ≡ rhss_of into.items ++ rhs_of side ∷ []) }
 {
     let mut list = into;
@@ -104,34 +102,55 @@ pub fn checked<A: Allocator + Copy>(alloc: &A, side: Rhs<A>) -> Result<Core<A>, 
     Ok(Core::If(side, yes, no))
 }
 
-/// The variables of the round's number.
-pub fn round_names<A: Allocator + Copy>(alloc: &A) -> Result<Vec<Name<A>, A>, AllocError>
+/// Puts so many variables of the round's number behind others, the highest bit first.
+pub fn push_bits<A: Allocator + Copy>(
+    alloc: &A,
+    count: u8,
+    into: Vec<Name<A>, A>,
+) -> Result<Vec<Name<A>, A>, AllocError>
     ensures { IfOk result
-        (λ v. names_of v.items ≡ named (codes "rh__") ∷ named (codes "rl__") ∷ []) }
+        (λ v. names_of v.items ≡ names_of into.items ++ reverse (bit_names count)) }
 {
-    let high = push_name(alloc, "rh__", Vec::new(*alloc))?;
-    let names = push_name(alloc, "rl__", high)?;
-    Ok(names)
+    let mut list = into;
+    for number in (0..count).rev() {
+        list.push(bit(*alloc, number)?)?;
+    }
+    Ok(list)
 }
 
-/// The high bit of the next round's number.
-fn next_high<A: Allocator + Copy>(alloc: &A) -> Result<Expr<A>, AllocError>
-    ensures { IfOk result
-        (λ e. expr_of e ≡ two xor (var (named (codes "rh__"))) (var (named (codes "rl__")))) }
+/// What is carried out of the bits of the round's number up to this one where 1 is added.
+fn carry<A: Allocator + Copy>(alloc: &A, number: u8) -> Result<Expr<A>, AllocError>
+    ensures { IfOk result (λ e. expr_of e ≡ carried number) }
 {
-    let high = variable(alloc, "rh__")?;
-    let low = variable(alloc, "rl__")?;
-    let next = operation(alloc, Op::Xor, high, low)?;
-    Ok(next)
+    let bit = bit_of(alloc, number)?;
+    if number == 0 {
+        return Ok(bit);
+    }
+    let below = carry(alloc, number - 1)?;
+    operation(alloc, Op::And, bit, below)
 }
 
-/// The low bit of the next round's number.
-fn next_low<A: Allocator + Copy>(alloc: &A) -> Result<Expr<A>, AllocError>
-    ensures { IfOk result (λ e. expr_of e ≡ negation (var (named (codes "rl__")))) }
+/// A bit of the next round's number.
+fn next_bit<A: Allocator + Copy>(alloc: &A, number: u8) -> Result<Expr<A>, AllocError>
+    ensures { IfOk result (λ e. expr_of e ≡ raised_bit number) }
 {
-    let low = variable(alloc, "rl__")?;
-    let next = not(alloc, low)?;
-    Ok(next)
+    let bit = bit_of(alloc, number)?;
+    if number == 0 {
+        return not(alloc, bit);
+    }
+    let below = carry(alloc, number - 1)?;
+    operation(alloc, Op::Xor, bit, below)
+}
+
+/// So many bits of the next round's number, the highest bit first.
+fn next_bits<A: Allocator + Copy>(alloc: &A, count: u8) -> Result<Vec<Rhs<A>, A>, AllocError>
+    ensures { IfOk result (λ v. rhss_of v.items ≡ reverse (raised (bit_names count))) }
+{
+    let mut list = Vec::new(*alloc);
+    for number in (0..count).rev() {
+        list.push(Rhs::Value(next_bit(alloc, number)?))?;
+    }
+    Ok(list)
 }
 
 impl<'a, N: Allocator, A: Allocator + Copy> Writer<'a, N, A> {
@@ -141,14 +160,12 @@ impl<'a, N: Allocator, A: Allocator + Copy> Writer<'a, N, A> {
     fn next_round(&self) -> Result<Core<A>, AllocError>
         ensures { IfOk result (λ c. deed_of c
             ≡ simple
-            (assign (reverse (naming_of self.now).bits)
-            (reverse (raised (naming_of self.now).bits)))) }
+            (assign (reverse ((naming_of self.now).bits self.now.rounds.last))
+            (reverse (raised ((naming_of self.now).bits self.now.rounds.last))))) }
     {
-        let targets = round_names(self.alloc)?;
-        let high = Rhs::Value(next_high(self.alloc)?);
-        let side = push_side(high, Vec::new(*self.alloc))?;
-        let low = Rhs::Value(next_low(self.alloc)?);
-        let sides = push_side(low, side)?;
+        let bits = self.rounds.bits();
+        let targets = push_bits(self.alloc, bits, Vec::new(*self.alloc))?;
+        let sides = next_bits(self.alloc, bits)?;
         Ok(Core::Assign(targets, sides))
     }
 

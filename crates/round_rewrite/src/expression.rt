@@ -1,15 +1,15 @@
 //! What expressions are rewritten to.
 
-ghost use Rattle.std.specs.Prelude.{◌≡◌, ◌<◌, ◌^◌, IfOk, map};
+ghost use Rattle.std.specs.Prelude.{◌≡◌, ◌+◌, ◌<◌, ◌^◌, suc, IfOk, map};
 ghost use Rattle.language.specs.Resolve.{is_declared};
 ghost use Rattle.language.specs.Tree.{const, var, negation, two};
 ghost use Rattle.trees.specs.Trees.{name_of, operator_of, expr_of, exprs_of, rhs_of};
-ghost use Rattle.round_rewrite.specs.Table.{literal, in_round, joined, read, expression, side};
-ghost use Rattle.round_rewrite.specs.Table.{written};
-ghost use Rattle.round_rewrite.specs.Names.{named, copy_name, drawn_name};
+ghost use Rattle.round_rewrite.specs.Table.{numbers, literal, has_value, in_round, joined};
+ghost use Rattle.round_rewrite.specs.Table.{read, expression, side, written};
+ghost use Rattle.round_rewrite.specs.Names.{named, bit_name, copy_name, drawn_name};
 ghost use Rattle.round_rewrite.specs.Limits.{most_rounds};
 
-use crate::names::{again, copy, drawn, fixed};
+use crate::names::{again, bit, copy, drawn, fixed};
 use crate::writer::Writer;
 use std::alloc::{AllocError, Allocator};
 use trees::{Expr, Name, Op, Rhs, declares};
@@ -26,6 +26,13 @@ pub fn variable<A: Allocator + Copy>(alloc: &A, text: &str) -> Result<Expr<A>, A
     ensures { IfOk result (λ e. expr_of e ≡ var (named text.now)) }
 {
     Ok(Expr::Var(fixed(*alloc, text)?))
+}
+
+/// A read of a bit of the round's number, by its own number.
+pub fn bit_of<A: Allocator + Copy>(alloc: &A, number: u8) -> Result<Expr<A>, AllocError>
+    ensures { IfOk result (λ e. expr_of e ≡ var (bit_name number)) }
+{
+    Ok(Expr::Var(bit(*alloc, number)?))
 }
 
 /// A read of the copy of a global for a round.
@@ -69,12 +76,35 @@ pub fn operation<A: Allocator + Copy>(
     Ok(Expr::Two(op, left, right))
 }
 
-/// The variable where the bit is 1, its negation where it is 0.
-fn literal<A: Allocator + Copy>(alloc: &A, bit: u8, text: &str) -> Result<Expr<A>, AllocError>
-    ensures { IfOk result (λ e. expr_of e ≡ literal bit (named text.now)) }
+/// That a bit of the round's number has this value: itself where that is 1, its negation where it is 0.
+fn literal<A: Allocator + Copy>(alloc: &A, value: u8, number: u8) -> Result<Expr<A>, AllocError>
+    ensures { IfOk result (λ e. expr_of e ≡ literal value (bit_name number)) }
 {
-    let bare = variable(alloc, text)?;
-    if bit == 0 { not(alloc, bare) } else { Ok(bare) }
+    let bare = bit_of(alloc, number)?;
+    if value == 0 {
+        not(alloc, bare)
+    } else {
+        Ok(bare)
+    }
+}
+
+/// That the bits of the round's number from one on, and so many above it, have this value.
+fn has_value<A: Allocator + Copy>(
+    alloc: &A,
+    value: u8,
+    number: u8,
+    above: u8,
+) -> Result<Expr<A>, AllocError>
+    requires { number + above < 2 ^ 8 }
+    ensures { IfOk result
+        (λ e. expr_of e ≡ has_value value (map bit_name (numbers number (suc above)))) }
+{
+    if above == 0 {
+        return literal(alloc, value % 2, number);
+    }
+    let high = has_value(alloc, value / 2, number + 1, above - 1)?;
+    let low = literal(alloc, value % 2, number)?;
+    operation(alloc, Op::And, high, low)
 }
 
 impl<'a, N: Allocator, A: Allocator + Copy> Writer<'a, N, A> {
@@ -93,9 +123,7 @@ impl<'a, N: Allocator, A: Allocator + Copy> Writer<'a, N, A> {
         ensures { IfOk result
             (λ e. expr_of e ≡ in_round (naming_of self.now) self.now.rounds.last round) }
     {
-        let high = literal(self.alloc, round / 2 % 2, "rh__")?;
-        let low = literal(self.alloc, round % 2, "rl__")?;
-        operation(self.alloc, Op::And, high, low)
+        has_value(self.alloc, round, 0, self.rounds.bits() - 1)
     }
 
     /// The copy of a global for the round, where the round is this one.

@@ -5,7 +5,7 @@ ghost use Rattle.trees.specs.Trees.{names_of};
 ghost use Rattle.round_rewrite.specs.Table.{numbers, copied, globals};
 ghost use Rattle.round_rewrite.specs.Names.{names, copy_name, save_name};
 
-use crate::cores::push_name;
+use crate::cores::{push_bits, push_name};
 use crate::lists::{copies, saves};
 use crate::rounds::Rounds;
 use std::alloc::{AllocError, Allocator};
@@ -57,9 +57,8 @@ pub fn globals<N: Allocator, A: Allocator + Copy>(
 {
     let copied = all_copies(alloc, rounds, xs, Vec::new(*alloc))?;
     let saved = all_saves(alloc, rounds, xs, copied)?;
-    let high = push_name(alloc, "rh__", saved)?;
-    let low = push_name(alloc, "rl__", high)?;
-    let stop = push_name(alloc, "stop__", low)?;
+    let bits = push_bits(alloc, rounds.bits(), saved)?;
+    let stop = push_name(alloc, "stop__", bits)?;
     let all = push_name(alloc, "bad__", stop)?;
     Ok(all)
 }

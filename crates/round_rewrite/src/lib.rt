@@ -41,7 +41,7 @@ pub use rewriting::rewrite;
 pub use rounds::Rounds;
 pub use width::{Wide, too_wide};
 
-/// The rewriting theorem, over the names that are printed: for 1 to 4 rounds, a tree whose names are declared, and
+/// The rewriting theorem, over the names that are printed: for 1 to 8 rounds, a tree whose names are declared, and
 /// widths of at most 64, some run within the rounds fails an assert exactly where `main__` of the rewritten tree can
 /// end with `bad__` being 1.
 pub fn rewriting_keeps_failures()
@@ -57,12 +57,14 @@ pub fn rewriting_keeps_failures_of_resolved_programs()
         → KeepsFailures rounds p }
 {}
 
-/// Four programs are rewritten to exactly these texts, byte for byte: one thread that does nothing, for one round; one
-/// that sets a global to either value, for two; a program with each construct, for three; and one that calls for
-/// values, for two.
+/// Four programs are rewritten to exactly these texts, byte for byte: one thread that does nothing, for one round and
+/// for five; one that sets a global to either value, for two; a program with each construct, for three; and one that
+/// calls for values, for two.
 pub fn worked_programs_are_rewritten_to_these_texts()
     ensures skipping { printed worked.skipping ≡ worked.skipping_text }
     ensures one_round { printed (rewritten_for 1 worked.skipping) ≡ worked.skipping_in_one_round }
+    ensures five_rounds { printed (rewritten_for 5 worked.skipping)
+        ≡ worked.skipping_in_five_rounds }
     ensures drawing { printed worked.drawing_once ≡ worked.drawing_text }
     ensures two_rounds { printed (rewritten_for 2 worked.drawing_once)
         ≡ worked.drawing_in_two_rounds }

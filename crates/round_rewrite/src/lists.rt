@@ -1,12 +1,13 @@
 //! Lists of names and right sides, one for each name.
 
-ghost use Rattle.std.specs.Prelude.{◌≡◌, ◌++◌, ◌<◌, suc, decimal, IfOk, map};
-ghost use Rattle.language.specs.Tree.{any, var, value};
+ghost use Rattle.std.specs.Prelude.{◌≡◌, ◌++◌, ◌<◌, suc, decimal, false, IfOk, map};
+ghost use Rattle.language.specs.Tree.{any, const, var, value};
 ghost use Rattle.trees.specs.Trees.{names_of, rhss_of};
 ghost use Rattle.round_rewrite.specs.Table.{each};
 ghost use Rattle.round_rewrite.specs.Names.{named, copy_name, save_name};
 ghost use Rattle.round_rewrite.specs.Limits.{most_rounds};
 
+use crate::cores::constant;
 use crate::expression::copy_of;
 use crate::names::{again, numbered};
 use std::alloc::{AllocError, Allocator};
@@ -85,6 +86,20 @@ pub fn guessed<N: Allocator, A: Allocator>(
     let mut list = Vec::new(alloc);
     for _x in xs {
         list.push(Rhs::Any)?;
+    }
+    Ok(list)
+}
+
+/// A 0 for each name.
+pub fn zeros<N: Allocator, A: Allocator>(
+    alloc: A,
+    xs: &[Name<N>],
+) -> Result<Vec<Rhs<A>, A>, AllocError>
+    ensures { IfOk result (λ v. rhss_of v.items ≡ each (value (const false)) (names_of xs.now)) }
+{
+    let mut list = Vec::new(alloc);
+    for _x in xs {
+        list.push(constant(false))?;
     }
     Ok(list)
 }

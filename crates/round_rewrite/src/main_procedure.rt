@@ -1,17 +1,18 @@
 //! The first procedure of a rewritten program: guesses, threads and checks.
 
-ghost use Rattle.std.specs.Prelude.{◌≡◌, ◌<◌, ◌+◌, suc, false, [], ◌∷◌, IfOk, codes};
+ghost use Rattle.std.specs.Prelude.{◌≡◌, ◌<◌, ◌+◌, suc, false, [], IfOk};
 ghost use Rattle.language.specs.Tree.{equal, var, value, two, const, assign, assume, call};
 ghost use Rattle.trees.specs.Trees.{simple, name_of, names_of, threads_of, deed_of, block_of};
-ghost use Rattle.round_rewrite.specs.Table.{numbers, guess, guesses, starts, check, checks, main};
-ghost use Rattle.round_rewrite.specs.Names.{named, names, copy_name, save_name};
+ghost use Rattle.round_rewrite.specs.Table.{numbers, each, reset_targets, guess, guesses};
+ghost use Rattle.round_rewrite.specs.Table.{starts, check, checks, main};
+ghost use Rattle.round_rewrite.specs.Names.{names, copy_name, save_name};
 ghost use Rattle.round_rewrite.specs.Writing.{Lays, line_names};
 ghost use Rattle.round_rewrite.specs.Limits.{most_rounds};
 
 use crate::block::push;
-use crate::cores::{constant, push_name, push_side, round_names};
+use crate::cores::{push_bits, push_name};
 use crate::expression::{copy_of, operation, read_of};
-use crate::lists::{copies, guessed, reads, saves};
+use crate::lists::{copies, guessed, reads, saves, zeros};
 use crate::names::{again, save};
 use crate::rounds::Rounds;
 use std::alloc::{AllocError, Allocator};
@@ -58,31 +59,29 @@ fn guesses<N: Allocator, A: Allocator + Copy>(
 }
 
 /// That the round and `stop__` get 0.
-fn reset<A: Allocator + Copy>(alloc: &A) -> Result<Core<A>, AllocError>
+fn reset<A: Allocator + Copy>(alloc: &A, rounds: Rounds) -> Result<Core<A>, AllocError>
     ensures { IfOk result (λ c. deed_of c
-        ≡ simple (assign (named (codes "rh__") ∷ named (codes "rl__") ∷ named (codes "stop__") ∷ [])
-        (value (const false) ∷ value (const false) ∷ value (const false) ∷ []))) }
+        ≡ simple (assign (reset_targets (names []) rounds.last)
+        (each (value (const false)) (reset_targets (names []) rounds.last)))) }
 {
-    let names = round_names(alloc)?;
-    let targets = push_name(alloc, "stop__", names)?;
-    let first = push_side(constant(false), Vec::new(*alloc))?;
-    let second = push_side(constant(false), first)?;
-    let sides = push_side(constant(false), second)?;
+    let bits = push_bits(alloc, rounds.bits(), Vec::new(*alloc))?;
+    let targets = push_name(alloc, "stop__", bits)?;
+    let sides = zeros(*alloc, &targets)?;
     Ok(Core::Assign(targets, sides))
 }
 
 /// Puts the threads, one after the other, behind others.
 fn starts<N: Allocator, A: Allocator + Copy>(
     alloc: &A,
-    last: u8,
+    rounds: Rounds,
     threads: &[Thread<N>],
     into: &mut Vec<Stmt<A>, A>,
 ) -> Result<(), AllocError>
     ensures { IfOk result (λ _. Lays into.old.items into.new.items
-        (λ k. starts (names []) last (line_names (threads_of threads.now)) k)) }
+        (λ k. starts (names []) rounds.last (line_names (threads_of threads.now)) k)) }
 {
     for thread in threads {
-        push(reset(alloc)?, into)?;
+        push(reset(alloc, rounds)?, into)?;
         let name = again(*alloc, &thread.name)?;
         push(Core::Call(name, Vec::new(*alloc)), into)?;
     }
@@ -95,7 +94,7 @@ fn agrees<N: Allocator, A: Allocator + Copy>(
     round: u8,
     x: &Name<N>,
 ) -> Result<Core<A>, AllocError>
-    requires { round < 3 }
+    requires { round + 1 < most_rounds }
     ensures { IfOk result (λ c. deed_of c
         ≡ simple (assume (value (two equal (var (save_name (suc round) (name_of x.now)))
         (var (copy_name round (name_of x.now))))))) }
@@ -115,7 +114,7 @@ fn check<N: Allocator, A: Allocator + Copy>(
     xs: &[Name<N>],
     into: &mut Vec<Stmt<A>, A>,
 ) -> Result<(), AllocError>
-    requires { round < 3 }
+    requires { round + 1 < most_rounds }
     ensures { IfOk result
         (λ _.
         Lays into.old.items into.new.items (λ k. check (names []) last (names_of xs.now) round k)) }
@@ -154,7 +153,7 @@ pub fn main_body<N: Allocator, A: Allocator + Copy>(
 {
     let mut body = Vec::new(*alloc);
     guesses(alloc, rounds, xs, &mut body)?;
-    starts(alloc, rounds.last, threads, &mut body)?;
+    starts(alloc, rounds, threads, &mut body)?;
     checks(alloc, rounds, xs, &mut body)?;
     Ok(body)
 }

@@ -2,7 +2,8 @@
 
 ghost use Rattle.std.specs.Prelude.{◌≡◌, ◌<◌, ◌++◌, ◌^◌, suc, decimal, IfOk};
 ghost use Rattle.trees.specs.Trees.{name_of};
-ghost use Rattle.round_rewrite.specs.Names.{named, copy_name, save_name, drawn_name};
+ghost use Rattle.round_rewrite.specs.Names.{named, bit_name, copy_name, save_name};
+ghost use Rattle.round_rewrite.specs.Names.{drawn_name};
 ghost use Rattle.round_rewrite.specs.Limits.{most_rounds};
 
 use std::alloc::{AllocError, Allocator};
@@ -14,6 +15,17 @@ pub fn fixed<A: Allocator>(alloc: A, text: &str) -> Result<Name<A>, AllocError>
 {
     let text = String::from_str(alloc, text)?;
     Ok(Name { text, at: 0 })
+}
+
+/// The name of a bit of the round's number, by its own number, where the low bit is 0.
+pub fn bit<A: Allocator>(alloc: A, number: u8) -> Result<Name<A>, AllocError>
+    ensures { IfOk result (λ n. name_of n ≡ bit_name number) }
+{
+    match number {
+        0 => fixed(alloc, "rl__"),
+        1 => fixed(alloc, "rh__"),
+        _ => fixed(alloc, "rt__"),
+    }
 }
 
 /// The name once more.

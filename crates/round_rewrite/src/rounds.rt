@@ -1,11 +1,11 @@
 //! Numbers of rounds.
 
 ghost use Rattle.std.specs.Prelude.{◌≡◌, ◌<◌, ◌≤◌, IfSome, IsSome, ◌↔◌};
-ghost use Rattle.round_rewrite.specs.Limits.{most_rounds};
+ghost use Rattle.round_rewrite.specs.Limits.{most_rounds, round_bits};
 
 use crate::limits::MOST_ROUNDS;
 
-/// A number of rounds, from 1 to 4.
+/// A number of rounds, from 1 to `MOST_ROUNDS`.
 #[derive(Clone, Copy, Debug, PartialEq, Eq)]
 pub struct Rounds {
     /// The last round, counted from 0.
@@ -16,7 +16,7 @@ pub struct Rounds {
 impl Rounds {
     ghost use Rattle.round_rewrite.specs.Programs.{count_of};
 
-    /// So many rounds; `None` where there are none, or more than 4.
+    /// So many rounds; `None` where there are none, or more than `MOST_ROUNDS`.
     pub fn new(rounds: u8) -> Option<Rounds>
         ensures some { IsSome result ↔ (1 ≤ rounds) × (rounds ≤ most_rounds) }
         ensures count { IfSome result (λ r. count_of r ≡ rounds) }
@@ -34,5 +34,13 @@ impl Rounds {
         ensures range { (1 ≤ result) × (result ≤ most_rounds) }
     {
         self.last + 1
+    }
+
+    /// How many bits the number of a round takes: two for up to four rounds, three for more.
+    pub(crate) fn bits(self) -> u8
+        ensures count { result ≡ round_bits self.last }
+        ensures range { (1 ≤ result) × (result ≤ 3) }
+    {
+        if self.last < 4 { 2 } else { 3 }
     }
 }

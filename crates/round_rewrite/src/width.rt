@@ -28,10 +28,10 @@ pub struct Wide {
 /// How many globals the rewritten program has.
 fn global_count(rounds: Rounds, globals: usize) -> u128
     ensures count { result ≡ global_count globals rounds.last }
-    ensures few { result ≤ (2 * most_rounds - 1) * (2 ^ 64 - 1) + 4 }
+    ensures few { result ≤ (2 * most_rounds - 1) * (2 ^ 64 - 1) + 5 }
 {
     let last = rounds.last as u128;
-    (2 * last + 1) * (globals as u128) + 4
+    (2 * last + 1) * (globals as u128) + (rounds.bits() as u128 + 2)
 }
 
 /// How many places a procedure has when it is rewritten, in a program of so many globals.

@@ -12,6 +12,10 @@ pub returns-clause-one_round : goal.returns-clause-one_round
 unfolding printed text
 returns-clause-one_round c = refl
 
+pub returns-clause-five_rounds : goal.returns-clause-five_rounds
+unfolding printed text
+returns-clause-five_rounds c = refl
+
 pub returns-clause-drawing : goal.returns-clause-drawing
 unfolding printed text
 returns-clause-drawing c = refl

@@ -1,8 +1,8 @@
-use Rattle.std.proofs.Common.{suc, ◌∙◌, ap, [], ◌∷◌, ◌++◌, codes}
+use Rattle.std.proofs.Common.{suc, ◌∙◌, ap, [], ◌∷◌, ◌++◌, reverse, codes, append_assoc}
 use Rattle.trees.specs.Trees.{names_of}
+use Rattle.round_rewrite.specs.Limits.{round_bits}
 use Rattle.round_rewrite.specs.Table.{numbers, copied}
-use Rattle.round_rewrite.specs.Names.{named, names, copy_name, save_name}
-use Rattle.round_rewrite.proofs.Copied.{gathered}
+use Rattle.round_rewrite.specs.Names.{named, bit_names, names, copy_name, save_name}
 use Rattle.round_rewrite.proofs.globals.globals.Goals as goal
 
 pub returns : goal.returns
@@ -13,8 +13,9 @@ returns g c =
     let second = copied (names []) last save_name xs (numbers 1 last) in
     let copied = c.in_ok-copied.ensures ∙ ap (λ ns. names_of ns ++ first) c.new.ensures.items in
     let saved = c.in_ok-saved.ensures ∙ ap (λ ns. ns ++ second) copied in
-    let high = c.in_ok-high.ensures ∙ ap (λ ns. ns ++ named (codes "rh__") ∷ []) saved in
-    let low = c.in_ok-low.ensures ∙ ap (λ ns. ns ++ named (codes "rl__") ∷ []) high in
-    let stop = c.in_ok-stop.ensures ∙ ap (λ ns. ns ++ named (codes "stop__") ∷ []) low in
+    let bits = c.in_ok-bits.ensures ∙ (λ i. saved i ++ reverse (bit_names (c.bits.ensures.count i))) in
+    let stop = c.in_ok-stop.ensures ∙ ap (λ ns. ns ++ named (codes "stop__") ∷ []) bits in
     let bad = c.in_ok-all.ensures ∙ ap (λ ns. ns ++ named (codes "bad__") ∷ []) stop in
-    bad ∙ gathered first second (named (codes "rh__")) (named (codes "rl__")) (named (codes "stop__")) (named (codes "bad__"))
+    bad
+    ∙ append_assoc (first ++ second ++ reverse (bit_names (round_bits last))) (named (codes "stop__") ∷ [])
+    (named (codes "bad__") ∷ [])

@@ -1,14 +1,16 @@
-use Rattle.std.proofs.Common.{◌∙◌, ap, [], ◌∷◌, ◌++◌, codes}
-use Rattle.language.specs.Tree.{assign}
-use Rattle.trees.specs.Trees.{simple, rhss_of}
-use Rattle.round_rewrite.specs.Names.{named}
+use Rattle.std.proofs.Common.{false, ◌∙◌, ap, [], ◌∷◌, ◌++◌, reverse, codes}
+use Rattle.language.specs.Tree.{const, value, assign}
+use Rattle.trees.specs.Trees.{simple, names_of}
+use Rattle.round_rewrite.specs.Table.{each}
+use Rattle.round_rewrite.specs.Names.{named, bit_names}
 use Rattle.trees.proofs.Folds.{deed_of-Assign}
 use Rattle.round_rewrite.proofs.main_procedure.reset.Goals as goal
 
 pub returns : goal.returns
 returns g c =
-    let targets = c.in_ok-targets.ensures ∙ ap (λ ns. ns ++ named (codes "stop__") ∷ []) c.in_ok-names.ensures in
-    let first = c.in_ok-first.ensures ∙ (λ i. rhss_of (c.new.ensures.items i) ++ c.constant.ensures i ∷ []) in
-    let second = c.in_ok-second.ensures ∙ (λ i. first i ++ c.constant-2.ensures i ∷ []) in
-    let sides = c.in_ok-sides.ensures ∙ (λ i. second i ++ c.constant-3.ensures i ∷ []) in
+    let bits = c.in_ok-bits.ensures
+    ∙ (λ i. names_of (c.new.ensures.items i) ++ reverse (bit_names (c.bits.ensures.count i))) in
+    let targets = c.in_ok-targets.ensures ∙ ap (λ ns. ns ++ named (codes "stop__") ∷ []) bits in
+    let sides = c.in_ok-sides.ensures ∙ (ap (λ ns. each (value (const false)) (names_of ns)) c.deref.ensures.value
+    ∙ ap (each (value (const false))) targets) in
     deed_of-Assign _ _ ∙ (λ i. simple (assign (targets i) (sides i)))

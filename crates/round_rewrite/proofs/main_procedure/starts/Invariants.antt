@@ -8,6 +8,6 @@ use Rattle.round_rewrite.proofs.main_procedure.starts.Given as goal
 
 abbrev pub invariant-loop-thread : goal.invariant-loop-thread
 invariant-loop-thread g l =
-    (rest : TextBlock) → all_before (items_of l.into.items) (starts (names []) l.last
+    (rest : TextBlock) → all_before (items_of l.into.items) (starts (names []) l.rounds.last
     (line_names (threads_of (drop l.thread-index l.threads))) rest)
-    ≡ all_before (items_of l.initial.into.items) (starts (names []) l.last (line_names (threads_of l.threads)) rest)
+    ≡ all_before (items_of l.initial.into.items) (starts (names []) l.rounds.last (line_names (threads_of l.threads)) rest)

@@ -1,12 +1,8 @@
-use Rattle.std.proofs.Common.{◌+◌, ◌*◌, ◌<◌, max, ◌∙◌, ap, arith}
-use Rattle.language.specs.Sequential.{statements}
-use Rattle.trees.specs.Trees.{deed_of, block_of}
+use Rattle.std.proofs.Common.{max, ◌∙◌, ap, arith}
 use Rattle.round_rewrite.specs.Table.{temporaries}
 use Rattle.round_rewrite.specs.Writing.{naming_of}
-use Rattle.trees.proofs.Held.{held, smaller}
+use Rattle.trees.proofs.Held.{smaller}
 use Rattle.round_rewrite.proofs.Needing.{one_more, no_more}
-use Rattle.trees.proofs.Folds.{deed_of-Skip, deed_of-Return, deed_of-Goto, deed_of-Assert, deed_of-Assume, deed_of-Assign, deed_of-Call}
-use Rattle.trees.proofs.Folds.{deed_of-If, deed_of-While}
 use Rattle.round_rewrite.proofs.writer.Writer.+needs.Goals as goal
 
 pub needs-needs_of-requires : goal.needs-needs_of-requires

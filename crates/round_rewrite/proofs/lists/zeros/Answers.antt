@@ -1,0 +1,18 @@
+use Rattle.std.proofs.Common.{false, ◌∙◌, ap, ◌++◌, ◌+◌, map, drop}
+use Rattle.language.specs.Tree.{const, value}
+use Rattle.trees.specs.Trees.{name_of, names_of, rhs_of, rhss_of}
+use Rattle.round_rewrite.proofs.Pushed.{one_through, all_through}
+use Rattle.round_rewrite.proofs.lists.zeros.Goals as goal
+
+pub loop-x-preserved : goal.loop-x-preserved
+loop-x-preserved g c =
+    ap (λ l. rhss_of l ++ map (λ w. value (const false)) (names_of (drop (c.loop-x._x-index + 1) c.args.xs.now)))
+    c.in_ok-push.ensures.items
+    ∙ one_through rhs_of
+    (λ w. value (const false)) name_of c.loop-x.list.items _ c.args.xs.now c.loop-x._x-index c._x-item.result _ c.loop-x-test.true
+    c._x-item.is c.constant.ensures c.loop-x.invariant
+
+pub returns : goal.returns
+returns g c =
+    all_through rhs_of (λ w. value (const false)) name_of c.loop-x.list.items c.args.xs.now c.loop-x._x-index _ c.loop-x-test.false
+    c.loop-x.invariant
