@@ -1,4 +1,4 @@
-use Rattle.std.proofs.Common.{◌≡◌, Some, slice_get, ap, ◌∙◌}
+use Rattle.std.proofs.Common.{Some, slice_get, ap, ◌∙◌}
 use Rattle.indexmap.specs.IndexMap.{keys}
 use Rattle.path_sets.proofs.Gathering.{next_cell}
 use Rattle.path_sets.proofs.gathered.cells_of.Goals as goal
