@@ -31,6 +31,7 @@ use Rattle.clap.specs.declared.builder.value_parser.ValueParser.TheVariants.{Boo
 use Rattle.clap.proofs.ValueTestLemmas.{accepts-Accepts}
 use Rattle.round_rewrite.specs.declared.rounds.Rounds.{Rounds}
 use Rattle.path_sets.specs.declared.edge_limit.EdgeLimit.{EdgeLimit}
+use Rattle.round_rewrite.specs.Limits.{most_rounds}
 use Rattle.round_rewrite.specs.Programs.{count_of}
 use Rattle.path_sets.specs.EdgeLimits.{most_of}
 use Rattle.path_sets.specs.Limits.{most_edges}
@@ -199,8 +200,8 @@ ready = refl
 abbrev rule : Shape → ℕ → Rule
 rule s i = slice_index_or s.rules i file
 
--- a number from 1 to 4 is a number of rounds, and one from 1 to the greatest limit a limit
-as_rounds : (n : ℕ) → 1 ≤ n → n ≤ 4 → (r : Rounds) × (n ≡ count_of r)
+-- a number from 1 to the greatest is a number of rounds, and one from 1 to the greatest limit a limit
+as_rounds : (n : ℕ) → 1 ≤ n → n ≤ most_rounds → (r : Rounds) × (n ≡ count_of r)
 as_rounds zero low high = absurd (omega arith)
 as_rounds (suc k) low high = (record { last = k; few = omega arith }, refl)
 
@@ -270,7 +271,7 @@ check_rows rows fit fault =
     let first = with_default rows (rule check_ready 0) in
     let second = with_default first (rule check_ready 1) in
     let third = with_default second (rule check_ready 2) in
-    let k = number_read c all (codes "rounds") (rule check_ready 0) 4 fit refl refl
+    let k = number_read c all (codes "rounds") (rule check_ready 0) most_rounds fit refl refl
     (kept_by_defaults (codes "rounds") (drop 1 c) first (defaulted rows (rule check_ready 0) (lit< tt))) in
     let n = number_read c all (codes "edges") (rule check_ready 1) most_edges fit refl refl
     (kept_by_defaults (codes "edges") (drop 2 c) second (defaulted first (rule check_ready 1) (lit< tt))) in
@@ -301,7 +302,7 @@ sequential_rows rows fit fault =
     let c = sequential_ready.rules in
     let all = fold with_default rows c in
     let given = wants_both (is_given (codes "rounds") all) (is_given (codes "file") all) fault in
-    let k = number_read c all (codes "rounds") (rule sequential_ready 0) 4 fit refl refl
+    let k = number_read c all (codes "rounds") (rule sequential_ready 0) most_rounds fit refl refl
     (given_row (codes "rounds") all given.0) in
     let path = row_read c all (codes "file") (rule sequential_ready 1) fit refl (given_row (codes "file") all given.1)
     in

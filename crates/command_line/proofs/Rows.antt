@@ -37,17 +37,17 @@ behind : (fault_of bebopk all_behind ≡ [])
 unfolding clap_on_literals
 behind = (refl, refl)
 
--- sequential --rounds 4 a.bp
-rewriting : (fault_of bebopk (sequential (codes "--rounds" ∷ codes "4" ∷ codes "a.bp" ∷ [])) ≡ [])
-    × (found (sequential (codes "--rounds" ∷ codes "4" ∷ codes "a.bp" ∷ []))
-    ≡ Some (codes "sequential", Some (codes "4"), None, None, Some (codes "a.bp")))
+-- sequential --rounds 8 a.bp
+rewriting : (fault_of bebopk (sequential (codes "--rounds" ∷ codes "8" ∷ codes "a.bp" ∷ [])) ≡ [])
+    × (found (sequential (codes "--rounds" ∷ codes "8" ∷ codes "a.bp" ∷ []))
+    ≡ Some (codes "sequential", Some (codes "8"), None, None, Some (codes "a.bp")))
 unfolding clap_on_literals
 rewriting = (refl, refl)
 
--- check --rounds 5 a.bp
-five : fault_of bebopk (check (codes "--rounds" ∷ codes "5" ∷ codes "a.bp" ∷ [])) ≡ kind.ValueValidation ∷ []
+-- check --rounds 9 a.bp
+nine : fault_of bebopk (check (codes "--rounds" ∷ codes "9" ∷ codes "a.bp" ∷ [])) ≡ kind.ValueValidation ∷ []
 unfolding clap_on_literals
-five = refl
+nine = refl
 
 -- sequential a.bp
 no_rounds : fault_of bebopk (sequential (codes "a.bp" ∷ [])) ≡ kind.MissingRequiredArgument ∷ []

@@ -49,7 +49,7 @@ fn rounds<'a>(alloc: Global) -> Arg<'a>
     ensures local { result.global ≡ false }
 {
     let parser = value_parser!(u8).range(1..=MOST_ROUNDS as i64);
-    option(alloc, "rounds", "K", "How many rounds: 1 to 4", parser)
+    option(alloc, "rounds", "K", "How many rounds: 1 to 8", parser)
 }
 
 /// The option `--edges`.
