@@ -51,11 +51,11 @@ first_item rest = if length (first_word rest) == 0 then sign_or_number rest else
 abbrev pub of_name : List ℕ → List ℕ → List ℕ
 of_name what rest = quoted (first_word rest) ++ what
 
--- how many places a procedure needs for how many rounds
-abbrev pub needs : ℕ → ℕ → List ℕ
-needs places rounds =
-    codes " needs " ++ (decimal places
-    ++ (codes " places with --rounds " ++ (decimal rounds ++ codes ", and 64 is the limit\n")))
+-- how many places a procedure needs for how many rounds, and how many it may have
+abbrev pub needs : ℕ → ℕ → ℕ → List ℕ
+needs places rounds most =
+    codes " needs " ++ (decimal places ++ (codes " places with --rounds " ++ (decimal rounds
+    ++ (codes ", and " ++ (decimal most ++ codes " is the limit\n")))))
 
 -- that the text does not go on there as a program does
 abbrev pub unexpected : List ℕ → List ℕ
@@ -68,7 +68,7 @@ foreign rest = first_item rest ++ codes " is not ASCII\n"
 -- what is told of a fault where the rest of a line begins
 abbrev pub of_fault : Wrong → List ℕ → List ℕ
 of_fault (Word what) = of_name what.now
-of_fault (Wide places rounds) = of_name (needs places rounds)
+of_fault (Wide places rounds most) = of_name (needs places rounds most)
 of_fault Unexpected = unexpected
 of_fault NotAscii = foreign
 

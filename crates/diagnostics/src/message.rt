@@ -23,8 +23,8 @@ const NAME: usize = 40;
 pub enum Wrong<'a> {
     /// The word there: what is told behind it.
     Word(&'a str),
-    /// The procedure whose name stands there: how many places it needs with how many rounds.
-    Wide(u128, u8),
+    /// The procedure whose name stands there: how many places it needs with how many rounds, and how many it may have.
+    Wide(u128, u8, usize),
     /// The text does not go on there as a program does.
     Unexpected,
     /// The byte there is not ASCII.
@@ -190,13 +190,14 @@ fn push_width<A: Allocator>(
     message: &mut String<A>,
     places: u128,
     rounds: u8,
+    most: usize,
 ) -> Result<(), AllocError>
     ensures { OnOk result
-        (string_bytes message.new ≡ string_bytes message.old ++ told.needs places rounds) }
+        (string_bytes message.new ≡ string_bytes message.old ++ told.needs places rounds most) }
 {
     write!(
         message,
-        " needs {places} places with --rounds {rounds}, and 64 is the limit\n"
+        " needs {places} places with --rounds {rounds}, and {most} is the limit\n"
     )
 }
 
@@ -248,9 +249,9 @@ fn push_wrong<A: Allocator>(
             push_name(message, first_word(rest))?;
             push(message, what)
         }
-        Wrong::Wide(places, rounds) => {
+        Wrong::Wide(places, rounds, most) => {
             push_name(message, first_word(rest))?;
-            push_width(message, places, rounds)
+            push_width(message, places, rounds, most)
         }
         Wrong::Unexpected => {
             push(message, "unexpected ")?;

@@ -5,6 +5,7 @@ use Rattle.syntax.specs.declared.fault.ReadFault.{ReadFault}
 use Rattle.syntax.specs.declared.fault.ReadFault.TheVariants as read
 use Rattle.scopes.specs.declared.fault.ScopeFault.{ScopeFault}
 use Rattle.scopes.specs.declared.fault.ScopeFault.TheVariants as scope
+use Rattle.resolved.specs.Limits.{most_places}
 use Rattle.diagnostics.specs.Message.{Locates, LocatesForeign, needs, of_name, unexpected}
 use Rattle.path_sets.specs.EdgeLimits.{most_of}
 use Rattle.path_sets.specs.Limits.{most_edges}
@@ -54,7 +55,8 @@ edge_line path (Sequential rounds) = []
 -- the line of a program that is too wide in some procedure
 abbrev pub wide_line : List ℕ → ℕ → List ℕ
 wide_line path rounds =
-    path ++ (codes ": some procedure needs more than 64 places with --rounds " ++ (decimal rounds ++ codes "\n"))
+    path ++ (codes ": some procedure needs more than " ++ (decimal most_places
+    ++ (codes " places with --rounds " ++ (decimal rounds ++ codes "\n"))))
 
 -- The message goes on from the old one with what is told of the refusal: at a place, which is the text's end where the
 -- offset is past it, or in a line about the file.
@@ -65,7 +67,7 @@ Explains path text order (Unchecked fault) old new =
     (λ t. Locates path text (min (length text) t.0) (of_name t.1) old new)
 Explains path text order (TooWide wide) old new =
     MatchOption wide (new ≡ old ++ wide_line path (rounds_of order))
-    (λ w. Locates path text (min (length text) w.at) (of_name (needs w.places (rounds_of order))) old new)
+    (λ w. Locates path text (min (length text) w.at) (of_name (needs w.places (rounds_of order) most_places)) old new)
 Explains path text order EdgeLimit old new = new ≡ old ++ edge_line path order
 Explains path text order Memory old new = new ≡ old ++ no_memory
 Explains path text order NoWorker old new =

@@ -11,6 +11,7 @@ use crate::refusal::Refusal;
 use diagnostics::{Wrong, at_offset, not_ascii};
 use orders::Order;
 use path_sets::MOST_EDGES;
+use resolved::MOST_PLACES;
 use round_rewrite::Wide;
 use scopes::ScopeFault;
 use std::alloc::{AllocError, Allocator};
@@ -132,11 +133,11 @@ fn too_wide<A: Allocator>(
             path,
             text,
             wide.at,
-            Wrong::Wide(wide.places, rounds),
+            Wrong::Wide(wide.places, rounds, MOST_PLACES),
         ),
         None => write!(
             message,
-            "{path}: some procedure needs more than 64 places with --rounds {rounds}\n"
+            "{path}: some procedure needs more than {MOST_PLACES} places with --rounds {rounds}\n"
         ),
     }
 }

@@ -4,7 +4,7 @@ ghost use Rattle.std.specs.Prelude.{◌≡◌, ◌<◌, ◌↔◌, length, slice
 ghost use Rattle.flow_graph.specs.Bits.{bit_of};
 
 use crate::pair::Pair;
-use language::Word;
+use language::{WORD_BITS, Word};
 use std::alloc::Allocator;
 use std::marker::Model;
 
@@ -38,11 +38,11 @@ impl<A: Allocator> Model for Summaries<A> {
     ghost view = { λ s. record { procedures = s.procedures.items; bad = s.bad } };
 }
 
-/// Whether a bit of a valuation is 1. A valuation has 64 bits.
+/// Whether a bit of a valuation is 1.
 fn has_bit(values: Word, bit: usize) -> bool
     ensures { result ≡ bit_of values bit }
 {
-    bit < 64 && values >> bit & 1 == 1
+    bit < WORD_BITS as usize && values >> bit & 1 == 1
 }
 
 impl<A: Allocator> Summaries<A> {
