@@ -34,7 +34,7 @@ are due for it. main__ is the first; the others are those of the text in order.
 Limits: a text has at most 65536 bytes, 31 procedures, 8 threads and 1000 statements.
 In the sequential program for K rounds, which has 2K - 1 places for each global and 4 more
 (5 from five rounds on), globals, formals, locals, temporaries and the result of a procedure
-are at most 64.
+are at most 128.
 
 Example: bebopk check --rounds 2 examples/driver_two_rounds.bp";
 

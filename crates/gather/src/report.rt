@@ -93,7 +93,7 @@ where
 /// limit. It is rewritten into a sequential program, whose procedures have a worker each, in a thread of its own, over
 /// a board of the type `B`; the path edges are kept in sets of the type `S`. The board and its histories are in memory
 /// of `heap`, tables and summaries in that of `alloc`. The gate is told of each take and post. `TooWide` is answered
-/// exactly where some procedure of the rewriting has more than 64 places, `EdgeLimit` only where some procedure has
+/// exactly where some procedure of the rewriting has more than 128 places, `EdgeLimit` only where some procedure has
 /// more path edges than the limit. Of several causes the one that `NoVerdict` lists first is answered.
 ///
 /// A worker has a thread only where `hire` says that it may; where it says no, or the system refuses a thread, that

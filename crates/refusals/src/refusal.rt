@@ -11,7 +11,7 @@ pub enum Refusal {
     Unread(ReadFault),
     /// A fault of scopes stands in it.
     Unchecked(ScopeFault),
-    /// Some procedure of the rewritten program has more than 64 places; here the first one of the source.
+    /// Some procedure of the rewritten program has more than 128 places; here the first one of the source.
     TooWide(Option<Wide>),
     /// Some procedure of the rewritten program has more path edges than the limit.
     EdgeLimit,

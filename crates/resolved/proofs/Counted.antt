@@ -51,7 +51,7 @@ width_counted program p =
     three : (a b c n : ℕ) → a + b ≡ n → a + (b + c) ≡ n + c
     three a b c n e = omega (arith, e)
 
--- it is at most 64 in a narrow program
+-- it is at most 128 in a narrow program
 pub places_few : {A : Type 0} (program : Program A) (i : ℕ) (p : Proc A) → i < length program.procs.items →
     p ≡ get_or program.procs.items i p → AllNarrow (tree_of program) →
     (length program.globals.items + (length p.formals.items + length p.locals.items)) + cond (gives_value (block_of p.body.items)) 1 0

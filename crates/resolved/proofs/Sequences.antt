@@ -131,7 +131,7 @@ procedure_at t q r e = go t.procedures q e
     go (x ∷ ps) zero e = (x, refl, sym (same_Some (sequential_routine t x) r e))
     go (x ∷ ps) (suc q) e = go ps q e
 
--- in a narrow tree the globals and what a frame of each procedure has are at most 64
+-- in a narrow tree the globals and what a frame of each procedure has are at most 128
 pub narrow_places : (t : Tree) → AllNarrow t → (q : ℕ) (r : Routine) → slice_get (sequential_of t).routines q ≡ Some r →
     (sequential_of t).globals + frame_size r ≤ most_places
 narrow_places t narrow q r e =

@@ -17,7 +17,7 @@ EachProcedure P (procedure ∷ procedures) = P procedure × EachProcedure P proc
 abbrev pub width : Tree → Procedure → ℕ
 width tree procedure = length tree.globals + frame_size (routine_of tree procedure)
 
--- every procedure of the tree has at most 64 places
+-- every procedure of the tree has at most 128 places
 abbrev pub AllNarrow : Tree → Type 0
 AllNarrow tree = EachProcedure (λ (p : Procedure). width tree p ≤ most_places) tree.procedures
 

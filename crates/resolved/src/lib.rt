@@ -30,7 +30,7 @@ pub fn calls_of_resolving_trees_fit()
     ensures { (t : Tree) → Resolves t → ArgumentsFit (sequential_of t) }
 {}
 
-/// In a tree whose procedures have at most 64 places each, as a sequential program, each valuation has at most 64
+/// In a tree whose procedures have at most 128 places each, as a sequential program, each valuation has at most 128
 /// values.
 pub fn narrow_trees_have_narrow_valuations()
     ensures { (t : Tree) → AllNarrow t → (q : ℕ) (routine : Routine)

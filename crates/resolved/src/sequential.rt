@@ -13,7 +13,7 @@ use trees::{Program, give_value};
 /// A sequential program that a checked program was rewritten to. Its procedure 0 is `main__`; the others follow in the
 /// order of the source, from 1. What it carries: its tree resolves, so each variable has its place, each call a
 /// procedure with as many formals as it has arguments, each `goto` a rest, and each target a right side; each procedure
-/// has at most 64 places; and there are 1 to 32 procedures.
+/// has at most 128 places; and there are 1 to 32 procedures.
 #[derive(Drop)]
 pub struct Sequential<A: Allocator> {
     pub program: Program<A>,

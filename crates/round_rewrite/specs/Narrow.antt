@@ -7,11 +7,11 @@ use Rattle.round_rewrite.specs.Names.{rewritten_for, rewritten_procedure, rewrit
 use Rattle.resolved.specs.Limits.{most_places}
 use Rattle.round_rewrite.specs.declared.width.Wide.{Wide}
 
--- every procedure of the rewritten tree has at most 64 places, where rounds count from 0 to `last`
+-- every procedure of the rewritten tree has at most 128 places, where rounds count from 0 to `last`
 abbrev pub IsNarrow : ℕ → Tree → Type 0
 IsNarrow last tree = AllNarrow (rewritten_tree last tree)
 
--- every procedure of the tree rewritten for so many rounds has at most 64 places
+-- every procedure of the tree rewritten for so many rounds has at most 128 places
 abbrev pub IsNarrowFor : ℕ → Tree → Type 0
 IsNarrowFor rounds tree = AllNarrow (rewritten_for rounds tree)
 
@@ -19,12 +19,12 @@ IsNarrowFor rounds tree = AllNarrow (rewritten_for rounds tree)
 abbrev pub rewritten_width : ℕ → Tree → Procedure → ℕ
 rewritten_width last tree procedure = width (rewritten_tree last tree) (rewritten_procedure last procedure)
 
--- each of these procedures has at most 64 places in the rewritten tree
+-- each of these procedures has at most 128 places in the rewritten tree
 abbrev pub AreNarrow : ℕ → Tree → List Procedure → Type 0
 AreNarrow last tree = EachProcedure (λ (p : Procedure). rewritten_width last tree p ≤ most_places)
 
--- The first procedure of the source that has more than 64 places in the rewritten tree, with the offset of its name and
--- its places; none where all have at most 64.
+-- The first procedure of the source that has more than 128 places in the rewritten tree, with the offset of its name and
+-- its places; none where all have at most 128.
 abbrev pub IsFirstWide : ℕ → Tree → Option Wide → Type 0
 IsFirstWide last tree None = AreNarrow last tree tree.procedures
 IsFirstWide last tree (Some wide) =

@@ -6,7 +6,7 @@ use thiserror::Error;
 /// Why a program is not rewritten.
 #[derive(Debug, Drop, Error)]
 pub enum RewriteFault {
-    /// Some procedure of the rewritten program has more than 64 places: globals, formals, locals,
+    /// Some procedure of the rewritten program has more than 128 places: globals, formals, locals,
     /// temporaries and the result.
     #[error("14 too wide")]
     TooWide,

@@ -42,7 +42,7 @@ pub use rounds::Rounds;
 pub use width::{Wide, too_wide};
 
 /// The rewriting theorem, over the names that are printed: for 1 to 8 rounds, a tree whose names are declared, and
-/// widths of at most 64, some run within the rounds fails an assert exactly where `main__` of the rewritten tree can
+/// widths of at most 128, some run within the rounds fails an assert exactly where `main__` of the rewritten tree can
 /// end with `bad__` being 1.
 pub fn rewriting_keeps_failures()
     ensures { (t : Tree) (rounds : ℕ) → IsRewritable t → IsNarrowFor rounds t → 1 ≤ rounds

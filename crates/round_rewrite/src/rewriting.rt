@@ -52,7 +52,7 @@ fn written<N: Allocator, A: Allocator + Copy>(
 }
 
 /// Rewrites a checked program for a number of rounds into a sequential program. `TooWide` comes exactly where some
-/// procedure of it has more than 64 places, and takes no memory; `Memory` where a growth was refused.
+/// procedure of it has more than 128 places, and takes no memory; `Memory` where a growth was refused.
 pub fn rewrite<N: Allocator, A: Allocator + Copy>(
     alloc: &A,
     checked: &Checked<N>,

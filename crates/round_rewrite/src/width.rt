@@ -21,7 +21,7 @@ use trees::{Proc, Program, give_value};
 pub struct Wide {
     /// The offset of its name in the text.
     pub at: u32,
-    /// How many places it has: more than 64. No sum of lengths passes 2^128.
+    /// How many places it has: more than 128. No sum of lengths passes 2^128.
     pub places: u128,
 }
 
@@ -57,7 +57,7 @@ fn places<N: Allocator, A: Allocator + Copy>(
     global_count(rounds, globals) + (declared + needs + results)
 }
 
-/// The first procedure, in the order of the source, that has more than 64 places when it is rewritten.
+/// The first procedure, in the order of the source, that has more than 128 places when it is rewritten.
 fn first_wide<N: Allocator, A: Allocator + Copy>(
     alloc: &A,
     rounds: Rounds,
@@ -76,7 +76,7 @@ fn first_wide<N: Allocator, A: Allocator + Copy>(
     None
 }
 
-/// Whether every procedure of the rewritten program, its first one too, has at most 64 places.
+/// Whether every procedure of the rewritten program, its first one too, has at most 128 places.
 pub(crate) fn is_narrow<N: Allocator, A: Allocator + Copy>(
     alloc: &A,
     rounds: Rounds,
@@ -92,7 +92,7 @@ pub(crate) fn is_narrow<N: Allocator, A: Allocator + Copy>(
 }
 
 /// Which procedure of a checked program is too wide for so many rounds: the first, in the order of the source, that has
-/// more than 64 places when it is rewritten. It takes no memory. `rewrite` answers `TooWide` where there is one.
+/// more than 128 places when it is rewritten. It takes no memory. `rewrite` answers `TooWide` where there is one.
 pub fn too_wide<N: Allocator, A: Allocator + Copy>(
     alloc: &A,
     checked: &Checked<N>,

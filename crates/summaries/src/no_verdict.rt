@@ -9,7 +9,7 @@ use std::alloc::{AllocError, AllocFailed};
 /// Why an analysis has no verdict. Of several reasons the one that stands first here is answered.
 #[derive(Clone, Copy, Debug, PartialEq, Eq)]
 pub enum NoVerdict {
-    /// Some procedure of the rewritten program has more than 64 places.
+    /// Some procedure of the rewritten program has more than 128 places.
     TooWide,
     /// Memory is refused.
     Memory,

@@ -1,4 +1,4 @@
--- The places are counted, and they are at most 64.
+-- The places are counted, and they are at most 128.
 use Rattle.std.proofs.Common.{◌≡◌, ◌+◌, ◌∙◌, ap, sym, subst, arith}
 use mir.Val.{bool_byte}
 use Rattle.language.specs.Resolve.{gives_value}
