@@ -1,7 +1,8 @@
--- A valuation is below 2 ^ 64, so no bit from 64 on is 1.
+-- A valuation is below 2 ^ 128, so no bit past its width is 1.
 use Rattle.std.proofs.Common.{◌≡◌, ◌<◌, ◌≤◌, ◌^◌, ◌%◌, ◌==◌, ◌∙◌, ℕ, false, nat_lt, ap, sym, arith}
 use Rattle.std.proofs.Math.Nat.{div-eq_of_lt, pow-le-pow_right}
 use Rattle.std.proofs.lemmas.Bool.Decides.{nat_tests}
+use Rattle.language.specs.Words.{word_bits}
 use Rattle.flow_graph.specs.Bits.{bit_of}
 use Rattle.summaries.proofs.summaries.has_bit.Goals as goal
 
@@ -11,8 +12,8 @@ none_past w n i below past =
     let wide : 2 ^ w ≤ 2 ^ i = pow-le-pow_right (omega arith) past in
     ap (λ m. m % 2 == 1) (div-eq_of_lt (omega (arith, wide, below)))
 
-pub returns-else-bit-lt64 : goal.returns-else-bit-lt64
-returns-else-bit-lt64 c =
-    let values : c.args.values < 2 ^ 64 = omega (arith, c.ranges.values.fits) in
-    let no : nat_lt c.args.bit 64 ≡ false = grind (arith, nat_tests) in
-    no ∙ sym (none_past 64 c.args.values c.args.bit values c.if-bit-lt64.false)
+pub returns-else-bit : goal.returns-else-bit
+returns-else-bit c =
+    let values : c.args.values < 2 ^ word_bits = omega (arith, c.ranges.values.fits) in
+    let no : nat_lt c.args.bit word_bits ≡ false = grind (arith, nat_tests) in
+    no ∙ sym (none_past word_bits c.args.values c.args.bit values c.if-bit.false)
