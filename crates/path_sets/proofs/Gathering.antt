@@ -110,8 +110,12 @@ module _ (rows : List Row) (gs : Groups) (cs : List Cell) (are : AreCells rows g
   of_cells t (c, there, row, values, set) =
       let (p, m, (at, whole, mask)) = are.no_more c there in
       let same : row_at t ≡ row_of p.0 = same_Some (row_at t) (row_of p.0) (sym row ∙ at) in
-      placed gs p t m
-      (ap (λ (r : Row). r.entry) same, ap (λ (r : Row). r.block) same, sym values ∙ whole, ap (λ k. bit_of k (t.point % 64)) (sym mask) ∙ set)
+      placed gs p t m (
+        ap (λ (r : Row). r.entry) same,
+        ap (λ (r : Row). r.block) same,
+        sym values ∙ whole,
+        ap (λ k. bit_of k (t.point % 64)) (sym mask) ∙ set,
+      )
 
   pub in_cells : (t : Triple) → Member t (edges gs) → InCells rows cs t
   in_cells t h =

@@ -170,10 +170,12 @@ module _ (ns : List Node) (root : ℕ) where
             let small = mod_below (v / 2 ^ l) (2 ^ (word_bits - l)) (pow_pos (word_bits - l)) in
             let deep = a.deep in
             let deep' = b.deep in
-            within ns down ordered n v (u * 2 ^ l) a.inside (λ i least less. sym (bits_within v l word_bits i (omega (arith, deep, least)) less))
+            within ns down ordered n v (u * 2 ^ l) a.inside
+            (λ i least less. sym (bits_within v l word_bits i (omega (arith, deep, least)) less))
             ∙ sym (a.same u)
             ∙ same_test (accepts ns root (p + u * 2 ^ l)) (accepts ns root (q + u * 2 ^ l))
             (λ h. ((same u).0 (fits_from word_bits l p u most a.short small, h)).1)
             (λ h. ((same u).1 (fits_from word_bits l q u most b.short small, h)).1)
             ∙ b.same u
-            ∙ within ns down ordered m (u * 2 ^ l) v b.inside (λ i least less. bits_within v l word_bits i (omega (arith, deep', least)) less)
+            ∙ within ns down ordered m (u * 2 ^ l) v b.inside
+            (λ i least less. bits_within v l word_bits i (omega (arith, deep', least)) less)

@@ -16,7 +16,8 @@ descends ns down i v x h = by (bit_of v x.level)
     by true = let d = down i x h in omega (arith, d)
     by false = let d = down i x h in omega (arith, d)
 
-module _ (ns : List Node) (down : GoDown ns) (x : Node) (small : x.level < word_bits) (low : IsNumber ns x.low) (high : IsNumber ns x.high) where
+module _ (ns : List Node) (down : GoDown ns) (x : Node) (small : x.level < word_bits) (low : IsNumber ns x.low)
+    (high : IsNumber ns x.high) where
   -- children of the nodes that there are come before the new one
   down_more : GoDown (ns ++ x ∷ [])
   down_more i y h = elim (got_from ns x y i h) [

@@ -53,7 +53,8 @@ unfolding universe at_entry at_point
 universe_none_twice =
     each_none_twice at_entry (below (2 ^ word_bits)) (below_none_twice (2 ^ word_bits))
     (λ e. each_none_twice (at_point e) (below (2 ^ 64)) (below_none_twice (2 ^ 64))
-    (λ p. map_none_twice (triple e p) (below (2 ^ word_bits)) (λ x y same. ap (λ (k : Triple). k.values) same) (below_none_twice (2 ^ word_bits)))
+    (λ p. map_none_twice (triple e p) (below (2 ^ word_bits)) (λ x y same. ap (λ (k : Triple). k.values) same)
+    (below_none_twice (2 ^ word_bits)))
     (λ p q t a b. sym (point_is e p t a) ∙ point_is e q t b))
     (λ d e t a b. sym (entry_is d t a) ∙ entry_is e t b)
 

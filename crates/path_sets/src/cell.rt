@@ -1,6 +1,7 @@
 //! Places as they go into the diagrams: the index of a row, and a valuation in two halves.
 
-ghost use Rattle.std.specs.Prelude.{◌≡◌, ◌*◌, ◌≤◌, ◌<◌, ◌/◌, ◌^◌, Some, length, slice_get, IfSome, IsNone};
+ghost use Rattle.std.specs.Prelude.{◌≡◌, ◌*◌, ◌≤◌, ◌<◌, ◌/◌, ◌^◌, Some, length, slice_get, IfSome};
+ghost use Rattle.std.specs.Prelude.{IsNone};
 ghost use Rattle.path_sets.specs.Halves.{GoesOn, half_levels, values_of};
 
 use language::Word;

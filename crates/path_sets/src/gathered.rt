@@ -77,7 +77,8 @@ fn run_of(cells: &[Cell], row: usize) -> usize
 fn put_cells<A: Allocator + Copy>(merged: &mut Merged<A>, cells: &[Cell]) -> Result<(), AllocError>
     requires { (c : Cell) → Member c cells.now → c.row < index_map_len merged.old.rows }
     ensures takes { TakesGiven (InCells (keys merged.old.rows) cells.now)
-        merged.old.nodes.kept.keys merged.new.nodes.kept.keys merged.old.rows.entries merged.new.rows.entries }
+        merged.old.nodes.kept.keys merged.new.nodes.kept.keys
+        merged.old.rows.entries merged.new.rows.entries }
     ensures all { OnOk result ((t : Triple) → InCells (keys merged.old.rows) cells.now t
         → merged_has merged.new.nodes.kept.keys merged.new.rows.entries t ≡ true) }
 {
@@ -97,7 +98,8 @@ pub(crate) fn put_all<A: Allocator + Copy>(
     masks: &Masks<A>,
 ) -> Result<(), AllocError>
     ensures takes { TakesGiven (λ t. Member t (edges masks.now.entries))
-        merged.old.nodes.kept.keys merged.new.nodes.kept.keys merged.old.rows.entries merged.new.rows.entries }
+        merged.old.nodes.kept.keys merged.new.nodes.kept.keys
+        merged.old.rows.entries merged.new.rows.entries }
     ensures all { OnOk result ((t : Triple) → Member t (edges masks.now.entries)
         → merged_has merged.new.nodes.kept.keys merged.new.rows.entries t ≡ true) }
 {

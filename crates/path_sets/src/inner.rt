@@ -16,7 +16,8 @@ pub(crate) fn inner_nodes<A: Allocator + Copy>(
 ) -> Result<u64, AllocError>
     requires { IsNumber nodes.now.kept.keys number }
     ensures { IfOk result
-        (HasNodes word_bits (λ v. (v < 2 ^ word_bits) × (accepts nodes.now.kept.keys number v ≡ true))) }
+        (HasNodes word_bits
+        (λ v. (v < 2 ^ word_bits) × (accepts nodes.now.kept.keys number v ≡ true))) }
 {
     let mut reached = vec![in *nodes.kept.allocator(); false; number as usize + 1]?;
     reached[number as usize] = true;

@@ -101,8 +101,8 @@ impl<A: Allocator + Copy> Merged<A> {
         ensures takes { (row : Row) → slice_get (keys self.old.rows) at ≡ Some row
             → TakesGiven (InRun row run.now) self.old.nodes.kept.keys self.new.nodes.kept.keys
             self.old.rows.entries self.new.rows.entries }
-        ensures all { OnOk result ((row : Row) (t : Triple) → slice_get (keys self.old.rows) at ≡ Some row
-            → InRun row run.now t
+        ensures all { OnOk result ((row : Row) (t : Triple)
+            → slice_get (keys self.old.rows) at ≡ Some row → InRun row run.now t
             → merged_has self.new.nodes.kept.keys self.new.rows.entries t ≡ true) }
     {
         let root = root_at(&self.rows, at);
