@@ -7,6 +7,7 @@ use crate::graphed::rewritten;
 use crate::refused_table::write_both;
 use cases::{first, first_word};
 use flow_graph::{Graphs, graphs};
+use language::Word;
 use path_sets::{OrderedEdges, PathSet};
 use std::alloc::{AllocError, Allocator, Global};
 use summaries::{Caller, Due, EdgeLimit, Table, TableFault};
@@ -26,14 +27,14 @@ pub fn message_of(word: &str) -> Due {
             let (b, result) = first(numbers);
             Due::Summary {
                 p,
-                a,
-                b,
+                a: a as Word,
+                b: b as Word,
                 r: result == "1",
             }
         }
         None => {
             let (caller, a) = word.split_once('.').unwrap_or((word, ""));
-            let a = first(a).0;
+            let a = first(a).0 as Word;
             match caller.parse::<u8>() {
                 Ok(p) => Due::Entry {
                     caller: Caller::Proc(p),

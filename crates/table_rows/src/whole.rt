@@ -7,6 +7,7 @@ ghost use Rattle.trees.specs.Trees.{tree_of};
 
 use crate::graphed::rewritten;
 use flow_graph::graphs;
+use language::Word;
 use path_sets::{OrderedEdges, PathSet};
 use resolved::Sequential;
 use scarce::Scarce;
@@ -83,7 +84,7 @@ fn write_all<A: Allocator>(out: &mut String, summaries: &Summaries<A>) -> Result
 }
 
 /// Writes valuations.
-fn write_entries(out: &mut String, entries: &[u64]) -> Result<(), AllocError> {
+fn write_entries(out: &mut String, entries: &[Word]) -> Result<(), AllocError> {
     for entry in entries {
         write!(out, " {entry}")?;
     }
