@@ -1,5 +1,6 @@
 // The same loops over flows of the same representation, as one writes them in Rust, for comparison with the proved crate:
-// truth tables whose row is gathered bit by bit, and writes with a mask each.
+// truth tables whose row is gathered bit by bit, one for each row of three picked bits, postfix code, and writes with a
+// mask each.
 use std::hint::black_box;
 use std::time::Instant;
 
@@ -8,22 +9,27 @@ struct Table {
     outputs: Vec<u64>,
 }
 
+fn row(bits: &[u8], values: u64) -> usize {
+    let mut row = 0;
+    for (slot, bit) in bits.iter().enumerate() {
+        row |= (values >> bit & 1) << slot;
+    }
+    row as usize
+}
+
 impl Table {
-    fn new(inputs: &[u8], expression: impl Fn(&[bool]) -> bool) -> Formula {
+    fn new(inputs: &[u8], expression: impl Fn(&[bool]) -> bool) -> Table {
         let mut outputs = vec![0; (1usize << inputs.len()).div_ceil(64)];
         for row in 0..1usize << inputs.len() {
             let bits: Vec<bool> = (0..inputs.len()).map(|slot| row >> slot & 1 == 1).collect();
             outputs[row / 64] |= (expression(&bits) as u64) << (row % 64);
         }
-        Formula::Table(Table { inputs: inputs.to_vec(), outputs })
+        Table { inputs: inputs.to_vec(), outputs }
     }
 
     fn value(&self, values: u64) -> bool {
-        let mut row = 0;
-        for (slot, input) in self.inputs.iter().enumerate() {
-            row |= (values >> input & 1) << slot;
-        }
-        self.outputs[row as usize / 64] >> (row % 64) & 1 == 1
+        let row = row(&self.inputs, values);
+        self.outputs[row / 64] >> (row % 64) & 1 == 1
     }
 }
 
@@ -36,6 +42,7 @@ enum Step {
 
 enum Formula {
     Table(Table),
+    Picks([u8; 3], Vec<Table>),
     Code(Vec<Step>),
 }
 
@@ -43,6 +50,7 @@ impl Formula {
     fn value(&self, values: u64) -> bool {
         match self {
             Formula::Table(table) => table.value(values),
+            Formula::Picks(bits, cases) => cases[row(bits, values)].value(values),
             Formula::Code(steps) => {
                 let mut stack = 0u64;
                 for step in steps {
@@ -125,35 +133,50 @@ fn sum(flow: &Flow, steps: u64) -> u64 {
 fn main() {
     let steps: u64 = std::env::args().nth(1).unwrap().parse().unwrap();
     let write = |bit: u8, formula: Formula| Write { mask: 1 << bit, side: Side::Value(formula) };
+    fn table(inputs: &[u8], expression: impl Fn(&[bool]) -> bool) -> Formula {
+        Formula::Table(Table::new(inputs, expression))
+    }
     // Behind the globals rh__, rl__, stop__ and bad__ the locals a to f are the bits 4 to 9.
     let one = Flow::Assign(
-        vec![write(4, Table::new(&[4, 5, 6, 7, 8, 9], |b| {
+        vec![write(4, table(&[4, 5, 6, 7, 8, 9], |b| {
             ((b[0] & b[1]) | !b[2]) ^ (!(b[3] & b[4]) | (b[5] == (b[0] | b[2])))
         }))],
         0,
     );
     let four = Flow::Assign(
         vec![
-            write(4, Table::new(&[5, 6, 7], |b| b[0] ^ (b[1] & b[2]))),
-            write(5, Table::new(&[4, 7, 8], |b| b[0] | (!b[1] | b[2]))),
-            write(6, Table::new(&[8, 9, 4], |b| (b[0] == b[1]) & b[2])),
-            write(7, Table::new(&[5, 9], |b| !b[0] ^ b[1])),
+            write(4, table(&[5, 6, 7], |b| b[0] ^ (b[1] & b[2]))),
+            write(5, table(&[4, 7, 8], |b| b[0] | (!b[1] | b[2]))),
+            write(6, table(&[8, 9, 4], |b| (b[0] == b[1]) & b[2])),
+            write(7, table(&[5, 9], |b| !b[0] ^ b[1])),
         ],
         0,
     );
     let test = Flow::Test(
-        Side::Value(Table::new(&[4, 5, 6, 7], |b| (b[0] ^ b[1]) & (b[2] | !b[3]))),
+        Side::Value(table(&[4, 5, 6, 7], |b| (b[0] ^ b[1]) & (b[2] | !b[3]))),
         11,
         21,
     );
     let even = |b: &[bool]| b.iter().filter(|b| **b).count() % 2 == 0;
-    let seven = Flow::Test(Side::Value(Table::new(&[4, 5, 6, 7, 8, 9, 10], even)), 11, 21);
+    let seven = Flow::Test(Side::Value(table(&[4, 5, 6, 7, 8, 9, 10], even)), 11, 21);
     let mut parity = vec![Step::Read(4)];
-    for bit in 5..=14 {
+    for bit in 5..=17 {
         parity.extend([Step::Read(bit), Step::Xor]);
     }
     parity.push(Step::Not);
-    let eleven = Flow::Test(Side::Value(Formula::Code(parity)), 11, 12);
+    let fourteen = Flow::Test(Side::Value(Formula::Code(parity)), 11, 12);
+    let odd = |b: &[bool]| b.iter().filter(|b| **b).count() % 2 == 1;
+    let halves = (0..8u32).map(|row| {
+        let inputs = [7, 8, 9, 10, 11, 12, 13, 14];
+        if row.count_ones() % 2 == 0 { Table::new(&inputs, even) } else { Table::new(&inputs, odd) }
+    });
+    let eleven = Flow::Test(Side::Value(Formula::Picks([4, 5, 6], halves.collect())), 11, 12);
+    // The picked bits are a number with the high bit first, and a row with the low bit first.
+    let copies = (0..8u8).map(|row| {
+        let copy = (row & 1) << 2 | row & 2 | row >> 2;
+        Table::new(&[7 + copy], |b| b[0])
+    });
+    let eight = Flow::Test(Side::Value(Formula::Picks([4, 5, 6], copies.collect())), 11, 12);
     let others = [Flow::Assume(Side::Any, 0), Flow::Return];
     black_box(&others);
     for (name, flow) in [
@@ -162,6 +185,8 @@ fn main() {
         ("test", &test),
         ("seven bits", &seven),
         ("eleven bits", &eleven),
+        ("eight copies", &eight),
+        ("fourteen bits", &fourteen),
     ] {
         let start = Instant::now();
         let sum = sum(black_box(flow), steps);

@@ -35,6 +35,8 @@ impl<A: Allocator> Picks<A> {
     ghost use Rattle.flow_graph.specs.Formulas.{picks_worth};
 
     /// What the expression is worth for these values.
+    // Apart, so that the steps of the other forms stay short.
+    #[inline(never)]
     pub(crate) fn value(&self, values: Word) -> bool
         ensures { result ≡ picks_worth self.now values }
     {
