@@ -4,7 +4,7 @@ use Rattle.std.proofs.Common.{inl, inr, Bool, true, false, not, cond}
 use Rattle.std.proofs.Common.{◌&&◌, List, [], ◌∷◌, ◌++◌, length, map, nat_lt, reverse, refl, sym, ◌∙◌, ap, ap₂}
 use Rattle.std.proofs.Common.{subst, arith}
 use Rattle.std.proofs.lemmas.Bool.{cases_eq}
-use Rattle.std.proofs.lemmas.List.{map-append, reverse-append, length-reverse}
+use Rattle.std.proofs.lemmas.List.{append-nil, map-append, reverse-append, length-reverse}
 use Rattle.language.specs.Tree.{Expression, const, var, two, and, RightSide, any, value}
 use Rattle.language.specs.Value.{Place, global, local, bit, with_bit, look_up, value_of, AreValues, written_globals, written_locals}
 use Rattle.language.specs.Step.{zeros}
@@ -139,14 +139,14 @@ pub with_past : (m q : ℕ) (rest : List Bool) (i j : ℕ) (v : Bool) → i ≡ 
 with_past zero q rest i j v e = ap (λ k. with_bit rest k v) (let z : i ≡ j = omega arith in z)
 with_past (suc m) q rest i j v e = with_past m (q / 2) (low q ∷ rest) i (suc j) v (omega arith)
 
+zeros_behind : (k : ℕ) (rest : List Bool) → zeros k ++ (false ∷ rest) ≡ false ∷ (zeros k ++ rest)
+zeros_behind zero rest = refl
+zeros_behind (suc k) rest = ap (λ z. false ∷ z) (zeros_behind k rest)
+
 -- round 0 has no bit that is 1
 pub zero_bits : (m : ℕ) (rest : List Bool) → in_bits m 0 rest ≡ zeros m ++ rest
 zero_bits zero rest = refl
-zero_bits (suc m) rest = zero_bits m (false ∷ rest) ∙ moved m
-  where
-    moved : (k : ℕ) → zeros k ++ (false ∷ rest) ≡ false ∷ (zeros k ++ rest)
-    moved zero = refl
-    moved (suc k) = ap (λ z. false ∷ z) (moved k)
+zero_bits (suc m) rest = zero_bits m (false ∷ rest) ∙ zeros_behind m rest
 
 -- so many bits from a place on are those of the number
 abbrev pub HasBits : List Bool → ℕ → ℕ → ℕ → List Bool → Type 0
@@ -356,11 +356,9 @@ module _ (A : List Bool) (at : ℕ) (is : at ≡ length A) where
 -- the bits of round 0, the highest first, are all 0
 pub zeros_first : (m : ℕ) → reverse (low_first m 0) ≡ zeros m
 zeros_first zero = refl
-zeros_first (suc m) = reverse_first false (low_first m 0) ∙ (ap (λ z. z ++ false ∷ []) (zeros_first m) ∙ moved m)
-  where
-    moved : (k : ℕ) → zeros k ++ (false ∷ []) ≡ false ∷ zeros k
-    moved zero = refl
-    moved (suc k) = ap (λ z. false ∷ z) (moved k)
+zeros_first (suc m) =
+    reverse_first false (low_first m 0)
+    ∙ (ap (λ z. z ++ false ∷ []) (zeros_first m) ∙ (zeros_behind m [] ∙ ap (λ z. false ∷ z) (append-nil (zeros m))))
 
 -- the bits suffice for the last round
 pub bits_suffice : (last : ℕ) → last < most_rounds → last < 2 ^ round_bits last
