@@ -37,7 +37,7 @@ nothing_times q (suc h) some none = absurd (omega (arith, some, none, grown))
     grown = grind arith
 
 module _ (low high l : ℕ) (less : l < 32) where
-  -- where something is left of the low half, or the high one is there, the valuation goes on by the bits of the low half
+  -- where something is left of the low half, or the high one is there, the valuation goes on by bits of the low half
   pub low_goes : (low / 2 ^ (2 * l) ≡ 0 → high ≡ 0 → ⊥) → GoesOn (low + 2 ^ 64 * high) l (low / 2 ^ (2 * l) % 4)
   low_goes some =
       let is = low_rest low high l less in

@@ -23,8 +23,8 @@ rewritten_width last tree procedure = width (rewritten_tree last tree) (rewritte
 abbrev pub AreNarrow : ℕ → Tree → List Procedure → Type 0
 AreNarrow last tree = EachProcedure (λ (p : Procedure). rewritten_width last tree p ≤ most_places)
 
--- The first procedure of the source that has more than 128 places in the rewritten tree, with the offset of its name and
--- its places; none where all have at most 128.
+-- The first procedure of the source that has more than 128 places in the rewritten tree, with the offset of its name
+-- and its places; none where all have at most 128.
 abbrev pub IsFirstWide : ℕ → Tree → Option Wide → Type 0
 IsFirstWide last tree None = AreNarrow last tree tree.procedures
 IsFirstWide last tree (Some wide) =

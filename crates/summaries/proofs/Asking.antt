@@ -248,5 +248,6 @@ module _ {A : Type 0} (q : ℕ) (f : Found A) (given : Given A) (sites : Groups 
       (ap (map (mail_of ds ps q)) more ∙ map-append (mail_of ds ps q) f.given.sent.items (Asked at ∷ [])
       ∙ λ i. mails_before i ++ entry_mail q (get_or_from_slice_get ds at k (call 0 0) here i) ∷ [])
 
-  pub asked_gave : OnTrue known (Member (entry_mail q k) (mails_in q f)) → AddsTo (λ m. m ≡ entry_mail q k) (mails_in q f) (mails_in q there)
+  pub asked_gave : OnTrue known (Member (entry_mail q k) (mails_in q f))
+      → AddsTo (λ m. m ≡ entry_mail q k) (mails_in q f) (mails_in q there)
   asked_gave = gave_in known same more

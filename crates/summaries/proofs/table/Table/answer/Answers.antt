@@ -26,7 +26,8 @@ mail-requires g c =
     let self = c.args.self.now in
     let f = self.found in
     (c.requires.table.holds c.requires.fault).0.indexed.placed c.in_ok-message.message
-    (next_given self.procedure (calls_in f) f.pairs.keys f.given.sent.items f.given.answered c.next.new.self.answered c.in_ok-message.message
+    (next_given self.procedure
+    (calls_in f) f.pairs.keys f.given.sent.items f.given.answered c.next.new.self.answered c.in_ok-message.message
     (next g (goal.at.mail-requires g c).In_ok-message))
 
 pub returns-clause-keeps : goal.returns-clause-keeps
@@ -54,7 +55,8 @@ returns-clause-some g c =
       due = λ k is.
           let given = member_map (mail_of cs ps q) xs x (next_given q cs ps xs n m x behind) in
           owed_sent self.graph.now q f (g.S.PathSet.members self.edges) sound c.mail.result.0 k
-          (sound.given c.mail.result.0 k (subst (λ y. Member y (mails_in q f)) (sym c.mail.ensures ∙ ap (mail c.mail.result.0) (sym is)) given));
+          (sound.given c.mail.result.0 k
+          (subst (λ y. Member y (mails_in q f)) (sym c.mail.ensures ∙ ap (mail c.mail.result.0) (sym is)) given));
       once = λ there.
           next_once q cs ps xs n m x behind sound.indexed.calls_once sound.indexed.pairs_once sound.indexed.placed f.given.once
           (subst (λ y. Member y (take n (mails_in q f))) c.mail.ensures there);

@@ -94,7 +94,8 @@ returns-in_ok-tell_all-clause-ok g c =
     let here = stands g at.In_ok-exit in
     let h = after g at.In_ok-tell_all in
     let there = subst (λ n. Member (triple e.entry n e.values) es) c.if-edge-ne-EXIT.false c.requires.edge in
-    let told = subst (λ cs. AddsTo (OfSome (IsSummaryTold self.procedure e.entry b) cs) (mails_in self.procedure f) (mails_in self.procedure h))
+    let told =
+    subst (λ cs. AddsTo (OfSome (IsSummaryTold self.procedure e.entry b) cs) (mails_in self.procedure f) (mails_in self.procedure h))
     c.of-callers.ensures (gave g at.In_ok-tell_all new last here) in
     let step = leave_step self.graph.now self.procedure f h es e.entry e.values b c.left-left.ensures.number
     c.requires.holds.0 there last (kept g at.In_ok-tell_all new last here) told in

@@ -34,4 +34,5 @@ pub returns-clause-quiet : goal.returns-clause-quiet
 returns-clause-quiet g c =
     let new = returns-clause-new g c in
     let held = new.table.holds refl in
-    quiet_table g.S.PathSet.members _ held.0 held.1 c.new.ensures.pending (new.answered ∙ sym (none_sent c.args.procedure c.new.result c.new.ensures))
+    quiet_table g.S.PathSet.members _ held.0 held.1 c.new.ensures.pending
+    (new.answered ∙ sym (none_sent c.args.procedure c.new.result c.new.ensures))
