@@ -2,7 +2,7 @@
 
 use crate::beginnings::beginnings;
 use crate::message::{print_told, print_told_without};
-use crate::refused::{in_turn, sweep_of};
+use crate::refused::{in_turn, over_pairs, sweep_of};
 use crate::schedules::schedules;
 use crate::text::bytes_of;
 use crate::words::{asked, print_fault, print_order};
@@ -57,6 +57,7 @@ fn print_how<R: Print + AllocGlobal + Wait + Threads + Sync>(
         Some((words, _)) => in_turn(rt, sweep_of(words), text, order),
         None if how == "each beginning" => beginnings(rt, text, order),
         None if how == "each schedule" => schedules(rt, text, order),
+        None if how == "each pair" => over_pairs(rt, text, order),
         None if how == "status" => println!(rt; "{}", answer(rt, text, order).status),
         None => print_reply(rt, &answer(rt, text, order)),
     }

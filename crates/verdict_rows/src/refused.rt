@@ -172,3 +172,19 @@ pub fn in_turn<R: Print + AllocGlobal + Wait + Threads + Sync>(
     }
     print_reply(rt, &reply)
 }
+
+/// Prints the reply, where it is the same over each pair of board and set.
+pub fn over_pairs<R: Print + AllocGlobal + Wait + Threads + Sync>(
+    rt: &R,
+    text: &[u8],
+    order: Order,
+) -> io::Result<()> {
+    let reply = answer(rt, text, order);
+    for pair in 1..4 {
+        let scarce = Scarce::refusing(rt.alloc(), ALL);
+        if came_of(rt, &scarce, pair, text, order, &reply) != Came::Whole {
+            return rt.print("another reply\n");
+        }
+    }
+    print_reply(rt, &reply)
+}
