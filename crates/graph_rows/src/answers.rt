@@ -7,7 +7,7 @@ use std::alloc::Allocator;
 use std::fmt::Write;
 
 /// How many choices of a flow are made at most.
-const MOST_CHOICES: Word = 8;
+const MOST_CHOICES: u8 = 8;
 
 /// A number in decimal digits, or in binary ones behind `0b`.
 fn number(word: &str) -> Option<Word> {
@@ -89,6 +89,7 @@ fn nexts<A: Allocator, B: Allocator>(
     let last = flow.last();
     write!(out, " {last}").ok()?;
     for choice in 0..MOST_CHOICES {
+        let choice = choice as Word;
         if choice <= last {
             steps(flow, choice, &[values], out)?;
         }
@@ -106,6 +107,7 @@ fn spread<A: Allocator, B: Allocator>(
     let flow = flow_of(graph, point)?;
     let last = flow.last();
     for choice in 0..MOST_CHOICES {
+        let choice = choice as Word;
         if choice <= last
             && let Some(next) = flow.next(values, choice)
             && !pairs.contains(&next)
