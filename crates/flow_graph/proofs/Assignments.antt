@@ -1,6 +1,8 @@
 -- Assignments as lists of bits and right sides.
-use Rattle.std.proofs.Common.{◌≡◌, ◌<◌, ◌≤◌, ℕ, zero, suc, ◌+◌, ◌-◌, ◌*◌, ◌/◌, ◌%◌, ◌^◌, ◌==◌, eqb, min, not, ◌||◌, Bool, true, false, cond}
-use Rattle.std.proofs.Common.{nat_lt, Option, Some, None, List, [], ◌∷◌, ◌++◌, length, map, take, drop, get_or, refl, sym, ◌∙◌, ap, subst}
+use Rattle.std.proofs.Common.{◌≡◌, ◌<◌, ◌≤◌, ℕ, zero, suc, ◌+◌, ◌-◌, ◌*◌, ◌/◌, ◌%◌, ◌^◌, ◌==◌}
+use Rattle.std.proofs.Common.{eqb, min, not, ◌||◌, Bool, true, false, cond}
+use Rattle.std.proofs.Common.{nat_lt, Option, Some, None, List, [], ◌∷◌, ◌++◌, length, map, take, drop, get_or, refl, sym}
+use Rattle.std.proofs.Common.{◌∙◌, ap, subst}
 use Rattle.std.proofs.Common.{arith, pow-suc, append_assoc, append-nil}
 use Rattle.std.specs.List.{AllByRecursion, IsDistinct, list_any}
 use Rattle.std.specs.Int.RustNames.{bit_or}
@@ -122,11 +124,13 @@ any_same s side.Any (value e) h = absurd h
 any_same s (side.Value f) any h = absurd h
 any_same s (side.Value f) (value e) h = refl
 
-pub anys_same : {A : Type 0} (s : Scope) (ws : List (Write A)) (ks : List (ℕ × RightSide Name)) → Compiled s ws ks → anys ws ≡ anys_in ks
+pub anys_same : {A : Type 0} (s : Scope) (ws : List (Write A)) (ks : List (ℕ × RightSide Name)) → Compiled s ws ks
+    → anys ws ≡ anys_in ks
 anys_same s [] [] h = refl
 anys_same s [] (k ∷ ks) h = absurd h
 anys_same s (w ∷ ws) [] h = absurd h
-anys_same s (w ∷ ws) (k ∷ ks) h = ap (λ n. n + anys ws) (any_same s w.side k.1 h.0.1) ∙ ap (λ n. any_in k.1 + n) (anys_same s ws ks h.1)
+anys_same s (w ∷ ws) (k ∷ ks) h = ap (λ n. n + anys ws) (any_same s w.side k.1 h.0.1)
+    ∙ ap (λ n. any_in k.1 + n) (anys_same s ws ks h.1)
 
 left_same : {A : Type 0} (s : Scope) (sd : Side A) (r : RightSide Name) (i : ℕ) → SaysSide sd s r → choice_left sd i ≡ left_of r i
 left_same s side.Any any i h = refl
@@ -162,7 +166,8 @@ still b k ts other free = go (b == k) refl
     go true e = absurd (other (eqb-true b k e))
     go false e = free
 
-agree_dropped : (b : ℕ) (v : Bool) (ts : List (Option ℕ)) (m : ℕ) (bs : List Bool) → is_among b ts ≡ true → Agree (Some b ∷ ts) m bs
+agree_dropped : (b : ℕ) (v : Bool) (ts : List (Option ℕ)) (m : ℕ) (bs : List Bool) → is_among b ts ≡ true
+    → Agree (Some b ∷ ts) m bs
     → Agree ts m (with_bit bs b v)
 agree_dropped b v ts m bs h agree k free =
     let other = not_it b k ts h free in
@@ -237,7 +242,8 @@ module _ (s : Scope) (gs ls : List Bool) where
   Fits (t ∷ ts) [] [] i = Unit {0}
   Fits (t ∷ ts) [] (v ∷ vs) i = ⊥
   Fits (t ∷ ts) (r ∷ rs) [] i = ⊥
-  Fits (t ∷ ts) (r ∷ rs) (v ∷ vs) i = FitsOne (lasting t (paired ts rs)) r v i × Fits ts rs vs (behind (lasting t (paired ts rs)) r i)
+  Fits (t ∷ ts) (r ∷ rs) (v ∷ vs) i = FitsOne (lasting t (paired ts rs)) r v i
+      × Fits ts rs vs (behind (lasting t (paired ts rs)) r i)
 
   abbrev Ends : ℕ → List (Option ℕ) → List (RightSide Name) → List Bool → Type 0
   Ends n ts rs vs = (i m : ℕ) (bs : List Bool) → Fits ts rs vs i → length bs ≡ n → Agree (paired ts rs) m bs → (k : ℕ)
@@ -345,7 +351,8 @@ module _ (s : Scope) (gs ls : List Bool) where
       omega (arith, a, b, c, high)
 
   -- different choices end in different numbers
-  apart : (ts : List (Option ℕ)) (rs : List (RightSide Name)) (i j m n : ℕ) → i < 2 ^ anys_in (kept ts rs) → j < 2 ^ anys_in (kept ts rs)
+  apart : (ts : List (Option ℕ)) (rs : List (RightSide Name)) (i j m n : ℕ) → i < 2 ^ anys_in (kept ts rs)
+      → j < 2 ^ anys_in (kept ts rs)
       → run (kept ts rs) i m ≡ run (kept ts rs) j n → i ≡ j
   apart [] rs i j m n h k same = omega (arith, h, k)
   apart (t ∷ ts) [] i j m n h k same = omega (arith, h, k)
@@ -356,7 +363,8 @@ module _ (s : Scope) (gs ls : List Bool) where
           → i < 2 ^ anys_in (kept_one (cond c None (Some b)) q (kept ts rs))
           → j < 2 ^ anys_in (kept_one (cond c None (Some b)) q (kept ts rs))
           → run (kept_one (cond c None (Some b)) q (kept ts rs)) i m ≡ run (kept_one (cond c None (Some b)) q (kept ts rs)) j n
-          → ((i j m n : ℕ) → i < 2 ^ anys_in (kept ts rs) → j < 2 ^ anys_in (kept ts rs) → run (kept ts rs) i m ≡ run (kept ts rs) j n
+          → ((i j m n : ℕ) → i < 2 ^ anys_in (kept ts rs) → j < 2 ^ anys_in (kept ts rs)
+          → run (kept ts rs) i m ≡ run (kept ts rs) j n
           → i ≡ j)
           → i ≡ j
       go true e q h k same rest = rest i j m n h k same
@@ -417,7 +425,8 @@ module _ {R : Type 0} where
       go true e rest = rest
       go false e rest = IsDistinct-cons eqb b (bits_of (kept ts rs)) (others_differ ts rs b e) rest
 
-  all_below : (n : ℕ) (ts : List (Option ℕ)) (rs : List R) (q : ℕ) → Below n ts → list_any (eqb q) (bits_of (kept ts rs)) ≡ true → q < n
+  all_below : (n : ℕ) (ts : List (Option ℕ)) (rs : List R) (q : ℕ) → Below n ts
+      → list_any (eqb q) (bits_of (kept ts rs)) ≡ true → q < n
   all_below n [] rs q below h = absurd (false≢true h)
   all_below n (t ∷ ts) [] q below h = absurd (false≢true h)
   all_below n (None ∷ ts) (r ∷ rs) q below h = all_below n ts rs q below h
@@ -462,7 +471,8 @@ bit_within s x b h = go (is_declared x.text s.locals) refl
         one (nat_lt (number_of x.text s.globals) (length s.globals)) refl
         (sym (ap (bit_of_place (length s.globals)) (place_other s x is)) ∙ h)
 
-below_one : (n : ℕ) (o : Option ℕ) (ts : List (Option ℕ)) → ((b : ℕ) → o ≡ Some b → b < n) → Below n ts → Below n (o ∷ ts)
+below_one : (n : ℕ) (o : Option ℕ) (ts : List (Option ℕ)) → ((b : ℕ) → o ≡ Some b → b < n) → Below n ts
+    → Below n (o ∷ ts)
 below_one n None ts h k = k
 below_one n (Some b) ts h k = (h b refl, k)
 
@@ -487,7 +497,8 @@ written_bits n (local i ∷ ps) (v ∷ vs) gs ls e =
     ∙ ap (put (map (bit_of_place n) ps) vs)
     (sym
     (set-append_right gs ls n (n + i) v e (omega arith) ∙ ap (λ k. gs ++ with_bit ls k v) (let z : n + i - n ≡ i = omega arith in z)))
-written_bits n (global i ∷ ps) (v ∷ vs) gs ls e = go (nat_lt i n) refl (written_bits n ps vs (with_bit gs i v) ls (length-set gs i v ∙ e))
+written_bits n (global i ∷ ps) (v ∷ vs) gs ls e =
+    go (nat_lt i n) refl (written_bits n ps vs (with_bit gs i v) ls (length-set gs i v ∙ e))
   where
     go : (b : Bool) → nat_lt i n ≡ b
         → written_globals ps vs (with_bit gs i v) ++ written_locals ps vs ls ≡ put (map (bit_of_place n) ps) vs (with_bit gs i v ++ ls)
@@ -496,7 +507,8 @@ written_bits n (global i ∷ ps) (v ∷ vs) gs ls e = go (nat_lt i n) refl (writ
     go true is rest = rest
         ∙ ap (put (map (bit_of_place n) ps) vs) (sym (set-append_left gs ls i v (let less = ltb-true i n is in omega (arith, less, e))))
     go false is rest = rest
-        ∙ ap (λ l. put (map (bit_of_place n) ps) vs (l ++ ls)) (set_past gs i v (let least = ltb-false i n is in omega (arith, least, e)))
+        ∙ ap (λ l. put (map (bit_of_place n) ps) vs (l ++ ls))
+        (set_past gs i v (let least = ltb-false i n is in omega (arith, least, e)))
 
 -- ---- the law
 
@@ -518,7 +530,8 @@ module _ {A : Type 0} (a : Assignment A) (s : Scope) (xs : List Name) (rs : List
       (names_below s xs (length (gs ++ ls)) (omega (arith, g, l, length-append gs ls))) i (coded (gs ++ ls)) (gs ++ ls) fits refl
       (λ j _. coded_bit (gs ++ ls) j) k
       ∙ sym (coded_bit (put targets vs (gs ++ ls)) k))
-      ∙ ap coded (sym (written_bits (length s.globals) (map (place_of s) xs) vs gs ls g ∙ ap (λ ts. put ts vs (gs ++ ls)) (bits_same s xs)))
+      ∙ ap coded
+      (sym (written_bits (length s.globals) (map (place_of s) xs) vs gs ls g ∙ ap (λ ts. put ts vs (gs ++ ls)) (bits_same s xs)))
 
   pub assigns : Compiled s a.writes.items (kept targets rs) → a.last + 1 ≡ 2 ^ anys a.writes.items → Assigns a s xs rs
   assigns compiled count =
@@ -606,7 +619,8 @@ module _ {N A : Type 0} (s : Scope) (xs : List (syntax.Name N)) (ys : List (Rhs 
       (omega (arith, inside, few)) found there
       (omega (arith, inside, few, length-drop (at + 1) xs, length-drop (at + 1) ys))
 
-  pub passed_over : lasting_here ≡ None → new ≡ old → Leads s old (kept_from s xs ys at) all → Leads s new (kept_from s xs ys (at + 1)) all
+  pub passed_over : lasting_here ≡ None → new ≡ old → Leads s old (kept_from s xs ys at) all
+      → Leads s new (kept_from s xs ys (at + 1)) all
   passed_over gone same leads ws h =
       let y = element ys at (omega (arith, inside, few)) in
       subst (λ l. Compiled s (l ++ ws) all) (sym same)
@@ -640,7 +654,8 @@ all_written {A} s xs ys n ws e leads =
     (leads [] (subst (Compiled {A = A} s []) (sym (kept_none (bit_of_name s) name_of rhs_of xs ys n e)) tt))
 
 pub one_bit : (b : ℕ) → b < most_places → 1 * 2 ^ b % 2 ^ word_bits ≡ 2 ^ b
-one_bit b h = let most : 2 ^ b ≤ 2 ^ (word_bits - 1) = pow_mono (let z : b ≤ word_bits - 1 = omega (arith, h) in z) in omega (arith, most)
+one_bit b h = let most : 2 ^ b ≤ 2 ^ (word_bits - 1) = pow_mono (let z : b ≤ word_bits - 1 = omega (arith, h) in z) in
+    omega (arith, most)
 
 pub few_variables : {N : Type 0} (gs fs ls : List (syntax.Name N)) → length gs + (length fs + length ls) ≤ most_places →
     length (names_of gs) + length (names_of fs ++ names_of ls) ≤ most_places

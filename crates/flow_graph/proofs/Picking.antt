@@ -1,5 +1,6 @@
 -- Tables for the rows of bits.
-use Rattle.std.proofs.Common.{◌≡◌, ◌<◌, ◌^◌, ◌∙◌, ℕ, zero, suc, ◌+◌, Bool, List, [], ◌∷◌, ◌++◌, length, map, ap, subst, arith}
+use Rattle.std.proofs.Common.{◌≡◌, ◌<◌, ◌^◌, ◌∙◌, ℕ, zero, suc, ◌+◌, Bool, List, [], ◌∷◌, ◌++◌, length}
+use Rattle.std.proofs.Common.{map, ap, subst, arith}
 use Rattle.std.specs.List.{slice_get}
 use Rattle.std.proofs.lemmas.List.{length-map}
 use Rattle.language.specs.Tree.{Expression}
@@ -14,7 +15,8 @@ use Rattle.flow_graph.proofs.Stacks.{coded_small}
 -- three bits have eight rows
 pub three_have_eight : (f : ℕ → Bool) (bits : List ℕ) → length bits ≡ 3 → coded (map f bits) < 8
 three_have_eight f bits three =
-    let most : 2 ^ length (map f bits) ≡ 8 = ap (λ k. 2 ^ k) (length-map bits f ∙ three) in omega (arith, most, coded_small (map f bits))
+    let most : 2 ^ length (map f bits) ≡ 8 = ap (λ k. 2 ^ k) (length-map bits f ∙ three) in
+    omega (arith, most, coded_small (map f bits))
 
 module _ {A : Type 0} (bits : List ℕ) (e : Expression ℕ) where
   -- the tables are the expression's where the bits have the rows from this one on
@@ -24,7 +26,8 @@ module _ {A : Type 0} (bits : List ℕ) (e : Expression ℕ) where
 
   pub one_more : (ts : List (Table A)) (first row : ℕ) (t : Table A) → AreCases first ts → row ≡ first + length ts →
       IsTruthTableIn t bits row e → AreCases first (ts ++ t ∷ [])
-  one_more [] first row t cases at here = (subst (λ k. IsTruthTableIn t bits k e) (let z : row ≡ first = omega (arith, at) in z) here, tt)
+  one_more [] first row t cases at here =
+      (subst (λ k. IsTruthTableIn t bits k e) (let z : row ≡ first = omega (arith, at) in z) here, tt)
   one_more (x ∷ ts) first row t cases at here = (cases.0, one_more ts (suc first) row t cases.1 (omega (arith, at)) here)
 
   pub case_says : (ts : List (Table A)) (first row i v : ℕ) → AreCases first ts → row ≡ first + i → i < length ts →

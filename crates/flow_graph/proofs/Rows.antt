@@ -1,6 +1,7 @@
 -- Outputs of truth tables, bit by bit.
 use Rattle.std.proofs.Common.{◌≡◌, ◌<◌, ◌≤◌, ℕ, zero, suc, ◌+◌, ◌-◌, ◌*◌, ◌/◌, ◌%◌, ◌^◌, min, max}
-use Rattle.std.proofs.Common.{◌==◌, cond, not, ◌&&◌, ◌||◌, Bool, true, false, Some, None, List, [], ◌∷◌, ◌++◌, length, get_or}
+use Rattle.std.proofs.Common.{◌==◌, cond, not, ◌&&◌, ◌||◌, Bool, true, false, Some, None, List, [], ◌∷◌, ◌++◌, length}
+use Rattle.std.proofs.Common.{get_or}
 use Rattle.std.proofs.Common.{map, take, set, w64, refl, sym, ◌∙◌, ap, subst, arith, append-nil, append_assoc}
 use Rattle.std.specs.Int.{bit_at}
 use Rattle.std.specs.Int.RustNames.{bit_and, bit_or, bit_xor}
@@ -100,7 +101,8 @@ below (suc n) test h j less = go (test n) refl h (λ k inside. below n test k j 
     last true e is rest = ap test (eqb-true j n e) ∙ is
     last false e is rest = let apart = eqb-false j n e in rest (omega (arith, less, apart))
 
-    go : (b : Bool) → test n ≡ b → cond b (all_below n test) false ≡ true → (all_below n test ≡ true → j < n → test j ≡ true)
+    go : (b : Bool) → test n ≡ b → cond b (all_below n test) false ≡ true
+        → (all_below n test ≡ true → j < n → test j ≡ true)
         → test j ≡ true
     go true is k rest = last (j == n) refl is (rest k)
     go false is k rest = absurd (false≢true k)
@@ -151,7 +153,8 @@ slot_outside b (x ∷ xs) h = go (b == x) h (slot_outside b xs)
     go false k rest = rest (omega (arith, k))
 
 -- inputs behind others change no slot of these
-pub slot_kept : (b : ℕ) (xs ys : List ℕ) → is_input b xs ≡ true → (slot b (xs ++ ys) ≡ slot b xs) × (is_input b (xs ++ ys) ≡ true)
+pub slot_kept : (b : ℕ) (xs ys : List ℕ) → is_input b xs ≡ true
+    → (slot b (xs ++ ys) ≡ slot b xs) × (is_input b (xs ++ ys) ≡ true)
 slot_kept b [] ys h = absurd (false≢true h)
 slot_kept b (x ∷ xs) ys h = go (b == x) h (slot_kept b xs ys)
   where
@@ -170,7 +173,8 @@ slot_last b [] = go (b == b) refl
 slot_last b (x ∷ xs) = go (b == x) (slot_last b xs)
   where
     go : (c : Bool) → (slot b (xs ++ (b ∷ [])) ≡ slot b xs) × (is_input b (xs ++ (b ∷ [])) ≡ true)
-        → (cond c 0 (suc (slot b (xs ++ (b ∷ [])))) ≡ cond c 0 (suc (slot b xs))) × (cond c true (is_input b (xs ++ (b ∷ []))) ≡ true)
+        → (cond c 0 (suc (slot b (xs ++ (b ∷ [])))) ≡ cond c 0 (suc (slot b xs)))
+        × (cond c true (is_input b (xs ++ (b ∷ []))) ≡ true)
     go true r = (refl, refl)
     go false r = (ap suc r.0, r.1)
 
@@ -193,7 +197,8 @@ widens_more xs ys zs (more, is) (others, are) = (more ++ others, are ∙ ap (λ 
 -- ---- expressions
 
 -- the words have this output in each row
-pub constant : (words : List ℕ) (c : Bool) → all_below most_rows (λ j. same (output words j) c) ≡ true → (j : ℕ) → j < most_rows
+pub constant : (words : List ℕ) (c : Bool) → all_below most_rows (λ j. same (output words j) c) ≡ true → (j : ℕ)
+    → j < most_rows
     → output words j ≡ c
 constant words c h j less = same_is (output words j) c (below most_rows (λ k. same (output words k) c) h j less)
 
@@ -206,7 +211,8 @@ decided_rows ones l w o a c all whole is decides j right less =
     ∙ ap (λ x. operate o x right) (sym (constant ones a all j less) ∙ ap (λ xs. output xs j) (sym is))
 
 -- what is known of a bit is its value
-pub known_read : (known : List ℕ) (row b : ℕ) (c : Bool) (f : ℕ → Bool) → known_bit known row b ≡ Some c → HaveRow known row f → c ≡ f b
+pub known_read : (known : List ℕ) (row b : ℕ) (c : Bool) (f : ℕ → Bool) → known_bit known row b ≡ Some c
+    → HaveRow known row f → c ≡ f b
 known_read known row b c f is have = go (is_input b known) refl is
   where
     go : (k : Bool) → is_input b known ≡ k → cond k (Some (bit_of row (slot b known))) None ≡ Some c → c ≡ f b
@@ -239,7 +245,8 @@ module _ (known : List ℕ) (row : ℕ) where
 
   -- an operator that the left operand decides
   pub decided_left : (xs l w : List ℕ) (o : Operator) (a b : Expression ℕ) → Tabulates known row xs l a
-      → ((j : ℕ) (right : Bool) → j < most_rows → output w j ≡ operate o (output l j) right) → Tabulates known row xs w (two o a b)
+      → ((j : ℕ) (right : Bool) → j < most_rows → output w j ≡ operate o (output l j) right)
+      → Tabulates known row xs w (two o a b)
   decided_left xs l w o a b s decides f j less k h =
       decides j (worth f b) less ∙ ap (λ x. operate o x (worth f b)) (s f j less k h)
 
@@ -279,7 +286,8 @@ pub have_own : (f : ℕ → Bool) (xs : List ℕ) → HaveRow xs (coded (map f x
 have_own f xs b h = sym (row_bit f xs b h)
 
 -- the output in the row of a valuation is what the expression is worth there
-pub looked_up : (f : ℕ → Bool) (known : List ℕ) (row : ℕ) (xs words : List ℕ) (n : ℕ) (e : Expression ℕ) → length xs ≤ most_inputs
+pub looked_up : (f : ℕ → Bool) (known : List ℕ) (row : ℕ) (xs words : List ℕ) (n : ℕ) (e : Expression ℕ)
+    → length xs ≤ most_inputs
     → 2 ^ length xs ≤ word_rows * n → Tabulates known row xs words e → HaveRow known row f →
     output (take n words) (coded (map f xs)) ≡ worth f e
 looked_up f known row xs words n e few enough t have =
@@ -296,7 +304,8 @@ split p true n = mul-add p 1 (2 * n) ∙ (let a : p * 2 * n ≡ p * (2 * n) = mu
 split p false n = let a : p * 2 * n ≡ p * (2 * n) = mul_assoc p 2 n in let z : 0 + 2 * n ≡ 2 * n = omega arith in
     ap (λ k. p * k) z ∙ omega (arith, a)
 
-pub row_step : {A : Type 0} (f : A → Bool) (xs rest : List A) (x : A) (row place bit whole : ℕ) → row + place * coded (map f xs) ≡ whole
+pub row_step : {A : Type 0} (f : A → Bool) (xs rest : List A) (x : A) (row place bit whole : ℕ)
+    → row + place * coded (map f xs) ≡ whole
     → xs ≡ x ∷ rest → bit ≡ worth_of (f x)
     → (row + bit * place) + place * 2 * coded (map f rest) ≡ whole
 row_step f xs rest x row place bit whole h e is =

@@ -1,6 +1,7 @@
 -- A stack of values as the bits of a number.
 use mir.Val.{bool_byte}
-use Rattle.std.proofs.Common.{◌≡◌, ◌<◌, ◌≤◌, ℕ, zero, suc, ◌+◌, ◌*◌, ◌/◌, ◌%◌, ◌^◌, ◌==◌, Bool, true, false, List, [], ◌∷◌, length, refl}
+use Rattle.std.proofs.Common.{◌≡◌, ◌<◌, ◌≤◌, ℕ, zero, suc, ◌+◌, ◌*◌, ◌/◌, ◌%◌, ◌^◌, ◌==◌, Bool}
+use Rattle.std.proofs.Common.{true, false, List, [], ◌∷◌, length, refl}
 use Rattle.std.proofs.Common.{◌∙◌, ap, arith, pow-suc}
 use Rattle.std.proofs.Math.Pow.{pow_mono}
 use Rattle.std.proofs.lemmas.Nat.Bits.{shr_and_one, bit_at-lt}
@@ -37,7 +38,8 @@ bit_worth n i = go (bit_at n i) (bit_at-lt n i)
     go (suc (suc k)) h = absurd (omega (arith, h))
 
 pub shifted_worth : (n i : ℕ) → i < word_bits → bit_and (n / 2 ^ (i % word_bits)) 1 ≡ worth_of (bit_of n i)
-shifted_worth n i h = let same : i % word_bits ≡ i = omega (arith, h) in shr_and_one n (i % word_bits) ∙ ap (bit_at n) same ∙ bit_worth n i
+shifted_worth n i h = let same : i % word_bits ≡ i = omega (arith, h) in
+    shr_and_one n (i % word_bits) ∙ ap (bit_at n) same ∙ bit_worth n i
 
 pub byte_worth : (b : Bool) → bool_byte b ≡ worth_of b
 byte_worth true = refl

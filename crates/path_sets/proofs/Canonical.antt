@@ -1,5 +1,6 @@
 -- In ordered and reduced diagrams equal sets have one number.
-use Rattle.std.proofs.Common.{◌≡◌, ℕ, zero, suc, ◌+◌, ◌-◌, ◌/◌, ◌^◌, ◌<◌, ◌≤◌, Bool, true, false, cond, nat_lt, nat_eq}
+use Rattle.std.proofs.Common.{◌≡◌, ℕ, zero, suc, ◌+◌, ◌-◌, ◌/◌, ◌^◌, ◌<◌, ◌≤◌, Bool, true, false, cond}
+use Rattle.std.proofs.Common.{nat_lt, nat_eq}
 use Rattle.std.proofs.Common.{◌==◌, ◌⊎◌, inl, inr, List, None, Some, slice_get, refl, sym, ap, ◌∙◌, arith}
 use Rattle.std.proofs.Common.{true≢false}
 use Rattle.std.specs.Option.{option_map_or}
@@ -52,7 +53,8 @@ module _ (ns : List Node) (down : GoDown ns) (ordered : AreOrdered ns) where
       by false big d o = (o.0, omega (arith, d, big, inside), omega (arith, d, big))
 
   -- a set depends on no bit in front of its number's level
-  within' : (f n v w : ℕ) → n ≤ f → IsNumber ns n → ((i : ℕ) → level_of ns n ≤ i → i < word_bits → bit_of v i ≡ bit_of w i)
+  within' : (f n v w : ℕ) → n ≤ f → IsNumber ns n
+      → ((i : ℕ) → level_of ns n ≤ i → i < word_bits → bit_of v i ≡ bit_of w i)
       → accepts ns n v ≡ accepts ns n w
   within' zero n v w fits inside same = at_leaf child ns n v (omega (arith, fits)) ∙ sym (at_leaf child ns n w (omega (arith, fits)))
   within' (suc f) n v w fits inside same = elim (kind ns n inside) [
@@ -64,7 +66,8 @@ module _ (ns : List Node) (down : GoDown ns) (ordered : AreOrdered ns) where
         let after = child_after n x inside at (bit_of w x.level) in
         goes_on child ns (descends ns down) n v x at
         ∙ ap (λ b. accepts ns (cond b x.high x.low) v) (same x.level (omega (arith, level)) d.0)
-        ∙ within' f (child x w) v w (omega (arith, after, fits)) after.1 (λ i least most. same i (omega (arith, least, after, level)) most)
+        ∙ within' f (child x w) v w (omega (arith, after, fits)) after.1
+        (λ i least most. same i (omega (arith, least, after, level)) most)
         ∙ sym (goes_on child ns (descends ns down) n w x at)
   ]
 
@@ -92,7 +95,8 @@ module _ (ns : List Node) (down : GoDown ns) (ordered : AreOrdered ns) where
   Same n m = (v : ℕ) → accepts ns n v ≡ accepts ns m v
 
   -- if one depends on no bit of a node's level or in front of it, the node's children have one set
-  children_same : (n m : ℕ) (x : Node) → IsNumber ns n → IsNumber ns m → node_at ns n ≡ Some x → x.level < level_of ns m → Same n m
+  children_same : (n m : ℕ) (x : Node) → IsNumber ns n → IsNumber ns m → node_at ns n ≡ Some x → x.level < level_of ns m
+      → Same n m
       → Same x.low x.high
   children_same n m x inside inside' at deep same v =
       let w = λ (b : ℕ). with_bit x.level b (v / 2 ^ (x.level + 1)) in
@@ -118,7 +122,8 @@ module _ (ns : List Node) (down : GoDown ns) (ordered : AreOrdered ns) where
         (children_same n m x inside inside' at deep same))
 
     -- nodes of one level with one set have the same children, and so are one
-    one_node : (f n m : ℕ) (x y : Node) → Found f → n ≤ suc f → m ≤ suc f → IsNumber ns n → IsNumber ns m → node_at ns n ≡ Some x
+    one_node : (f n m : ℕ) (x y : Node) → Found f → n ≤ suc f → m ≤ suc f → IsNumber ns n → IsNumber ns m
+        → node_at ns n ≡ Some x
         → node_at ns m ≡ Some y
         → x.level ≡ y.level
         → Same n m

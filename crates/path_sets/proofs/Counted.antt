@@ -1,5 +1,6 @@
 -- The numbers that prefixes lead to are counted: the inner nodes of the diagram.
-use Rattle.std.proofs.Common.{◌≡◌, ℕ, suc, ◌+◌, ◌-◌, ◌*◌, ◌^◌, ◌<◌, ◌≤◌, Bool, true, false, ◌↔◌, inl, inr}
+use Rattle.std.proofs.Common.{◌≡◌, ℕ, suc, ◌+◌, ◌-◌, ◌*◌, ◌^◌, ◌<◌, ◌≤◌, Bool, true, false, ◌↔◌}
+use Rattle.std.proofs.Common.{inl, inr}
 use Rattle.std.proofs.Common.{List, [], ◌∷◌, Some, length, get_or, refl, sym, ap, ◌∙◌, subst, arith}
 use Rattle.std.proofs.lemmas.Bool.{cases_lt}
 use Rattle.language.specs.Lists.{Member, NoneTwice}
@@ -28,7 +29,8 @@ module _ (ns : List Node) (down : GoDown ns) (ordered : AreOrdered ns) (reduced 
 
   -- prefixes that lead to these numbers, one to each
   record Named (found : List ℕ) (prefixes : List Prefix) : Type 0 where
-    each : (y : Prefix) → Member y prefixes → (n : ℕ) × Member n found × (y.level ≡ level_of ns n) × Leads ns root y.level y.bits n
+    each : (y : Prefix) → Member y prefixes
+        → (n : ℕ) × Member n found × (y.level ≡ level_of ns n) × Leads ns root y.level y.bits n
     all : (n : ℕ) → Member n found → (q : ℕ) × Member (prefix (level_of ns n) q) prefixes × Leads ns root (level_of ns n) q n
     apart : Apart (Word ns root down ordered) prefixes
     long : length prefixes ≡ length found
@@ -79,7 +81,8 @@ module _ (ns : List Node) (down : GoDown ns) (ordered : AreOrdered ns) (reduced 
       )
 
   -- a node's children are not the same, so that the suffixes depend on its bit
-  depends : (p n : ℕ) (x : Node) → node_at ns n ≡ Some x → Leads ns root x.level p n → Depends (Word ns root down ordered) x.level p
+  depends : (p n : ℕ) (x : Node) → node_at ns n ≡ Some x → Leads ns root x.level p n
+      → Depends (Word ns root down ordered) x.level p
   depends p n x at leads same =
       let k = has_node ns n x at in
       let d = down (n - 2) x k.1 in
@@ -91,7 +94,8 @@ module _ (ns : List Node) (down : GoDown ns) (ordered : AreOrdered ns) (reduced 
       (subst (λ q. Leads ns root (x.level + 1) q x.low) zero_on low) (subst (λ q. Leads ns root (x.level + 1) q x.high) one_on high) same)
 
   -- where a number's level is a later one, they do not depend on this bit
-  depends_not : (l p n : ℕ) → l < word_bits → Leads ns root l p n → l < level_of ns n → Depends (Word ns root down ordered) l p → ⊥
+  depends_not : (l p n : ℕ) → l < word_bits → Leads ns root l p n → l < level_of ns n → Depends (Word ns root down ordered) l p
+      → ⊥
   depends_not l p n early leads later depends =
       let zero_on : p + 0 * 2 ^ l ≡ p = omega arith in
       let one_on : p + 1 * 2 ^ l ≡ p + 2 ^ l = omega arith in
@@ -100,7 +104,8 @@ module _ (ns : List Node) (down : GoDown ns) (ordered : AreOrdered ns) (reduced 
       depends (same_suffixes ns root down ordered (l + 1) p (p + 2 ^ l) n (omega (arith, early))
       (subst (λ q. Leads ns root (l + 1) q n) zero_on zero') (subst (λ q. Leads ns root (l + 1) q n) one_on one'))
 
-  module _ (marks : List Bool) (at count : ℕ) (inside : IsNumber ns root) (is : Marked ns down ordered root marks at count) (end : at ≤ 1)
+  module _ (marks : List Bool) (at count : ℕ) (inside : IsNumber ns root) (is : Marked ns down ordered root marks at count)
+      (end : at ≤ 1)
       (found : List ℕ) (all : (n : ℕ) → Member n found ↔ ((at < n) × (1 < n) × (get_or marks n false ≡ true)))
       (prefixes : List Prefix) (named : Named found prefixes) where
     abbrev S : ℕ → Type 0

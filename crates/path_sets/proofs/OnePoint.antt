@@ -1,5 +1,6 @@
 -- The diagram of one point, made of nodes that test one bit.
-use Rattle.std.proofs.Common.{◌≡◌, ℕ, zero, suc, ◌+◌, ◌*◌, ◌/◌, ◌%◌, ◌^◌, ◌<◌, ◌≤◌, ◌==◌, Bool, true, false, cond, ◌&&◌, nat_eq}
+use Rattle.std.proofs.Common.{◌≡◌, ℕ, zero, suc, ◌+◌, ◌*◌, ◌/◌, ◌%◌, ◌^◌, ◌<◌, ◌≤◌, ◌==◌, Bool}
+use Rattle.std.proofs.Common.{true, false, cond, ◌&&◌, nat_eq}
 use Rattle.std.proofs.Common.{List, Some, inl, inr, refl, sym, ap, ◌∙◌, subst, arith, true≢false, eq-eqb}
 use Rattle.std.specs.Prelude.{Result, Ok, Err, IfOk}
 use Rattle.std.specs.Bool.{beq}
@@ -195,7 +196,8 @@ module _ (qs : List Quad) (bit : ℕ) where
   abbrev pub Begins : ℕ → ℕ → Asked → Type 0
   Begins n l asked = (asked.number ≡ n) × (asked.zero ≡ bit_of (points_of qs n 0) bit) × (asked.level ≡ l)
 
-  begun_same : (ns : List Node) (asked : Asked) (m n l v : ℕ) → HasAskedSet qs bit ns asked m → Begins n (l + 1) asked → v < 2 ^ word_bits
+  begun_same : (ns : List Node) (asked : Asked) (m n l v : ℕ) → HasAskedSet qs bit ns asked m → Begins n (l + 1) asked
+      → v < 2 ^ word_bits
       → accepts ns m v ≡ bit_of (points_of qs n (v / 4 ^ l / 4)) bit
   begun_same ns asked m n l v a (number, nought, level) less =
       a.same v less ∙ (λ j. is_at qs (number j) (nought j) bit (v / 4 ^ (level j))) ∙ at_all n (v / 4 ^ (l + 1))

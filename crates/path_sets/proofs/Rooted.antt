@@ -1,5 +1,6 @@
 -- The numbers of rows after one is given, and their indexes.
-use Rattle.std.proofs.Common.{◌≡◌, ℕ, zero, suc, ◌<◌, Bool, true, false, cond, ◌&&◌, nat_eq, List, [], ◌∷◌, ◌++◌, Option, None}
+use Rattle.std.proofs.Common.{◌≡◌, ℕ, zero, suc, ◌<◌, Bool, true, false, cond, ◌&&◌, nat_eq, List, [], ◌∷◌, ◌++◌}
+use Rattle.std.proofs.Common.{Option, None}
 use Rattle.std.proofs.Common.{Some, IfSome, get_or, length, is_some, ◌⊎◌, inl, inr, subst, arith}
 use Rattle.std.proofs.Common.{slice_get, position, refl, sym, ap, ap₂, ◌∙◌, true≢false, eq-eqb}
 use Rattle.std.specs.Option.{option_map, option_map_or}
@@ -88,7 +89,8 @@ still_at (e ∷ es) fs zero k h = h
 still_at (e ∷ es) fs (suc i) k h = still_at es fs i k h
 
 -- the key of an entry
-pub key_at : {K V : Type 0} (es : List (K × V)) (i : ℕ) (e : K × V) → slice_get es i ≡ Some e → slice_get (keys_of es) i ≡ Some e.0
+pub key_at : {K V : Type 0} (es : List (K × V)) (i : ℕ) (e : K × V) → slice_get es i ≡ Some e
+    → slice_get (keys_of es) i ≡ Some e.0
 key_at [] i e h = absurd (true≢false (ap is_some (sym h)))
 key_at (x ∷ xs) zero e h = ap (λ (o : Option _). option_map (λ y. y.0) o) h
 key_at (x ∷ xs) (suc i) e h = key_at xs i e h

@@ -92,7 +92,8 @@ module _ (row : Row) (cells : List Cell) (number : ℕ) (ns ms : List Quad) (rs 
       e.0 ∙ (joins t.values (t.point % 64)).1 (inr given)
 
 -- rows that stay leave the diagrams as they are
-pub takes_nothing : (given : Triple → Type 0) (ns : List Quad) (rs ss : List (Row × ℕ)) → RowsStay rs ss → TakesGiven given ns ns rs ss
+pub takes_nothing : (given : Triple → Type 0) (ns : List Quad) (rs ss : List (Row × ℕ)) → RowsStay rs ss
+    → TakesGiven given ns ns rs ss
 takes_nothing given ns rs ss stay =
     let same = λ (t : Triple). ap (λ n. bit_of (points_of ns n t.values) (t.point % 64)) (stay.numbers t.entry (t.point / 64)) in
     record { kept = λ t h. same t ∙ h; sound = λ t h. inl (sym (same t) ∙ h) }

@@ -17,7 +17,8 @@ pub record RowsStay (old new : List (Row × ℕ)) : Type 0 where
 
 -- a cell is that of a place with its mask
 abbrev pub IsCellOf : List Row → Place × ℕ → Cell → Type 0
-IsCellOf rows place cell = (slice_get rows cell.row ≡ Some (row_of place.0)) × (values_of cell ≡ place.0.values) × (cell.mask ≡ place.1)
+IsCellOf rows place cell = (slice_get rows cell.row ≡ Some (row_of place.0)) × (values_of cell ≡ place.0.values)
+    × (cell.mask ≡ place.1)
 
 -- These are the cells of the places.
 pub record AreCells (rows : List Row) (places : List (Place × ℕ)) (cells : List Cell) : Type 0 where

@@ -1,5 +1,6 @@
 -- Diagrams that give each valuation a mask of points, two bits of the valuation at each node.
-use Rattle.std.specs.Prelude.{◌≡◌, ◌≢◌, ◌+◌, ◌/◌, ◌%◌, ◌^◌, ◌<◌, ◌≤◌, ◌↔◌, ◌⊎◌, ℕ, zero, suc, Bool, true, cond, nat_eq}
+use Rattle.std.specs.Prelude.{◌≡◌, ◌≢◌, ◌+◌, ◌/◌, ◌%◌, ◌^◌, ◌<◌, ◌≤◌, ◌↔◌, ◌⊎◌, ℕ, zero}
+use Rattle.std.specs.Prelude.{suc, Bool, true, cond, nat_eq}
 use Rattle.std.specs.Prelude.{List, Some, slice_get, length}
 use Rattle.std.specs.Option.{option_map_or}
 use Rattle.language.specs.Lists.{Member}
@@ -25,7 +26,8 @@ turn node valuation =
 unfoldable pub walk_to : List Quad → ℕ → ℕ → ℕ → ℕ
 walk_to quads zero number valuation = 0
 walk_to quads (suc most) number valuation =
-    option_map_or (λ x. cond (nat_eq valuation 0) x.points (walk_to quads most (turn x valuation) (valuation / 4))) (node_at quads number) 0
+    option_map_or (λ x. cond (nat_eq valuation 0) x.points (walk_to quads most (turn x valuation) (valuation / 4)))
+    (node_at quads number) 0
 
 -- the points that a valuation is at by the diagram of a number
 unfoldable pub points_of : List Quad → ℕ → ℕ → ℕ
@@ -41,7 +43,8 @@ is_at quads number nought bit valuation = cond (nat_eq valuation 0) nought (bit_
 
 -- a node's children are numbers
 abbrev pub AreInside : List Quad → Quad → Type 0
-AreInside quads node = (IsNumber quads node.none) × (IsNumber quads node.first) × (IsNumber quads node.second) × (IsNumber quads node.both)
+AreInside quads node = (IsNumber quads node.none) × (IsNumber quads node.first) × (IsNumber quads node.second)
+    × (IsNumber quads node.both)
 
 -- a node's children are below a number
 abbrev pub IsBelow : Quad → ℕ → Type 0
@@ -66,7 +69,8 @@ pub record KeepQuads (old new : List Quad) : Type 0 where
 
 -- the point is in the mask of one of the cells, of whose valuation this is left at a level
 abbrev pub Given : List Cell → ℕ → ℕ → ℕ → Type 0
-Given cells level valuation point = (c : Cell) × Member c cells × (values_of c / 4 ^ level ≡ valuation) × (bit_of c.mask point ≡ true)
+Given cells level valuation point = (c : Cell) × Member c cells × (values_of c / 4 ^ level ≡ valuation)
+    × (bit_of c.mask point ≡ true)
 
 -- the new diagram has the points of the old one and those of the cells
 abbrev pub Joins : List Cell → ℕ → (ℕ → ℕ) → (ℕ → ℕ) → Type 0

@@ -43,7 +43,8 @@ use Rattle.summaries.proofs.Mails.{none_twice_with}
 use Rattle.summaries.proofs.Placed.{HasMoreBehind, none_behind, placed_still, mails_still}
 use Rattle.summaries.proofs.Telling.{gives_kept, gives_one, gives_known}
 
-module _ {A G : Type 0} (graph : Graph G) (q : ℕ) (f : Found A) (given : Given A) (sites : Groups Call Site A) (pending : Vec Edge A) where
+module _ {A G : Type 0} (graph : Graph G) (q : ℕ) (f : Found A) (given : Given A) (sites : Groups Call Site A)
+    (pending : Vec Edge A) where
   -- what is found, with other sites, messages given and edges pending
   abbrev pub asked_to : Found A
   asked_to = record {
@@ -212,7 +213,8 @@ module _ {A : Type 0} (q : ℕ) (f : Found A) (given : Given A) (sites : Groups 
   still x m = placed_still q (calls_in f) ps ds ps (calls_more (calls_in f) ds k added) (none_behind ps) x (old.placed x m)
 
   placed_in : (b : Bool) → OnTrue b (given.sent.items ≡ f.given.sent.items)
-      → OnFalse b (given.sent.items ≡ f.given.sent.items ++ Asked at ∷ []) → (x : Sent) → Member x given.sent.items → IsPlaced ds ps x
+      → OnFalse b (given.sent.items ≡ f.given.sent.items ++ Asked at ∷ []) → (x : Sent) → Member x given.sent.items
+      → IsPlaced ds ps x
   placed_in true same more x m = still x (subst (Member x) same m)
   placed_in false same more x m =
       elim (member_append x f.given.sent.items (Asked at ∷ []) (subst (Member x) more m)) [

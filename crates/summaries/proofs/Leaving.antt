@@ -1,5 +1,6 @@
 -- The step of a table at an edge at the exit.
-use Rattle.std.proofs.Common.{◌≡◌, ◌⊎◌, ◌<◌, ℕ, List, [], ◌∷◌, ◌++◌, false, nat_eq, inl, inr, refl, sym, ap, subst, ◌∙◌}
+use Rattle.std.proofs.Common.{◌≡◌, ◌⊎◌, ◌<◌, ℕ, List, [], ◌∷◌, ◌++◌, false, nat_eq, inl, inr, refl, sym, ap}
+use Rattle.std.proofs.Common.{subst, ◌∙◌}
 use Rattle.std.proofs.Common.{Some, length, get_or, slice_get}
 use Rattle.std.proofs.lemmas.List.{get_or_append_left}
 use Rattle.std.proofs.lemmas.Option.{slice_get_within, get_or_from_slice_get}
@@ -133,7 +134,8 @@ module _ {A : Type 0} (q : ℕ) (f g : Found A) (a : ℕ) (b : Left) (at : ℕ) 
   abbrev still : (x : Sent) → IsPlaced (calls_in f) f.pairs.keys x → IsPlaced (calls_in f) g.pairs.keys x
   still = placed_still q (calls_in f) f.pairs.keys (calls_in f) g.pairs.keys (none_behind (calls_in f)) more
 
-  exit_or_new : (x i : ℕ) → Member i (under nat_eq g.exits.by_key x) → Member i (under nat_eq f.exits.by_key x) ⊎ ((a ≡ x) × (at ≡ i))
+  exit_or_new : (x i : ℕ) → Member i (under nat_eq g.exits.by_key x)
+      → Member i (under nat_eq f.exits.by_key x) ⊎ ((a ≡ x) × (at ≡ i))
   exit_or_new = added_or nat_eq exact_unsigned_eq (under nat_eq f.exits.by_key) (under nat_eq g.exits.by_key) a at added others
 
   got : (i : ℕ) (p : Pair) → slice_get f.pairs.keys i ≡ Some p → slice_get g.pairs.keys i ≡ Some p

@@ -49,7 +49,8 @@ module _ {X : Type 0} where
       slice_get-get_or (xs ++ x ∷ []) (length xs) x (omega (arith, longer)) ∙ ap Some (get_or-append_seam xs x [] x)
 
   -- two places do not hold the same, where nothing stands twice
-  pub one_place : (xs : List X) (d : X) (i j : ℕ) → NoneTwice xs → i < length xs → j < length xs → get_or xs i d ≡ get_or xs j d → i ≡ j
+  pub one_place : (xs : List X) (d : X) (i j : ℕ) → NoneTwice xs → i < length xs → j < length xs
+      → get_or xs i d ≡ get_or xs j d → i ≡ j
   one_place [] d i j once near there same = absurd (omega (arith, near))
   one_place (x ∷ xs) d zero zero once near there same = refl
   one_place (x ∷ xs) d zero (suc j) once near there same =
@@ -80,7 +81,8 @@ module _ {X Y : Type 0} (f : X → Y) where
   }
 
   -- images stand twice only where two items have the same
-  pub once_mapped : (xs : List X) → ((x y : X) → Member x xs → Member y xs → f x ≡ f y → x ≡ y) → NoneTwice xs → NoneTwice (map f xs)
+  pub once_mapped : (xs : List X) → ((x y : X) → Member x xs → Member y xs → f x ≡ f y → x ≡ y) → NoneTwice xs
+      → NoneTwice (map f xs)
   once_mapped [] one once = tt
   once_mapped (x ∷ xs) one once = (
     λ m.
@@ -114,7 +116,8 @@ module _ (q : ℕ) (cs : List Call) (ps : List Pair) where
         (ap (λ l. get_or l at (pair 0 (left 0 false))) pairs.1 ∙ get_or_append_left ps pairs.0 (pair 0 (left 0 false)) at near)
 
     -- so are all of them
-    pub mails_still : (xs : List Sent) → ((x : Sent) → Member x xs → IsPlaced cs ps x) → map (mail_of ds rs q) xs ≡ map (mail_of cs ps q) xs
+    pub mails_still : (xs : List Sent) → ((x : Sent) → Member x xs → IsPlaced cs ps x)
+        → map (mail_of ds rs q) xs ≡ map (mail_of cs ps q) xs
     mails_still xs placed = map_agrees (mail_of ds rs q) (mail_of cs ps q) xs (λ x m. mail_still x (placed x m))
 
   -- a message that has a place is given by no other

@@ -49,7 +49,8 @@ pub record Step {A G : Type 0} (graph : Graph G) (q : ℕ) (f g : Found A) (es d
   pub ended : (s e : ℕ) (b : Left) (a n v back : ℕ) → HasSite g s e (site a n v) → EntersAt graph n v s e back →
       TookMessage g (numbered_summary s e b) →
       HasSite f s e (site a n v) × TookMessage f (numbered_summary s e b) ⊎ Member (triple a back (resumed_at graph n v b)) ds
-  pub asks : (s e a n v : ℕ) → HasSite g s e (site a n v) → HasSite f s e (site a n v) ⊎ HasGiven g q s (numbered_entry (caller q) e)
+  pub asks : (s e a n v : ℕ) → HasSite g s e (site a n v)
+      → HasSite f s e (site a n v) ⊎ HasGiven g q s (numbered_entry (caller q) e)
   pub tells : (a : ℕ) (b : Left) (c : ℕ) → HasExit g a b → TookMessage g (numbered_entry (caller c) a) →
       HasExit f a b × TookMessage f (numbered_entry (caller c) a) ⊎ HasGiven g q c (numbered_summary q a b)
   pub callers_once : ((a : ℕ) → NoneTwice (under nat_eq f.entries.by_key a)) → (a : ℕ) →
@@ -66,9 +67,11 @@ module _ {A G : Type 0} (graph : Graph G) (q : ℕ) (f g : Found A) (es ds : Lis
       | inr is ↦ is
     ];
     exit =
-        λ a b m. elim (step.exit a b m) [ inl was ↦ let (v, reached, is) = old.exit a b was in (v, more a 0 v reached, is) | inr is ↦ is ];
+        λ a b m.
+        elim (step.exit a b m) [ inl was ↦ let (v, reached, is) = old.exit a b was in (v, more a 0 v reached, is) | inr is ↦ is ];
     given = λ s k m. elim (step.given s k m) [ inl was ↦ owed s k (old.given s k was) | inr is ↦ is ];
-    pending = λ a n v m. elim (step.pending (edge a n v) m) [ inl was ↦ step.kept (triple a n v) (old.pending a n v was) | inr is ↦ is ];
+    pending =
+        λ a n v m. elim (step.pending (edge a n v) m) [ inl was ↦ step.kept (triple a n v) (old.pending a n v was) | inr is ↦ is ];
     callers_once = step.callers_once old.callers_once;
     indexed = step.indexed old.indexed;
   }
@@ -92,7 +95,8 @@ module _ {A G : Type 0} (graph : Graph G) (q : ℕ) (f g : Found A) (es ds : Lis
   -- and nothing is left out
   pub still_complete : (Aside : Triple → Type 0) → IsSaturated graph q f es Aside → IsSaturated graph q g ds Aside
   still_complete Aside old = record {
-    begun = λ from a m. elim (step.begun from a m) [ inl was ↦ step.kept (triple a graph.start a) (old.begun from a was) | inr is ↦ is ];
+    begun =
+        λ from a m. elim (step.begun from a m) [ inl was ↦ step.kept (triple a graph.start a) (old.begun from a was) | inr is ↦ is ];
     worked = λ a n v m. elim (step.new (triple a n v) m) [
       | inl was ↦ elim (old.worked a n v was) [
         | inl aside ↦ inl aside
@@ -136,7 +140,8 @@ module _ {A G : Type 0} (graph : Graph G) (q : ℕ) (f : Found A) (es : List Tri
   }
 
 -- more edges than a limit are reached, where one beside as many is
-pub has_more : (limit : ℕ) (es : List Triple) (P : Triple → Type 0) → NoneTwice es → ((t : Triple) → Member t es → P t) → (t : Triple)
+pub has_more : (limit : ℕ) (es : List Triple) (P : Triple → Type 0) → NoneTwice es → ((t : Triple) → Member t es → P t)
+    → (t : Triple)
     → P t → (Member t es → ⊥) → limit ≤ length es → HasMore limit P
 has_more limit es P once all t is new full =
     (t ∷ es, (new, once), omega (arith, full), λ u m. elim m [ inl e ↦ subst P (sym e) is | inr was ↦ all u was ])
@@ -301,7 +306,8 @@ module _ {A G : Type 0} (graph : Graph G) (q : ℕ) (f : Found A) (es : List Tri
     site = λ s x a n v m. let (reached, at) = old.site s x a n v m in (more a n v reached, at);
     exit = λ a b m. let (v, reached, is) = old.exit a b m in (v, more a 0 v reached, is);
     given = λ s k m. owed s k (old.given s k m);
-    pending = λ a n v m. old.pending a n v (subst (Member (edge a n v)) (sym popped) (member_left (edge a n v) pending.items (e ∷ []) m));
+    pending =
+        λ a n v m. old.pending a n v (subst (Member (edge a n v)) (sym popped) (member_left (edge a n v) pending.items (e ∷ []) m));
     callers_once = old.callers_once;
     indexed = indexed_as f popped_to refl refl (λ a. refl) old.indexed.placed old.indexed;
   }
@@ -328,7 +334,8 @@ module _ {A G : Type 0} (graph : Graph G) (q : ℕ) (f : Found A) (es : List Tri
 
   -- it is an edge
   pub popped_edge : IsGrounded graph q f es → Member (triple_of e) es
-  popped_edge old = old.pending e.entry e.point e.values (subst (Member e) (sym popped) (member_right e pending.items (e ∷ []) (inl refl)))
+  popped_edge old =
+      old.pending e.entry e.point e.values (subst (Member e) (sym popped) (member_right e pending.items (e ∷ []) (inl refl)))
 
 -- nothing is found yet
 module _ {A G : Type 0} (graph : Graph G) (q : ℕ) (f : Found A) (es : List Triple) (empty : IsEmpty f) (none : es ≡ []) where

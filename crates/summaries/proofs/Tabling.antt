@@ -71,7 +71,8 @@ module _ {G A S : Type 0} (members : S → List Triple) (t : Table G A S) (g : F
   }
 
 -- the message that is answered next comes behind those answered, and is none of them
-module _ (q : ℕ) (cs : List Call) (ps : List Pair) (xs : List Sent) (n m : ℕ) (x : Sent) (next : take m xs ≡ take n xs ++ x ∷ []) where
+module _ (q : ℕ) (cs : List Call) (ps : List Pair) (xs : List Sent) (n m : ℕ) (x : Sent)
+    (next : take m xs ≡ take n xs ++ x ∷ []) where
   pub next_behind : take m (map (mail_of cs ps q) xs) ≡ take n (map (mail_of cs ps q) xs) ++ mail_of cs ps q x ∷ []
   next_behind =
       take-map (mail_of cs ps q) m xs ∙ ap (map (mail_of cs ps q)) next ∙ map-append (mail_of cs ps q) (take n xs) (x ∷ [])

@@ -1,5 +1,6 @@
 -- How messages come to be given, one by one.
-use Rattle.std.proofs.Common.{◌≡◌, ◌<◌, ◌+◌, ℕ, false, List, [], ◌∷◌, ◌++◌, ◌⊎◌, Some, take, length, get_or, slice_get}
+use Rattle.std.proofs.Common.{◌≡◌, ◌<◌, ◌+◌, ℕ, false, List, [], ◌∷◌, ◌++◌, ◌⊎◌, Some, take, length, get_or}
+use Rattle.std.proofs.Common.{slice_get}
 use Rattle.std.proofs.Common.{inl, inr, refl, sym, subst, ap, ◌∙◌, arith}
 use Rattle.std.proofs.lemmas.List.{append-nil, append_assoc, length-map}
 use Rattle.std.proofs.lemmas.Option.{get_or_from_slice_get}
@@ -40,7 +41,8 @@ gives_known m old known = record {
 }
 
 -- the same messages, called otherwise
-pub gives_as : {X : Type 0} (V W : X → Type 0) (old new : List X) → ((x : X) → V x → W x) → ((x : X) → W x → V x) → AddsTo V old new
+pub gives_as : {X : Type 0} (V W : X → Type 0) (old new : List X) → ((x : X) → V x → W x) → ((x : X) → W x → V x)
+    → AddsTo V old new
     → AddsTo W old new
 gives_as V W old new to from gives = record {
   all = λ x w. gives.all x (from x w);

@@ -1,6 +1,7 @@
 -- What a table holds is reached and sent, and nothing that is reached or sent is left out but by what is pending.
 use Rattle.std.specs.Bool.{beq}
-use Rattle.std.specs.Prelude.{◌≡◌, ◌≤◌, ◌<◌, ◌⊎◌, ◌↔◌, ◌&&◌, ℕ, Bool, false, List, [], Some, nat_eq, slice_get, take}
+use Rattle.std.specs.Prelude.{◌≡◌, ◌≤◌, ◌<◌, ◌⊎◌, ◌↔◌, ◌&&◌, ℕ, Bool, false, List, [], Some, nat_eq}
+use Rattle.std.specs.Prelude.{slice_get, take}
 use Rattle.std.specs.Prelude.{get_or, length, map}
 use Rattle.indexmap.specs.IndexMap.{keys}
 use Rattle.language.specs.Sequential.{Caller, caller}
@@ -153,7 +154,8 @@ module _ {A G : Type 0} (graph : Graph G) (procedure : ℕ) (found : Found A) (e
     pub flows : (flow : Flow G) (i n' v' : ℕ) → slice_get (flows_of graph) point ≡ Some flow → i ≤ last_of flow →
         next_of flow values i ≡ Some (n', v') →
         Member (triple entry n' v') edges
-    pub calls : (flow : Flow G) (s e n' : ℕ) → slice_get (flows_of graph) point ≡ Some flow → entered_by flow values ≡ Some (s, e, n') →
+    pub calls : (flow : Flow G) (s e n' : ℕ) → slice_get (flows_of graph) point ≡ Some flow
+        → entered_by flow values ≡ Some (s, e, n') →
         HasSite found s e (site entry point values)
     pub leaves : point ≡ 0 → HasExit found entry (left_by graph values)
 

@@ -13,7 +13,8 @@ pub returns-in-Some : goal.returns-in-Some
 returns-in-Some g c gs ls e =
     let over = over_bits c.args.self.now c.args.e.now in
     let table = subst (λ made. IfSome made (λ t. IsTruthTableIn t [] 0 over)) c.in-Some.is c.in_ok-table.ensures in
-    table (coded (gs ++ ls)) (λ b h. absurd (false≢true h)) ∙ worth_is_value (scope_seen c.args.self.now) gs ls (expr_of c.args.e.now) e
+    table (coded (gs ++ ls)) (λ b h. absurd (false≢true h))
+    ∙ worth_is_value (scope_seen c.args.self.now) gs ls (expr_of c.args.e.now) e
 
 pub returns-in-Some-2 : goal.returns-in-Some-2
 returns-in-Some-2 g c gs ls e =
@@ -23,4 +24,5 @@ returns-in-Some-2 g c gs ls e =
 
 pub returns-in_ok-postfix-in-None : goal.returns-in_ok-postfix-in-None
 returns-in_ok-postfix-in-None g c gs ls e =
-    c.in_ok-postfix-in-None.ensures (bit_of (coded (gs ++ ls))) ∙ worth_is_value (scope_seen c.args.self.now) gs ls (expr_of c.args.e.now) e
+    c.in_ok-postfix-in-None.ensures (bit_of (coded (gs ++ ls)))
+    ∙ worth_is_value (scope_seen c.args.self.now) gs ls (expr_of c.args.e.now) e

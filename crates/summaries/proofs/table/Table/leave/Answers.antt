@@ -61,7 +61,8 @@ abbrev after : (g : Over) → In_ok-tell_all g → Found g.row.A.Denot
 after g c = record c.args.self.now.found { exits = c.add.new.self; pairs = c.insert_full.new.self; given = c.tell_all.new.given }
 
 -- its place is kept
-kept : (g : Over) (c : In_ok-tell_all g) → (Member (pair c.args.edge.entry c.left-left.result) c.args.self.now.found.pairs.keys → ⊥) →
+kept : (g : Over) (c : In_ok-tell_all g) → (Member (pair c.args.edge.entry c.left-left.result) c.args.self.now.found.pairs.keys → ⊥)
+    →
     c.insert_full.new.self.keys ≡ c.args.self.now.found.pairs.keys ++ pair c.args.edge.entry c.left-left.result ∷ [] →
     slice_get c.insert_full.new.self.keys c.in_ok-exit.exit ≡ Some (pair c.args.edge.entry c.left-left.result) →
     IsIndexed c.args.self.now.found → IsIndexed (after g c)
@@ -70,7 +71,8 @@ kept g c new last here old =
     c.of-callers.result.now old new last here c.in_ok-add.ensures.added c.in_ok-add.ensures.others c.in_ok-tell_all.ensures.ok
 
 -- and its summary is given to the callers
-gave : (g : Over) (c : In_ok-tell_all g) → (Member (pair c.args.edge.entry c.left-left.result) c.args.self.now.found.pairs.keys → ⊥) →
+gave : (g : Over) (c : In_ok-tell_all g) → (Member (pair c.args.edge.entry c.left-left.result) c.args.self.now.found.pairs.keys → ⊥)
+    →
     c.insert_full.new.self.keys ≡ c.args.self.now.found.pairs.keys ++ pair c.args.edge.entry c.left-left.result ∷ [] →
     slice_get c.insert_full.new.self.keys c.in_ok-exit.exit ≡ Some (pair c.args.edge.entry c.left-left.result) →
     let self = c.args.self.now in
@@ -107,7 +109,8 @@ returns-in_ok-tell_all-clause-left g c = λ _.
     let b = c.left-left.result in
     let keys = is_last g (goal.at.returns-in_ok-tell_all-clause-left g c).In_ok-at c.if-new.true in
     subst (λ y. Member (pair entry y) c.insert_full.new.self.keys) c.left-left.ensures.number
-    (subst (Member (pair entry b)) (sym keys) (member_right (pair entry b) c.args.self.now.found.pairs.keys (pair entry b ∷ []) (inl refl)))
+    (subst (Member (pair entry b)) (sym keys)
+    (member_right (pair entry b) c.args.self.now.found.pairs.keys (pair entry b ∷ []) (inl refl)))
 
 pub returns-in_ok-tell_all-clause-answers : goal.returns-in_ok-tell_all-clause-answers
 returns-in_ok-tell_all-clause-answers g c =

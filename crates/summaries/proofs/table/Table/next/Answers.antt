@@ -14,7 +14,8 @@ returns-then-not-branch-clause-quiet g c =
     let held = step.keeps.table.holds step.keeps.fault in
     let none = subst (λ b. OnFalse b (t.found.pending.items ≡ [])) c.if-not-branch.true step.none in
     let old = c.answer.new.self in
-    let given = subst (λ b. OnFalse b (mails_in t.procedure t.found ≡ mails_in old.procedure old.found)) c.if-not-branch.true step.given in
+    let given =
+    subst (λ b. OnFalse b (mails_in t.procedure t.found ≡ mails_in old.procedure old.found)) c.if-not-branch.true step.given in
     quiet_table g.S.PathSet.members t held.0 held.1 none (step.answers ∙ c.in_default-answer.ensures.all ∙ sym given)
 
 -- fewer than 2^64 messages are answered
