@@ -165,7 +165,7 @@ pub no_limit : {T : Type 0} (r : Result T TableFault) → IsErrAnd r (λ e. e �
 no_limit r told is = two_faults (subst (λ s. IsErrAnd s (λ e. e ≡ Memory)) is told)
 
 -- of an answer that is a fault nothing is said of Ok
-pub failed_ok : {T : Type 0} (Q : Type 0) (P : TableFault → Type 0) (r : Result T TableFault) → IsErrAnd r P → OnOk r Q
+pub failed_ok : {T E : Type 0} (Q : Type 0) (P : E → Type 0) (r : Result T E) → IsErrAnd r P → OnOk r Q
 failed_ok Q P (Ok _) told = absurd told
 failed_ok Q P (Err _) told = tt
 

@@ -13,6 +13,7 @@ use Rattle.summaries.specs.declared.due.Caller.{Caller}
 use Rattle.summaries.specs.declared.due.Caller.TheVariants.{Proc}
 use Rattle.summaries.specs.declared.edge.Edge.{Edge}
 use Rattle.summaries.specs.declared.edge.Site.{Site}
+use Rattle.summaries.specs.declared.given.Given.{Given}
 use Rattle.summaries.specs.declared.given.Sent.{Sent}
 use Rattle.summaries.specs.declared.given.Sent.TheVariants.{Told}
 use Rattle.summaries.specs.declared.table_fault.TableFault.{TableFault}
@@ -94,3 +95,10 @@ IsTold pair from sent = (c : ℕ) × (from ≡ Proc c) × (sent ≡ Told c pair)
 -- A message is the summary of the procedure for this caller, which is not the starter.
 abbrev pub IsSummaryTold : ℕ → ℕ → Left → Caller → Mail → Type 0
 IsSummaryTold procedure entry exit from message = (c : ℕ) × (from ≡ Proc c) × (message ≡ mail c (summary_due procedure entry exit))
+
+-- Messages were to be given, and so answers the giving. On Ok those of which W holds are given; whatever the answer, no
+-- others are, and no more are answered.
+pub record Gives {A T E : Type 0} (W : Sent → Type 0) (answer : Result T E) (old new : Given A) : Type 0 where
+  pub ok : OnOk answer (AddsTo W old.sent.items new.sent.items)
+  pub only : AddsOnly W old.sent.items new.sent.items
+  pub answered : new.answered ≡ old.answered

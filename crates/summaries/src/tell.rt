@@ -1,9 +1,8 @@
 //! An exit whose callers are known.
 
-ghost use Rattle.std.specs.Prelude.{◌≡◌, OnOk};
 ghost use Rattle.language.specs.Lists.{Member, NoneTwice};
 ghost use Rattle.summaries.specs.declared.given.Sent.{Sent};
-ghost use Rattle.summaries.specs.Grows.{AddsOnly, AddsTo, OfSome, IsTold};
+ghost use Rattle.summaries.specs.Grows.{Gives, OfSome, IsTold};
 
 use crate::due::Caller;
 use crate::given::{Given, Sent};
@@ -16,10 +15,7 @@ pub(crate) fn tell<A: Allocator + Copy>(
     caller: Caller,
 ) -> Result<(), AllocError>
     requires { (x : Sent) → IsTold pair caller x → ¬ Member x given.old.sent.items }
-    ensures ok { OnOk result
-        (AddsTo (IsTold pair caller) given.old.sent.items given.new.sent.items) }
-    ensures only { AddsOnly (IsTold pair caller) given.old.sent.items given.new.sent.items }
-    ensures answered { given.new.answered ≡ given.old.answered }
+    ensures { Gives (IsTold pair caller) result given.old given.new }
 {
     if let Caller::Proc(to) = caller {
         given.give(Sent::Told { to, pair })?;
@@ -36,11 +32,7 @@ pub(crate) fn tell_all<A: Allocator + Copy>(
     requires once { NoneTwice callers.now }
     requires new { (x : Sent) → OfSome (IsTold pair) callers.now x
         → ¬ Member x given.old.sent.items }
-    ensures ok { OnOk result
-        (AddsTo (OfSome (IsTold pair) callers.now) given.old.sent.items given.new.sent.items) }
-    ensures only { AddsOnly
-        (OfSome (IsTold pair) callers.now) given.old.sent.items given.new.sent.items }
-    ensures answered { given.new.answered ≡ given.old.answered }
+    ensures { Gives (OfSome (IsTold pair) callers.now) result given.old given.new }
 {
     for caller in callers {
         tell(given, pair, *caller)?;
@@ -58,11 +50,7 @@ pub(crate) fn tell_exits<A: Allocator + Copy>(
     requires once { NoneTwice pairs.now }
     requires new { (x : Sent) → OfSome (λ pair. IsTold pair caller) pairs.now x
         → ¬ Member x given.old.sent.items }
-    ensures ok { OnOk result (AddsTo (OfSome (λ pair. IsTold pair caller) pairs.now)
-        given.old.sent.items given.new.sent.items) }
-    ensures only { AddsOnly (OfSome (λ pair. IsTold pair caller) pairs.now)
-        given.old.sent.items given.new.sent.items }
-    ensures answered { given.new.answered ≡ given.old.answered }
+    ensures { Gives (OfSome (λ pair. IsTold pair caller) pairs.now) result given.old given.new }
 {
     for pair in pairs {
         tell(given, *pair, caller)?;

@@ -1,8 +1,10 @@
-use Rattle.std.proofs.Common.{◌∙◌, inl, inr, sym, subst, take}
+use Rattle.std.proofs.Common.{◌≡◌, ◌∙◌, sym, ap, subst, take, length, arith}
+use Rattle.std.proofs.Math.Seq.{take-length}
 use Rattle.summaries.specs.declared.due.Caller.TheVariants.{Starter}
 use Rattle.summaries.specs.Grows.{AddsTo, OfSome, IsTold}
 use Rattle.summaries.proofs.Firsts.{take_more}
-use Rattle.summaries.proofs.Eaches.{each_first, each_until}
+use Rattle.summaries.proofs.Eaches.{each_until}
+use Rattle.summaries.proofs.Growing.{failed_ok}
 use Rattle.summaries.proofs.Telling.{gives_more, still_new, one_caller}
 use Rattle.summaries.proofs.tell.tell_all.Goals as goal
 
@@ -25,16 +27,19 @@ loop-caller-preserved g c =
       c.in_ok-tell.ensures.answered ∙ c.loop-caller.invariant.1,
     )
 
-pub returns-in_err-tell-clause-only : goal.returns-in_err-tell-clause-only
-returns-in_err-tell-clause-only g c = λ x there.
-    let xs = c.args.callers.now in
-    let i = c.loop-caller.caller-index in
-    each_until (IsTold c.args.pair) xs i Starter c.loop-caller-test.true x (c.in_err-tell.ensures.only x there)
-    (c.loop-caller.invariant.0.only x)
+pub returns-in_err-tell : goal.returns-in_err-tell
+returns-in_err-tell g c = record {
+  ok = failed_ok _ _ c.from_residual.result c.from_residual.ensures.1;
+  only = λ x there.
+      each_until (IsTold c.args.pair) c.args.callers.now c.loop-caller.caller-index Starter c.loop-caller-test.true x
+      (c.in_err-tell.ensures.only x there) (c.loop-caller.invariant.0.only x);
+  answered = c.in_err-tell.ensures.answered ∙ c.loop-caller.invariant.1;
+}
 
-pub returns-clause-only : goal.returns-clause-only
-returns-clause-only g c = λ x there.
-    elim (c.loop-caller.invariant.0.only x there) [
-      | inl first ↦ inl (each_first (IsTold c.args.pair) c.args.callers.now c.loop-caller.caller-index x first)
-      | inr was ↦ inr was
-    ]
+pub returns : goal.returns
+returns g c =
+    let xs = c.args.callers.now in
+    let end : c.loop-caller.caller-index ≡ length xs = omega (arith, c.loop-caller-test.false, c.loop-caller.auto.caller-index-end) in
+    let gives = subst (λ l. AddsTo (OfSome (IsTold c.args.pair) l) c.args.given.now.sent.items c.loop-caller.given.sent.items)
+    (ap (λ n. take n xs) end ∙ take-length xs) c.loop-caller.invariant.0 in
+    record { ok = gives; only = gives.only; answered = c.loop-caller.invariant.1 }

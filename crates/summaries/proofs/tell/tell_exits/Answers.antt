@@ -1,8 +1,9 @@
-use Rattle.std.proofs.Common.{◌≡◌, inl, inr, sym, ap, ◌∙◌, subst, take, length, arith}
+use Rattle.std.proofs.Common.{◌≡◌, sym, ap, ◌∙◌, subst, take, length, arith}
 use Rattle.std.proofs.Math.Seq.{take-length}
 use Rattle.summaries.specs.Grows.{AddsTo, OfSome, IsTold}
 use Rattle.summaries.proofs.Firsts.{take_more}
-use Rattle.summaries.proofs.Eaches.{each_first, each_until}
+use Rattle.summaries.proofs.Eaches.{each_until}
+use Rattle.summaries.proofs.Growing.{failed_ok}
 use Rattle.summaries.proofs.Telling.{gives_more, still_new, one_pair}
 use Rattle.summaries.proofs.tell.tell_exits.Goals as goal
 
@@ -25,26 +26,19 @@ loop-pair-preserved g c =
       c.in_ok-tell.ensures.answered ∙ c.loop-pair.invariant.1,
     )
 
-pub returns-in_err-tell-clause-only : goal.returns-in_err-tell-clause-only
-returns-in_err-tell-clause-only g c = λ x there.
-    let xs = c.args.pairs.now in
-    let i = c.loop-pair.pair-index in
-    each_until (λ pair. IsTold pair c.args.caller) xs i 0 c.loop-pair-test.true x
-    (c.in_err-tell.ensures.only x there)
-    (c.loop-pair.invariant.0.only x)
+pub returns-in_err-tell : goal.returns-in_err-tell
+returns-in_err-tell g c = record {
+  ok = failed_ok _ _ c.from_residual.result c.from_residual.ensures.1;
+  only = λ x there.
+      each_until (λ pair. IsTold pair c.args.caller) c.args.pairs.now c.loop-pair.pair-index 0 c.loop-pair-test.true x
+      (c.in_err-tell.ensures.only x there) (c.loop-pair.invariant.0.only x);
+  answered = c.in_err-tell.ensures.answered ∙ c.loop-pair.invariant.1;
+}
 
-pub returns-clause-only : goal.returns-clause-only
-returns-clause-only g c = λ x there.
-    elim (c.loop-pair.invariant.0.only x there) [
-      | inl first ↦
-          inl (each_first (λ pair. IsTold pair c.args.caller) c.args.pairs.now c.loop-pair.pair-index x first)
-      | inr was ↦ inr was
-    ]
-
-pub returns-clause-ok : goal.returns-clause-ok
-returns-clause-ok g c =
+pub returns : goal.returns
+returns g c =
     let xs = c.args.pairs.now in
     let end : c.loop-pair.pair-index ≡ length xs = omega (arith, c.loop-pair-test.false, c.loop-pair.auto.pair-index-end) in
-    subst (λ l. AddsTo
-    (OfSome (λ pair. IsTold pair c.args.caller) l) c.args.given.now.sent.items
-    c.loop-pair.given.sent.items) (ap (λ n. take n xs) end ∙ take-length xs) c.loop-pair.invariant.0
+    let gives = subst (λ l. AddsTo (OfSome (λ pair. IsTold pair c.args.caller) l) c.args.given.now.sent.items c.loop-pair.given.sent.items)
+    (ap (λ n. take n xs) end ∙ take-length xs) c.loop-pair.invariant.0 in
+    record { ok = gives; only = gives.only; answered = c.loop-pair.invariant.1 }
