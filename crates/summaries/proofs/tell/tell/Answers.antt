@@ -18,7 +18,8 @@ unfolding the
 number c to e = ap the e
 
 -- the summary is given to the caller
-are_given : (g : Over) (c : In_ok-give g) → AddsTo (IsTold c.args.pair c.args.caller) c.args.given.now.sent.items c.give.new.self.sent.items
+are_given : (g : Over) (c : In_ok-give g)
+    → AddsTo (IsTold c.args.pair c.args.caller) c.args.given.now.sent.items c.give.new.self.sent.items
 are_given g c =
     let told = Told c.in-Proc.to c.args.pair in
     let one = gives_one told c.args.given.now.sent.items c.give.new.self.sent.items c.in_ok-give.ensures.ok in

@@ -39,6 +39,7 @@ pub returns : goal.returns
 returns g c =
     let xs = c.args.pairs.now in
     let end : c.loop-pair.pair-index ≡ length xs = omega (arith, c.loop-pair-test.false, c.loop-pair.auto.pair-index-end) in
-    let gives = subst (λ l. AddsTo (OfSome (λ pair. IsTold pair c.args.caller) l) c.args.given.now.sent.items c.loop-pair.given.sent.items)
+    let gives =
+    subst (λ l. AddsTo (OfSome (λ pair. IsTold pair c.args.caller) l) c.args.given.now.sent.items c.loop-pair.given.sent.items)
     (ap (λ n. take n xs) end ∙ take-length xs) c.loop-pair.invariant.0 in
     record { ok = gives; only = gives.only; answered = c.loop-pair.invariant.1 }
