@@ -6,8 +6,8 @@ use crate::due::{Caller, Due};
 use crate::edge::{Call, Edge, Site};
 use crate::given::{Given, Sent};
 use crate::groups::Groups;
-use crate::pair::Pair;
-use flow_graph::Left;
+use crate::kept_left::KeptLeft;
+use crate::kept_pair::KeptPair;
 use indexmap::IndexSet;
 use language::Word;
 use std::alloc::Allocator;
@@ -19,11 +19,11 @@ pub(crate) struct Found<A: Allocator> {
     /// Who enters the procedure, by the valuation on entry.
     pub(crate) entries: Groups<Word, Caller, A>,
     /// What the procedures called leave, by call.
-    pub(crate) summaries: Groups<Call, Left, A>,
+    pub(crate) summaries: Groups<Call, KeptLeft, A>,
     /// Where calls stand, by call.
     pub(crate) sites: Groups<Call, Site, A>,
     /// The pairs of the procedure.
-    pub(crate) pairs: IndexSet<Pair, BuildHasherDefault<FoldHasher>, A>,
+    pub(crate) pairs: IndexSet<KeptPair, BuildHasherDefault<FoldHasher>, A>,
     /// The places of the pairs, by the valuation on entry.
     pub(crate) exits: Groups<Word, u32, A>,
     /// The messages given.
@@ -68,7 +68,7 @@ impl<A: Allocator + Copy> Found<A> {
                 (call.callee, due)
             }
             Sent::Told { to, pair } => {
-                let pair = self.pairs.as_slice()[pair as usize];
+                let pair = self.pairs.as_slice()[pair as usize].pair();
                 let due = Due::Summary {
                     p: procedure,
                     r: pair.r,

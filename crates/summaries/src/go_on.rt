@@ -2,6 +2,7 @@
 
 use crate::edge::{Edge, Site};
 use crate::frontier::Frontier;
+use crate::kept_left::KeptLeft;
 use crate::table_fault::TableFault;
 use flow_graph::{Flow, Graph, Left};
 use path_sets::PathSet;
@@ -41,14 +42,14 @@ impl<'e, 'p, A: Allocator, S: PathSet<A>> Frontier<'e, 'p, A, S> {
         &mut self,
         graph: &Graph<G>,
         site: Site,
-        summaries: &[Left],
+        summaries: &[KeptLeft],
     ) -> Result<(), TableFault>
         requires { IsWithin S.members self.old }
         ensures { Reaches S.members
             (OfSome (IsBehind graph.now site) summaries.now) result self.old self.new }
     {
         for left in summaries {
-            self.reach_behind(graph, site, *left)?;
+            self.reach_behind(graph, site, left.left())?;
         }
         Ok(())
     }

@@ -10,6 +10,7 @@ ghost use Rattle.summaries.specs.Together.{AreReadOff};
 
 use crate::due;
 use crate::groups::Groups;
+use crate::kept_pair::KeptPair;
 use crate::pair::Pair;
 use crate::summaries::Summary;
 use crate::table::Table;
@@ -42,12 +43,15 @@ fn entries<A: Allocator + Copy>(
 /// The pairs, ascending.
 fn pairs<A: Allocator + Copy>(
     alloc: A,
-    pairs: &IndexSet<Pair, BuildHasherDefault<FoldHasher>, A>,
+    found: &IndexSet<KeptPair, BuildHasherDefault<FoldHasher>, A>,
 ) -> Result<Vec<Pair, A>, AllocError>
     ensures ascend { IfOk result (λ v. ArePairsAscending v.items) }
-    ensures pairs { IfOk result (λ v. (x : Pair) → Member x v.items ↔ Member x pairs.now.keys) }
+    ensures pairs { IfOk result (λ v. (x : Pair) → Member x v.items ↔ Member x found.now.keys) }
 {
-    let mut pairs = Vec::from_slice(alloc, pairs.as_slice())?;
+    let mut pairs = Vec::with_capacity(alloc, found.len())?;
+    for kept in found.as_slice() {
+        pairs.push(kept.pair())?;
+    }
     pairs.sort_unstable();
     Ok(pairs)
 }

@@ -15,6 +15,8 @@ use crate::due::Caller;
 use crate::edge::{Call, Edge, Site};
 use crate::frontier::Frontier;
 use crate::given::place;
+use crate::kept_left::KeptLeft;
+use crate::kept_pair::KeptPair;
 use crate::pair::Pair;
 use crate::table::Table;
 use crate::table_fault::TableFault;
@@ -47,7 +49,7 @@ impl<'g, G: Allocator, A: Allocator + Copy, S: PathSet<A>> Table<'g, G, A, S> {
             b: left.globals,
             r: left.result,
         };
-        let (at, new) = self.found.pairs.insert_full(pair)?;
+        let (at, new) = self.found.pairs.insert_full(KeptPair::new(pair))?;
         if new {
             let exit = place(at)?;
             self.found.exits.add(edge.entry, exit)?;
@@ -154,7 +156,7 @@ impl<'g, G: Allocator, A: Allocator + Copy, S: PathSet<A>> Table<'g, G, A, S> {
         ensures only { TookOnly
             (summary_due call.callee call.entered left) self.old.found self.new.found }
     {
-        self.found.summaries.add(call, left)?;
+        self.found.summaries.add(call, KeptLeft::new(left))?;
         let mut frontier = Frontier {
             edges: &mut self.edges,
             pending: &mut self.found.pending,

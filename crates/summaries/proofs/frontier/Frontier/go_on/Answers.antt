@@ -1,21 +1,35 @@
-use Rattle.std.proofs.Common.{false, Err, refl, sym, ap, arith, rules}
-use Rattle.summaries.specs.Found.{left}
-use Rattle.summaries.specs.Grows.{IsBehind}
+use Rattle.std.proofs.Common.{◌≡◌, ℕ, List, Result, false, Err, refl, sym, ap, ◌∙◌, subst, arith, rules}
+use Rattle.path_sets.specs.Triples.{Triple}
+use Rattle.summaries.specs.declared.edge.Edge.{Edge}
+use Rattle.summaries.specs.declared.table_fault.TableFault.{TableFault}
+use Rattle.summaries.specs.Grows.{Adds, Grows, IsBehind}
 use Rattle.summaries.proofs.Growing.{each_next, each_failed, each_done, fault_of}
 use Rattle.summaries.proofs.Reaching.{still_within, reaches_on, stays_on}
 use Rattle.summaries.proofs.frontier.Frontier.go_on.Goals as goal
+
+module _ {X : Type 0} (W : X → Triple → Type 0) {x y : X} (same : x ≡ y) {old new : List Triple} {before after : List Edge} where
+  -- what is added for an item is added for one that is the same
+  adds_for : {T : Type 0} {answer : Result T TableFault} {most : ℕ} → Adds (W x) answer most old new before after
+      → Adds (W y) answer most old new before after
+  adds_for {T} {answer} {most} = subst (λ z. Adds (W z) answer most old new before after) same
+
+  grows_for : Grows (W x) old new before after → Grows (W y) old new before after
+  grows_for = subst (λ z. Grows (W z) old new before after) same
 
 pub returns-in_err-reach_behind : goal.returns-in_err-reach_behind
 returns-in_err-reach_behind g c =
     reaches_on g.S.PathSet.members c.loop-left.invariant.2 c.in_err-reach_behind.ensures.stays
     (each_failed (IsBehind c.args.graph.now c.args.site) c.args.summaries.now c.loop-left.left-index _ _ _ _ c.loop-left.invariant.0
-    (left 0 false) c.loop-left-test.true _ _ c.in_err-reach_behind.ensures.adds (search rules)
+    c.left-item.result c.loop-left-test.true _ _
+    (adds_for (IsBehind c.args.graph.now c.args.site) (c.left.ensures ∙ c.left-item.is) c.in_err-reach_behind.ensures.adds)
+    (search rules)
     (λ e. ap Err (sym (fault_of _ _ _ c.from_residual.ensures.1 e))))
 
 pub loop-left-preserved : goal.loop-left-preserved
 loop-left-preserved g c = (
   each_next (IsBehind c.args.graph.now c.args.site) c.args.summaries.now c.loop-left.left-index _ _ _ _ c.loop-left.invariant.0
-      (left 0 false) c.loop-left-test.true _ _ c.in_ok-reach_behind.ensures.adds.ok,
+      c.left-item.result c.loop-left-test.true _ _
+      (grows_for (IsBehind c.args.graph.now c.args.site) (c.left.ensures ∙ c.left-item.is) c.in_ok-reach_behind.ensures.adds.ok),
   still_within g.S.PathSet.members c.in_ok-reach_behind.ensures,
   stays_on c.loop-left.invariant.2 c.in_ok-reach_behind.ensures.stays,
 )

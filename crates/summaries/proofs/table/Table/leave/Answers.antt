@@ -12,7 +12,7 @@ use Rattle.summaries.proofs.Mails.{inserted_new, inserted_known, inserted_apart}
 use Rattle.summaries.proofs.Leaving.{leave_step, left_indexed, left_told, none_told}
 use Rattle.summaries.proofs.Stepping.{still_holds, same_step}
 use Rattle.summaries.proofs.Telling.{answers_kept}
-use Rattle.summaries.specs.contracts.pair.PairEq.TheImpl.Laws.{laws-law}
+use Rattle.summaries.specs.contracts.kept_pair.KeptPairEq.TheImpl.Laws.{laws-law}
 use Rattle.summaries.proofs.table.Table.leave.Given.{Over}
 use Rattle.summaries.proofs.table.Table.leave.Goals as goal
 use Rattle.summaries.proofs.table.Table.leave.Goals.{In_ok-at, In_ok-exit, In_ok-tell_all}
@@ -20,26 +20,28 @@ use Rattle.summaries.proofs.table.Table.leave.Goals.{In_ok-at, In_ok-exit, In_ok
 -- the pair is new
 is_new : (g : Over) (c : In_ok-at g) → c.in_ok-at.new ≡ true →
     Member (pair c.args.edge.entry c.left-left.result) c.args.self.now.found.pairs.keys → ⊥
-is_new g c =
-    inserted_apart pair_eq
-    (pair c.args.edge.entry c.left-left.result) c.args.self.now.found.pairs.keys c.insert_full.new.self.keys
-    c.in_ok-at.new c.in_ok-at.ensures.added c.in_ok-at.ensures.keys laws-law.refl
+is_new g c = λ is.
+    subst (λ p. Member p c.args.self.now.found.pairs.keys → ⊥) c.new.ensures
+    (inserted_apart pair_eq c.new.result c.args.self.now.found.pairs.keys c.insert_full.new.self.keys
+    c.in_ok-at.new c.in_ok-at.ensures.added c.in_ok-at.ensures.keys laws-law.refl is)
 
 -- the pair is known
 is_known : (g : Over) (c : In_ok-at g) → c.in_ok-at.new ≡ false →
     (c.insert_full.new.self.keys ≡ c.args.self.now.found.pairs.keys)
     × (list_any (pair_eq (pair c.args.edge.entry c.left-left.result)) c.args.self.now.found.pairs.keys ≡ true)
-is_known g c =
-    inserted_known pair_eq
-    (pair c.args.edge.entry c.left-left.result) c.args.self.now.found.pairs.keys c.insert_full.new.self.keys
-    c.in_ok-at.new c.in_ok-at.ensures.added c.in_ok-at.ensures.keys
+is_known g c = λ same.
+    let found = c.args.self.now.found.pairs.keys in
+    subst (λ p. (c.insert_full.new.self.keys ≡ found) × (list_any (pair_eq p) found ≡ true)) c.new.ensures
+    (inserted_known pair_eq c.new.result found c.insert_full.new.self.keys
+    c.in_ok-at.new c.in_ok-at.ensures.added c.in_ok-at.ensures.keys same)
 
 -- one that is new stands behind the others
 is_last : (g : Over) (c : In_ok-at g) → c.in_ok-at.new ≡ true →
     c.insert_full.new.self.keys ≡ c.args.self.now.found.pairs.keys ++ pair c.args.edge.entry c.left-left.result ∷ []
-is_last g c =
-    inserted_new pair_eq (pair c.args.edge.entry c.left-left.result) c.args.self.now.found.pairs.keys c.insert_full.new.self.keys
-    c.in_ok-at.new c.in_ok-at.ensures.added c.in_ok-at.ensures.keys
+is_last g c = λ is.
+    subst (λ p. c.insert_full.new.self.keys ≡ c.args.self.now.found.pairs.keys ++ p ∷ []) c.new.ensures
+    (inserted_new pair_eq c.new.result c.args.self.now.found.pairs.keys c.insert_full.new.self.keys
+    c.in_ok-at.new c.in_ok-at.ensures.added c.in_ok-at.ensures.keys is)
 
 -- at its place
 stands : (g : Over) (c : In_ok-exit g) →
@@ -47,7 +49,7 @@ stands : (g : Over) (c : In_ok-exit g) →
 stands g c =
     let (k, here, same) = c.in_ok-at.ensures.stored in
     ap (slice_get c.insert_full.new.self.keys) c.in_ok-exit.ensures
-    ∙ here ∙ ap Some (sym (same_pair (pair c.args.edge.entry c.left-left.result) k same))
+    ∙ here ∙ ap Some (sym (same_pair c.new.result k same) ∙ c.new.ensures)
 
 pub tell_all-requires-clause-new : goal.tell_all-requires-clause-new
 tell_all-requires-clause-new g c =

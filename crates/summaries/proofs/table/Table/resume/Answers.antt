@@ -1,7 +1,9 @@
-use Rattle.std.proofs.Common.{◌⊎◌, inr, refl, sym, subst}
+use Rattle.std.proofs.Common.{◌⊎◌, ◌++◌, ◌∷◌, [], inr, refl, sym, ap, ◌∙◌, subst}
 use Rattle.std.proofs.lemmas.Result.{IfOk-weaker}
 use Rattle.language.specs.Lists.{Member}
 use Rattle.path_sets.specs.Triples.{Triple}
+use Rattle.summaries.specs.Under.{under}
+use Rattle.summaries.specs.Found.{call_eq}
 use Rattle.summaries.specs.Grows.{Grows, OfSome, IsBehind}
 use Rattle.summaries.proofs.Resuming.{resumed_also, resume_only, resume_step, resumed_reached}
 use Rattle.summaries.proofs.Stepping.{grown_to, still_holds, all_reached, taken_as}
@@ -24,21 +26,22 @@ returns-clause-worked g c =
     let f = self.found in
     let es = g.S.PathSet.members self.edges in
     let ds = g.S.PathSet.members c.go_on_at_each.new.self.edges.now in
+    let added = c.in_ok-add.ensures.added ∙ ap (λ b. under call_eq f.summaries.by_key c.args.call ++ b ∷ []) c.new.ensures in
     let edges = resume_only self.graph.now self.procedure f c.add.new.self c.go_on_at_each.new.self.pending.now c.args.call c.args.left
-    c.in_ok-add.ensures.added c.in_ok-add.ensures.others es ds c.requires.holds.0
+    added c.in_ok-add.ensures.others es ds c.requires.holds.0
     (subst (λ ss. (t : Triple) → Member t ds → OfSome (λ y. IsBehind self.graph.now y c.args.left) ss t ⊎ Member t es)
     c.of.ensures c.go_on_at_each.ensures.adds.only) in
     added_worked g.S.PathSet.members _ (λ t. ⊥) c.go_on_at_each.result self _ es _ _ c.go_on_at_each.ensures.adds
     (g.met.S.PathSet.none_twice c.go_on_at_each.new.self.edges.now) edges
     (λ t w. resumed_reached self.graph.now self.procedure f c.add.new.self c.go_on_at_each.new.self.pending.now c.args.call c.args.left
-    c.in_ok-add.ensures.added c.in_ok-add.ensures.others es ds c.requires.holds.0 t
+    added c.in_ok-add.ensures.others es ds c.requires.holds.0 t
     (subst (λ ss. OfSome (λ y. IsBehind self.graph.now y c.args.left) ss t) c.of.ensures w))
     (IfOk-weaker c.go_on_at_each.result _ _
     (λ _ grown.
     let known = subst (λ ss. Grows (OfSome (λ y. IsBehind self.graph.now y c.args.left) ss) es ds f.pending.items
     c.go_on_at_each.new.self.pending.now.items) c.of.ensures grown in
     let step = resume_step self.graph.now self.procedure f c.add.new.self c.go_on_at_each.new.self.pending.now c.args.call
-    c.args.left c.in_ok-add.ensures.added c.in_ok-add.ensures.others es ds c.requires.holds.0 known in
+    c.args.left added c.in_ok-add.ensures.others es ds c.requires.holds.0 known in
     still_holds self.graph.now self.procedure f _ es ds step (λ t. ⊥) c.requires.holds)
     c.go_on_at_each.ensures.adds.ok)
     (IfOk-weaker c.go_on_at_each.result _ _ (λ _ _. refl) c.go_on_at_each.ensures.adds.ok)
@@ -48,10 +51,11 @@ pub returns-clause-taken : goal.returns-clause-taken
 returns-clause-taken g c =
     let self = c.args.self.now in
     let f = self.found in
+    let added = c.in_ok-add.ensures.added ∙ ap (λ b. under call_eq f.summaries.by_key c.args.call ++ b ∷ []) c.new.ensures in
     IfOk-weaker c.go_on_at_each.result _ _
     (λ _ _.
     resumed_also self.graph.now self.procedure f c.add.new.self c.go_on_at_each.new.self.pending.now c.args.call c.args.left
-    c.in_ok-add.ensures.added c.in_ok-add.ensures.others)
+    added c.in_ok-add.ensures.others)
     c.go_on_at_each.ensures.adds.ok
 
 pub returns-in_err-add-clause-only : goal.returns-in_err-add-clause-only
@@ -63,5 +67,6 @@ returns-in_err-add-clause-only g c = λ k m.
 pub returns-clause-only : goal.returns-clause-only
 returns-clause-only g c = λ k.
     let self = c.args.self.now in
+    let added = c.in_ok-add.ensures.added ∙ ap (λ b. under call_eq self.found.summaries.by_key c.args.call ++ b ∷ []) c.new.ensures in
     (resumed_also self.graph.now self.procedure self.found c.add.new.self c.go_on_at_each.new.self.pending.now c.args.call c.args.left
-    c.in_ok-add.ensures.added c.in_ok-add.ensures.others k).0
+    added c.in_ok-add.ensures.others k).0
