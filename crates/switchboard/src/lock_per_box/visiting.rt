@@ -9,6 +9,7 @@ ghost use Rattle.switchboard.specs.Knowing.{hand_at};
 ghost use Rattle.switchboard.specs.PerBox.{word_of, IsBoxOf, CanDraw, IsInside, LeavesOneEvent};
 ghost use Rattle.switchboard.specs.PerBox.{TellsOrder};
 
+use crate::lock_per_box::doors::{Doors, Passed};
 use crate::lock_per_box::outstanding::{Boards, BoxSeat};
 use crate::mail::Mail;
 use post_ledger::Mailbox;
@@ -25,27 +26,31 @@ fn first_word(number: u8) -> usize
     STRIDE * (usize::from(number) + 1)
 }
 
-/// Draws a ticket of the lock of this mailbox, and waits until it is served. The mailbox then is out.
-pub(crate) fn enter_box<R: Wait, W, M: Mail<W>, A: Allocator>(
+/// Shuts the door of this mailbox or goes on after a while, draws a ticket of its lock, and waits until it is served. The
+/// mailbox then is out.
+pub(crate) fn enter_box<'d, R: Wait, W, M: Mail<W>, A: Allocator>(
     rt: &R,
     shared: &Boards<M, W, A>,
+    doors: &'d Doors,
     seat: &mut BoxSeat<M, W, A>,
     number: u8,
-) -> Mailbox<M, A>
+) -> (Mailbox<M, A>, Passed<'d>)
     requires table { IsBoxOf shared.now.key shared.now.table_id seat.old.table_id number }
     requires ready { CanDraw (hand_at number seat.old.me.0) }
-    ensures { IsSameSeat seat.old seat.new × IsInside M.fits number result seat.old.me seat.new.me }
+    ensures { IsSameSeat seat.old seat.new × IsInside M.fits number result.0 seat.old.me seat.new.me }
 {
+    let passed = doors.knock(number);
     let (_, mailbox) = enter_at(rt, shared, seat, first_word(number), usize::from(number));
-    mailbox
+    (mailbox, passed)
 }
 
-/// Leaves the mailbox behind the one found, and serves the next ticket.
+/// Leaves the mailbox behind the one found, serves the next ticket, and opens the door again if this pass has shut it.
 pub(crate) fn leave_box<W, M: Mail<W>, A: Allocator>(
     shared: &Boards<M, W, A>,
     seat: &mut BoxSeat<M, W, A>,
     number: u8,
     mailbox: Mailbox<M, A>,
+    passed: Passed<'_>,
 )
     requires table { IsBoxOf shared.now.key shared.now.table_id seat.old.table_id number }
     requires out { seat.old.me.1 ≡ (number, None) ∷ rest seat.old.me.1 }
@@ -62,4 +67,5 @@ pub(crate) fn leave_box<W, M: Mail<W>, A: Allocator>(
         usize::from(number),
         mailbox,
     );
+    passed.reopen();
 }
