@@ -45,13 +45,13 @@ pow_bit b k = go (b == k) refl
     go true e = subst (λ j. bit_of (2 ^ b) j ≡ true) (eqb-true b k e) (ap (λ n. n == 1) (bit_at-pow_same b))
     go false e = ap (λ n. n == 1) (bit_at-pow_other b k (λ same. eqb-false b k e (sym same)))
 
-or_one : (x e : Bool) → (x || e) ≡ cond e true x
+pub or_one : (x e : Bool) → (x || e) ≡ cond e true x
 or_one true true = refl
 or_one true false = refl
 or_one false true = refl
 or_one false false = refl
 
-or_then_xor : (x e : Bool) → cond (x || e) (not e) e ≡ cond e false x
+pub or_then_xor : (x e : Bool) → cond (x || e) (not e) e ≡ cond e false x
 or_then_xor true true = refl
 or_then_xor true false = refl
 or_then_xor false true = refl

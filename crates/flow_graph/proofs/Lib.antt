@@ -21,3 +21,4 @@ pub mod Reaching
 pub mod Taking
 pub mod Holding
 pub mod Pairs
+pub mod Alike

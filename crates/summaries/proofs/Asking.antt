@@ -54,6 +54,7 @@ module _ {A G : Type 0} (graph : Graph G) (q : ℕ) (f : Found A) (given : Given
     exits = f.exits;
     pairs = f.pairs;
     given = given;
+    led = f.led;
     pending = pending;
   }
 
@@ -158,6 +159,7 @@ module _ {A G : Type 0} (graph : Graph G) (q : ℕ) (f : Found A) (given : Given
         ];
         tells = λ a b c m h. inl (m, h);
         callers_once = λ old. old;
+        led = λ x m. inl m;
         indexed = indexed;
       }
 

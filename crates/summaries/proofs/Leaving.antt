@@ -101,6 +101,7 @@ module _ {A G : Type 0} (graph : Graph G) (q : ℕ) (f g : Found A) where
         ))
       ];
       callers_once = λ old. old;
+      led = λ x m. inl m;
       indexed = indexed;
     }
 

@@ -17,6 +17,7 @@ pub mod Leading
 pub mod Leaving
 pub mod Entering
 pub mod Resuming
+pub mod Remembered
 pub mod Tabling
 pub mod Worked
 pub mod Tabled

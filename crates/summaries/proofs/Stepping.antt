@@ -14,6 +14,7 @@ use Rattle.flow_graph.specs.declared.left.Left.{Left}
 use Rattle.flow_graph.proofs.Holding.{reaches_more}
 use Rattle.summaries.specs.declared.edge.Call.{Call}
 use Rattle.summaries.specs.declared.edge.Edge.{Edge}
+use Rattle.summaries.specs.declared.edge.Led.{Led}
 use Rattle.summaries.specs.declared.edge.Site.{Site}
 use Rattle.summaries.specs.declared.found.Found.{Found}
 use Rattle.summaries.specs.declared.given.Given.{Given}
@@ -24,7 +25,7 @@ use Rattle.summaries.specs.Under.{under}
 use Rattle.summaries.specs.Mails.{Mail, mail}
 use Rattle.summaries.specs.Dues.{caller_of, due_of}
 use Rattle.summaries.specs.Found.{call, call_eq, edge, site, pair, mail_of, calls_in, mails_in, TookMessage, HasSite}
-use Rattle.summaries.specs.Found.{HasExit, HasGiven, IsPlaced, IsIndexed, IsOwed, IsPending, IsGrounded, IsWorked, IsSaturated, IsEmpty}
+use Rattle.summaries.specs.Found.{HasExit, HasGiven, IsPlaced, IsIndexed, IsOwed, IsPending, IsGrounded, IsWorked, IsSaturated, IsEmpty, IsLed}
 use Rattle.summaries.specs.Grows.{EntersAt, Grows, triple_of}
 use Rattle.summaries.specs.Tables.{HasMore}
 
@@ -55,6 +56,7 @@ pub record Step {A G : Type 0} (graph : Graph G) (q : ℕ) (f g : Found A) (es d
       HasExit f a b × TookMessage f (numbered_entry (caller c) a) ⊎ HasGiven g q c (numbered_summary q a b)
   pub callers_once : ((a : ℕ) → NoneTwice (under nat_eq f.entries.by_key a)) → (a : ℕ) →
       NoneTwice (under nat_eq g.entries.by_key a)
+  pub led : (x : Led) → Member x g.led.keys → Member x f.led.keys ⊎ IsLed graph ds x
   pub indexed : IsIndexed f → IsIndexed g
 
 module _ {A G : Type 0} (graph : Graph G) (q : ℕ) (f g : Found A) (es ds : List Triple) (step : Step graph q f g es ds) where
@@ -116,6 +118,12 @@ module _ {A G : Type 0} (graph : Graph G) (q : ℕ) (f g : Found A) (es ds : Lis
       | inl was ↦ step.gives c (numbered_summary q a b) (old.tells a b c was.0 was.1)
       | inr is ↦ is
     ];
+    led = λ x m. elim (step.led x m) [
+      | inl was ↦
+          let (flow, from, n, here, first, all) = old.led x was in
+          (flow, from, n, here, first, λ i n' v' most next. step.kept (triple x.entry n' v') (all i n' v' most next))
+      | inr is ↦ is
+    ];
   }
 
 module _ {A G : Type 0} (graph : Graph G) (q : ℕ) (f g : Found A) (es ds : List Triple) (step : Step graph q f g es ds)
@@ -137,6 +145,7 @@ module _ {A G : Type 0} (graph : Graph G) (q : ℕ) (f : Found A) (es : List Tri
     ended = old.ended;
     asks = old.asks;
     tells = old.tells;
+    led = old.led;
   }
 
 -- more edges than a limit are reached, where one beside as many is
@@ -191,6 +200,7 @@ module _ {A G : Type 0} (graph : Graph G) (q : ℕ) (f : Found A) (entries : Gro
     exits = f.exits;
     pairs = f.pairs;
     given = given;
+    led = f.led;
     pending = pending;
   }
 
@@ -238,6 +248,7 @@ module _ {A G : Type 0} (graph : Graph G) (q : ℕ) (f : Found A) (entries : Gro
       asks = λ s e a n v m. inl m;
       tells = λ a b c m took. elim (tells a b c m took) [ inl was ↦ inl (m, was) | inr is ↦ inr is ];
       callers_once = callers_once;
+      led = λ x m. inl m;
       indexed = λ old. indexed_as f grown_to refl refl (λ a. refl) (λ x. placed x old) old;
     }
 
@@ -278,6 +289,7 @@ module _ {A G : Type 0} (graph : Graph G) (q : ℕ) (f g : Found A) (es : List T
     asks = λ s x a n v m. inl m;
     tells = λ a b c m h. inl (subst (Member (pair a b)) paired m, h);
     callers_once = λ old. old;
+    led = λ x m. inl m;
     indexed = λ old. indexed_as f same_to refl paired (λ a. refl) (λ x m. old.placed x (subst (Member x) gave m)) old;
   }
 
@@ -330,6 +342,7 @@ module _ {A G : Type 0} (graph : Graph G) (q : ℕ) (f : Found A) (es : List Tri
     ended = old.ended;
     asks = old.asks;
     tells = λ a b c m h. old.tells a b c m h;
+    led = old.led;
   }
 
   -- it is an edge
@@ -383,4 +396,5 @@ module _ {A G : Type 0} (graph : Graph G) (q : ℕ) (f : Found A) (es : List Tri
     ended = λ s e b a n v back at enters taken. absurd (no_site s e (site a n v) at);
     asks = λ s e a n v m. absurd (no_site s e (site a n v) m);
     tells = λ a b c m h. absurd (no_exit a b m);
+    led = λ x m. absurd (subst (Member x) empty.led m);
   }

@@ -18,6 +18,7 @@ use Rattle.summaries.specs.declared.due.Due.{Due}
 use Rattle.summaries.specs.declared.due.Due.TheVariants.{Entry, Summary}
 use Rattle.summaries.specs.declared.edge.Edge.{Edge}
 use Rattle.summaries.specs.declared.edge.Call.{Call}
+use Rattle.summaries.specs.declared.edge.Led.{Led}
 use Rattle.summaries.specs.declared.edge.Site.{Site}
 use Rattle.summaries.specs.declared.pair.Pair.{Pair}
 use Rattle.summaries.specs.declared.found.Found.{Found}
@@ -48,6 +49,10 @@ call callee entered = record { callee = callee; entered = entered }
 -- where a call stands that was asked for by this entry, at the point with these values
 abbrev pub site : ℕ → ℕ → ℕ → Site
 site entry point values = record { asked = entry; point = point; values = values }
+
+-- choice 0 led to these values from an edge with this entry, at the point
+abbrev pub led_at : ℕ → ℕ → ℕ → Led
+led_at entry point values = record { entry = entry; point = point; values = values }
 
 -- this is left where the entry valuation was this
 abbrev pub pair : ℕ → Left → Pair
@@ -135,6 +140,13 @@ module _ {A : Type 0} (found : Found A) where
     pub listed : (a : ℕ) (b : Left) → HasExit a b
         → (at : ℕ) × Member at (under nat_eq found.exits.by_key a) × (slice_get found.pairs.keys at ≡ Some (pair a b))
 
+-- from some valuation that choice 0 leads to this one each choice leads to an edge
+abbrev pub IsLed : {G : Type 0} → Graph G → List Triple → Led → Type 0
+IsLed {G} graph edges led =
+    (flow : Flow G) × (from : ℕ) × (n : ℕ) × (slice_get (flows_of graph) led.point ≡ Some flow)
+    × (next_of flow from 0 ≡ Some (n, led.values))
+    × ((i n' v' : ℕ) → i ≤ last_of flow → next_of flow from i ≡ Some (n', v') → Member (triple led.entry n' v') edges)
+
 module _ {A G : Type 0} (graph : Graph G) (procedure : ℕ) (found : Found A) (edges : List Triple) where
   -- Each edge is reached by the messages taken, each site at its call, and each exit; each message given is owed; what
   -- is pending is an edge; no caller enters twice with a valuation.
@@ -161,7 +173,7 @@ module _ {A G : Type 0} (graph : Graph G) (procedure : ℕ) (found : Found A) (e
 
   -- The start of each entry is an edge; each edge is pending, worked on, or one of those left aside; where a site and a
   -- summary meet is the edge behind the call; each site's entry is given; where an exit and a caller's entry meet is
-  -- the summary given.
+  -- the summary given; each edge remembered as led is.
   pub record IsSaturated (Aside : Triple → Type 0) : Type 0 where
     pub begun : (from : Caller) (a : ℕ) → TookMessage found (numbered_entry from a) → Member (triple a (start_of graph) a) edges
     pub worked : (a n v : ℕ) → Member (triple a n v) edges → Aside (triple a n v) ⊎ (IsPending found a n v ⊎ IsWorked a n v)
@@ -170,6 +182,7 @@ module _ {A G : Type 0} (graph : Graph G) (procedure : ℕ) (found : Found A) (e
     pub asks : (s e a n v : ℕ) → HasSite found s e (site a n v) → HasGiven found procedure s (numbered_entry (caller procedure) e)
     pub tells : (a : ℕ) (b : Left) (c : ℕ) → HasExit found a b → TookMessage found (numbered_entry (caller c) a)
         → HasGiven found procedure c (numbered_summary procedure a b)
+    pub led : (x : Led) → Member x found.led.keys → IsLed graph edges x
 
 -- no edge is still to be worked on
 abbrev pub IsWorkedOff : {A : Type 0} → Found A → Type 0
@@ -190,4 +203,5 @@ pub record IsEmpty {A : Type 0} (found : Found A) : Type 0 where
   pub exits : (a : ℕ) → under nat_eq found.exits.by_key a ≡ []
   pub pairs : found.pairs.keys ≡ []
   pub given : found.given.sent.items ≡ []
+  pub led : found.led.keys ≡ []
   pub pending : found.pending.items ≡ []

@@ -6,12 +6,15 @@ use Rattle.path_sets.specs.Triples.{Triple, triple}
 use Rattle.flow_graph.specs.Drawn.{flows_of}
 use Rattle.flow_graph.specs.Flows.{last_of, next_of, entered_by}
 use Rattle.flow_graph.specs.Returns.{resumed_at}
+use Rattle.flow_graph.specs.declared.call.Call as rust
 use Rattle.flow_graph.specs.declared.flow.Flow.{Flow}
+use Rattle.flow_graph.specs.declared.flow.Flow.TheVariants.{Call}
 use Rattle.flow_graph.specs.declared.graph.Graph.{Graph}
 use Rattle.flow_graph.specs.declared.left.Left.{Left}
 use Rattle.summaries.specs.declared.due.Caller.{Caller}
 use Rattle.summaries.specs.declared.due.Caller.TheVariants.{Proc}
 use Rattle.summaries.specs.declared.edge.Edge.{Edge}
+use Rattle.summaries.specs.declared.edge.Led.{Led}
 use Rattle.summaries.specs.declared.edge.Site.{Site}
 use Rattle.summaries.specs.declared.given.Given.{Given}
 use Rattle.summaries.specs.declared.given.Sent.{Sent}
@@ -102,3 +105,13 @@ pub record Gives {A T E : Type 0} (W : Sent → Type 0) (answer : Result T E) (o
   pub ok : OnOk answer (AddsTo W old.sent.items new.sent.items)
   pub only : AddsOnly W old.sent.items new.sent.items
   pub answered : new.answered ≡ old.answered
+
+-- the flow does not call
+abbrev pub IsNoCall : {G : Type 0} → Flow G → Type 0
+IsNoCall {G} flow = (call : rust.Call G) → flow ≡ Call call → ⊥
+
+-- A flow has more than two choices, of which the first leads from the edge to what it is remembered by.
+abbrev pub IsLedBy : {G : Type 0} → Flow G → Edge → Led → Type 0
+IsLedBy flow edge led =
+    (2 ≤ last_of flow) × (led.entry ≡ edge.entry) × (led.point ≡ edge.point)
+    × ((n : ℕ) × (next_of flow edge.values 0 ≡ Some (n, led.values)))

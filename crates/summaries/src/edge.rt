@@ -1,5 +1,6 @@
 //! Path edges of one procedure, and the calls on them.
 
+use crate::halves::Halves;
 use language::{Point, Word};
 
 /// A path edge: the valuation on entry, the point, and the valuation there.
@@ -23,4 +24,13 @@ pub(crate) struct Site {
     pub(crate) asked: Word,
     pub(crate) point: Point,
     pub(crate) values: Word,
+}
+
+/// An edge whose choices were all led, by where choice 0 led: the valuation on entry, the point, and the valuation led
+/// to.
+#[derive(Clone, Copy, Debug, PartialEq, Eq, Hash)]
+pub(crate) struct Led {
+    pub(crate) entry: Halves,
+    pub(crate) point: Point,
+    pub(crate) values: Halves,
 }

@@ -3,7 +3,7 @@
 ghost use Rattle.std.specs.Prelude.{◌≡◌};
 
 use crate::due::{Caller, Due};
-use crate::edge::{Call, Edge, Site};
+use crate::edge::{Call, Edge, Led, Site};
 use crate::given::{Given, Sent};
 use crate::groups::Groups;
 use crate::kept_left::KeptLeft;
@@ -28,6 +28,8 @@ pub(crate) struct Found<A: Allocator> {
     pub(crate) exits: Groups<Word, u32, A>,
     /// The messages given.
     pub(crate) given: Given<A>,
+    /// The edges with many choices that were led.
+    pub(crate) led: IndexSet<Led, BuildHasherDefault<FoldHasher>, A>,
     /// The edges to work on.
     pub(crate) pending: Vec<Edge, A>,
 }
@@ -47,6 +49,7 @@ impl<A: Allocator + Copy> Found<A> {
             pairs: IndexSet::new(alloc),
             exits: Groups::new(alloc),
             given: Given::new(alloc),
+            led: IndexSet::new(alloc),
             pending: Vec::new(alloc),
         }
     }

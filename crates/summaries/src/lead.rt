@@ -1,12 +1,35 @@
 //! Where the choices at a point lead.
 
-use crate::edge::Edge;
+ghost use Rattle.std.specs.Prelude.{IfSome};
+ghost use Rattle.summaries.specs.Grows.{IsLedBy};
+
+use crate::edge::{Edge, Led};
 use crate::frontier::Frontier;
+use crate::halves::Halves;
 use crate::table_fault::TableFault;
 use flow_graph::Flow;
 use language::{Point, Word};
 use path_sets::PathSet;
 use std::alloc::Allocator;
+
+/// A flow with so many choices is led once for all valuations that it leads alike. With fewer, to remember an edge takes
+/// more than to lead it again.
+const MANY: Word = 8;
+
+/// What an edge is remembered by when its choices are led, if there are many.
+pub(crate) fn led_by<G: Allocator>(flow: &Flow<G>, edge: Edge) -> Option<Led>
+    ensures { IfSome result (λ led. IsLedBy flow.now edge led) }
+{
+    if flow.last() < MANY - 1 {
+        return None;
+    }
+    let (_, values) = flow.next(edge.values, 0)?;
+    Some(Led {
+        entry: Halves::new(edge.entry),
+        point: edge.point,
+        values: Halves::new(values),
+    })
+}
 
 impl<'e, 'p, A: Allocator, S: PathSet<A>> Frontier<'e, 'p, A, S> {
     ghost use Rattle.summaries.specs.Grows.{IsAt, IsNext};

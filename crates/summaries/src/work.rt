@@ -6,17 +6,19 @@ ghost use Rattle.flow_graph.specs.Drawn.{flows_of};
 ghost use Rattle.flow_graph.specs.declared.flow.Flow.TheVariants as flow;
 ghost use Rattle.summaries.specs.declared.due.Due.TheVariants.{Entry};
 ghost use Rattle.summaries.specs.Mails.{summary_due};
-ghost use Rattle.summaries.specs.Grows.{triple_of};
+ghost use Rattle.path_sets.specs.Triples.{Triple};
+ghost use Rattle.summaries.specs.Grows.{triple_of, IsNext, IsNoCall, IsLedBy};
 ghost use Rattle.summaries.specs.Tables.{answers_of, graph_of, limit_of, HasLeft, HasAsked, Holds};
 ghost use Rattle.summaries.specs.Tables.{Worked, StaysAs, IsLess, TookAlso};
 ghost use Rattle.summaries.specs.Tables.{TookOnly, TookSame};
 
 use crate::due::Caller;
-use crate::edge::{Call, Edge, Site};
+use crate::edge::{Call, Edge, Led, Site};
 use crate::frontier::Frontier;
 use crate::given::place;
 use crate::kept_left::KeptLeft;
 use crate::kept_pair::KeptPair;
+use crate::lead::led_by;
 use crate::pair::Pair;
 use crate::table::Table;
 use crate::table_fault::TableFault;
@@ -107,15 +109,54 @@ impl<'g, G: Allocator, A: Allocator + Copy, S: PathSet<A>> Table<'g, G, A, S> {
         }
         match self.graph.flow(edge.point) {
             Flow::Call(call) => self.ask(edge, call),
-            flow => {
-                let mut frontier = Frontier {
-                    edges: &mut self.edges,
-                    pending: &mut self.found.pending,
-                    limit: self.limit,
-                };
-                frontier.lead(flow, edge)
-            }
+            flow => match led_by(flow, edge) {
+                Some(led) => self.lead_once(flow, edge, led),
+                None => self.lead(flow, edge),
+            },
         }
+    }
+
+    /// Adds the edges that each choice leads to from an edge.
+    fn lead(&mut self, flow: &Flow<G>, edge: Edge) -> Result<(), TableFault>
+        requires flow { slice_get (flows_of (graph_of self.old)) edge.point ≡ Some flow.now }
+        requires no_call { IsNoCall flow.now }
+        requires left { HasLeft self.old edge }
+        requires edge { Member (triple_of edge) (S.members self.old.edges) }
+        requires holds { Holds S.members (λ t. t ≡ triple_of edge) self.old }
+        requires within { length (S.members self.old.edges) ≤ limit_of self.old }
+        ensures worked { Worked S.members (λ t. ⊥) result self.old self.new }
+        ensures all { OnOk result ((t : Triple) → IsNext flow.now edge t → Member t (S.members self.new.edges)) }
+        ensures taken { TookSame self.old.found self.new.found }
+        ensures less { OnOk result (IsLess S.members self.old self.new) }
+    {
+        let mut frontier = Frontier {
+            edges: &mut self.edges,
+            pending: &mut self.found.pending,
+            limit: self.limit,
+        };
+        frontier.lead(flow, edge)
+    }
+
+    /// Adds the edges that each choice leads to from an edge, unless this was done for an edge that choice 0 leads to
+    /// the same: then each choice does.
+    fn lead_once(&mut self, flow: &Flow<G>, edge: Edge, led: Led) -> Result<(), TableFault>
+        requires flow { slice_get (flows_of (graph_of self.old)) edge.point ≡ Some flow.now }
+        requires no_call { IsNoCall flow.now }
+        requires led { IsLedBy flow.now edge led }
+        requires left { HasLeft self.old edge }
+        requires edge { Member (triple_of edge) (S.members self.old.edges) }
+        requires holds { Holds S.members (λ t. t ≡ triple_of edge) self.old }
+        requires within { length (S.members self.old.edges) ≤ limit_of self.old }
+        ensures worked { Worked S.members (λ t. ⊥) result self.old self.new }
+        ensures taken { TookSame self.old.found self.new.found }
+        ensures less { OnOk result (IsLess S.members self.old self.new) }
+    {
+        if self.found.led.contains(&led) {
+            return Ok(());
+        }
+        self.lead(flow, edge)?;
+        self.found.led.insert(led)?;
+        Ok(())
     }
 
     /// Lets a caller enter the procedure, unless it has: its start is reached, and the caller gets the summaries known.

@@ -77,45 +77,30 @@ returns-in-Call-clause-worked g c =
     asked.holds c.ask.ensures.asked)
     asked
 
-pub returns-in_default : goal.returns-in_default
-returns-in_default g c =
-    let new = c.leave.new.self in
-    let f = new.found in
-    let after = c.lead.new.self.pending.now in
-    let e = c.args.edge in
-    let es = g.S.PathSet.members new.edges in
-    let ds = g.S.PathSet.members c.lead.new.self.edges.now in
-    let there = subst (λ s. Member (triple_of e) (g.S.PathSet.members s)) (sym c.in_ok-leave.ensures.edges) c.requires.edge in
-    let here = c.flow.ensures in
-    let only =
-    lead_only new.graph.now new.procedure f after es ds e c.flow.result.now c.in_ok-leave.ensures.ok.0 there here
-    c.lead.ensures.adds.only in record {
+pub returns-in-Some : goal.returns-in-Some
+returns-in-Some g c =
+    let left = c.in_ok-leave.ensures in
+    let pending = ap (λ v. length v.items) left.pending in
+    let edges = ap (λ s. length (g.S.PathSet.members s)) left.edges in record {
       worked =
-          added_worked g.S.PathSet.members (IsNext c.flow.result.now e) (λ t. ⊥) c.lead.result c.args.self.now _ es _ _ c.lead.ensures.adds
-          (g.met.S.PathSet.none_twice c.lead.new.self.edges.now) only
-          (next_reached new.graph.now new.procedure f after es ds e c.flow.result.now c.in_ok-leave.ensures.ok.0 there here)
-          (IfOk-weaker c.lead.result _ _
-          (λ _ grown.
-          let step = lead_step new.graph.now new.procedure f after es ds e c.flow.result.now
-          c.in_ok-leave.ensures.ok.0 there here grown in
-          let held = still_holds new.graph.now new.procedure f _ es ds step (λ t. t ≡ triple_of e) c.in_ok-leave.ensures.ok in (
-            held.0,
-            worked_off new.graph.now new.procedure _ ds e.entry e.point e.values
-                (led_worked new.graph.now new.procedure (led_to new.graph.now new.procedure f after) ds e
-                c.in_ok-leave.ensures.left c.flow.result.now here c.in_default.not-Call grown.all)
-                held.1,
-          ))
-          c.lead.ensures.adds.ok)
-          (IfOk-weaker c.lead.result _ _ (λ _ _. c.in_ok-leave.ensures.answers) c.lead.ensures.adds.ok)
-          (let s = c.in_ok-leave.ensures.stays in record { graph = s.graph; procedure = s.procedure; limit = s.limit })
-          c.in_ok-leave.ensures.fault;
-      taken = c.in_ok-leave.ensures.taken;
+          then_worked g.S.PathSet.members (λ t. ⊥) (λ t. ⊥) c.lead_once.result c.args.self.now c.leave.new.self c.lead_once.new.self
+          left.stays left.fault left.answers c.lead_once.ensures.worked.holds c.lead_once.ensures.worked;
+      taken = (c.lead_once.ensures.taken.0 ∙ left.taken.0, c.lead_once.ensures.taken.1 ∙ left.taken.1);
+      less = IfOk-weaker c.lead_once.result _ _
+          (λ _ less. let more = less.0 in let longer = less.1 in (omega (arith, pending, edges, more), omega (arith, edges, longer)))
+          c.lead_once.ensures.less;
+    }
+
+pub returns-in-None : goal.returns-in-None
+returns-in-None g c =
+    let left = c.in_ok-leave.ensures in
+    let pending = ap (λ v. length v.items) left.pending in
+    let edges = ap (λ s. length (g.S.PathSet.members s)) left.edges in record {
+      worked =
+          then_worked g.S.PathSet.members (λ t. ⊥) (λ t. ⊥) c.lead.result c.args.self.now c.leave.new.self c.lead.new.self
+          left.stays left.fault left.answers c.lead.ensures.worked.holds c.lead.ensures.worked;
+      taken = (c.lead.ensures.taken.0 ∙ left.taken.0, c.lead.ensures.taken.1 ∙ left.taken.1);
       less = IfOk-weaker c.lead.result _ _
-          (λ _ grown.
-          let pending = ap (λ v. length v.items) c.in_ok-leave.ensures.pending in
-          let edges = ap (λ s. length (g.S.PathSet.members s)) c.in_ok-leave.ensures.edges in
-          let more = grown.more in
-          let longer = grown.longer in
-          (omega (arith, pending, edges, more), omega (arith, edges, longer)))
-          c.lead.ensures.adds.ok;
+          (λ _ less. let more = less.0 in let longer = less.1 in (omega (arith, pending, edges, more), omega (arith, edges, longer)))
+          c.lead.ensures.less;
     }

@@ -1,0 +1,58 @@
+use Rattle.std.proofs.Common.{◌≡◌, Some, slice_get, true, inl, inr, refl, sym, ap, ◌∙◌, subst, arith, rules}
+use Rattle.language.specs.Lists.{Member}
+use Rattle.summaries.specs.Found.{IsLed}
+use Rattle.summaries.specs.declared.edge.Led.{Led}
+use Rattle.summaries.proofs.Growing.{ok_err}
+use Rattle.summaries.proofs.Keys.{found_is_in}
+use Rattle.summaries.proofs.Remembered.{led_eq, same_led, all_led, led_now, remembered_step, inserted_or}
+use Rattle.summaries.proofs.Stepping.{still_holds, worked_off}
+use Rattle.summaries.proofs.Working.{led_worked}
+use Rattle.summaries.proofs.Worked.{refused_worked}
+use Rattle.summaries.proofs.table.Table.lead_once.Goals as goal
+
+pub returns-then-contains-clause-worked : goal.returns-then-contains-clause-worked
+returns-then-contains-clause-worked g c =
+    let self = c.args.self.now in
+    let e = c.args.edge in
+    let es = g.S.PathSet.members self.edges in
+    let held = c.requires.holds in
+    let there : Member c.args.led self.found.led.keys =
+    found_is_in led_eq same_led c.args.led self.found.led.keys (sym c.if-contains.ensures) in
+    let all = all_led self.graph.now es e c.args.led c.args.flow.now c.requires.flow c.requires.led (held.1.led c.args.led there) in record {
+      holds = (
+        held.0,
+        worked_off self.graph.now self.procedure self.found es e.entry e.point e.values
+            (led_worked self.graph.now self.procedure self.found es e c.requires.left c.args.flow.now c.requires.flow c.requires.no_call all)
+            held.1,
+      );
+      edges = λ t m. held.0.edge t.entry t.point t.values m;
+      within = c.requires.within;
+      many = λ is. absurd (ok_err is);
+      answers = refl;
+      stays = record { graph = refl; procedure = refl; limit = refl };
+      fault = refl;
+    }
+
+pub returns-clause-worked : goal.returns-clause-worked
+returns-clause-worked g c =
+    let mid = c.lead.new.self in
+    let f = mid.found in
+    let h = record f { led = c.insert.new.self } in
+    let es = g.S.PathSet.members mid.edges in
+    let work = c.in_ok-lead.ensures.worked in
+    let here = subst (λ graph. slice_get graph.flows.items c.args.edge.point ≡ Some c.args.flow.now) (sym work.stays.graph) c.requires.flow in
+    let led = led_now mid.graph.now es c.args.edge c.args.led c.args.flow.now here c.requires.led c.in_ok-lead.ensures.all in
+    let step = remembered_step mid.graph.now mid.procedure f h es (λ x m.
+    elim (inserted_or led_eq f.led.keys c.insert.new.self.keys c.args.led x c.in_ok-insert.ensures.keys m) [
+      | inl was ↦ inl was
+      | inr is ↦ inr (subst (IsLed mid.graph.now es) (sym is) led)
+    ]) in
+    let held = still_holds mid.graph.now mid.procedure f h es es step (λ t. ⊥) work.holds in record {
+      holds = held;
+      edges = λ t m. held.0.edge t.entry t.point t.values m;
+      within = work.within;
+      many = λ is. absurd (ok_err is);
+      answers = work.answers;
+      stays = record { graph = work.stays.graph; procedure = work.stays.procedure; limit = work.stays.limit };
+      fault = work.fault;
+    }
