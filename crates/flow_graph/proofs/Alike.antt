@@ -1,5 +1,5 @@
 -- Where choice 0 of an assignment leads two valuations alike, each choice does.
-use Rattle.std.proofs.Common.{◌≡◌, ◌≤◌, ◌⊎◌, ℕ, ◌/◌, ◌==◌, not, ◌||◌, Bool, true, false, cond, Option, Some, List, [], ◌∷◌}
+use Rattle.std.proofs.Common.{◌≡◌, ◌≤◌, ◌⊎◌, ℕ, ◌/◌, not, Bool, true, false, cond, Some, List, [], ◌∷◌}
 use Rattle.std.proofs.Common.{inl, inr, refl, sym, ap, ◌∙◌, arith}
 use Rattle.std.specs.Int.RustNames.{bit_or}
 use Rattle.std.proofs.lemmas.Nat.Bits.{same_from_bits}
@@ -72,9 +72,12 @@ module _ {A : Type 0} (k : ℕ) where
       where
         by : (b : Bool) → bit_of mask k ≡ b → ((u c n : ℕ) → bit_of (written ws u c n) k ≡ bit_of n k)
             → Told k (after side.Any c) (after side.Any 0)
-        by true e kept = inl (bit_of c 0, λ u n.
-            kept u (c / 2) (masked n mask (bit_of c 0)) ∙ masked_in n mask k (bit_of c 0)
-            ∙ ap (λ b. cond b (bit_of c 0) (bit_of n k)) e)
+        by true e kept = inl (
+          bit_of c 0,
+          λ u n.
+              kept u (c / 2) (masked n mask (bit_of c 0)) ∙ masked_in n mask k (bit_of c 0)
+              ∙ ap (λ b. cond b (bit_of c 0) (bit_of n k)) e,
+        )
         by false e kept = inr (λ u n.
             let to : (i j : ℕ) → bit_of (written ws u j (masked n mask (bit_of i 0))) k ≡ bit_of n k =
             λ i j. kept u j (masked n mask (bit_of i 0)) ∙ masked_in n mask k (bit_of i 0)

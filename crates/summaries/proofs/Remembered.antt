@@ -1,5 +1,6 @@
 -- Edges that are remembered as led.
-use Rattle.std.proofs.Common.{◌≡◌, ◌≤◌, ◌⊎◌, ℕ, Bool, true, false, Some, List, [], ◌∷◌, ◌++◌, inl, inr, refl, sym, ap, ◌∙◌, subst}
+use Rattle.std.proofs.Common.{◌≡◌, ◌≤◌, ◌⊎◌, ℕ, Bool, true, false, Some, List, [], ◌∷◌, ◌++◌}
+use Rattle.std.proofs.Common.{inl, inr, refl, sym, ap, ◌∙◌, subst}
 use Rattle.std.proofs.Common.{slice_get, if◌then◌else◌, nat_eq, ◌&&◌}
 use Rattle.std.proofs.lemmas.Map.Views.{exact_unsigned_eq}
 use Rattle.std.specs.List.{list_any}
@@ -30,7 +31,7 @@ same_led x y e =
     let (entry, more) = both (nat_eq x.entry y.entry) (nat_eq x.point y.point && nat_eq x.values y.values) e in
     let (point, values) = both (nat_eq x.point y.point) (nat_eq x.values y.values) more in
     λ j. led_at (exact_unsigned_eq x.entry y.entry entry j) (exact_unsigned_eq x.point y.point point j)
-        (exact_unsigned_eq x.values y.values values j)
+    (exact_unsigned_eq x.values y.values values j)
 
 -- where an edge was led that choice 0 leads to the same, each choice leads to an edge
 pub all_led : {G : Type 0} (graph : Graph G) (es : List Triple) (e : Edge) (x : Led) (flow : Flow G)
@@ -41,7 +42,8 @@ all_led graph es e x flow here (more, entry, point, (m, first)) (w, from, n, the
     let alike : next_of flow from i ≡ next_of flow e.values i =
     next_alike flow from e.values i n m x.values more (subst (λ u. next_of u from 0 ≡ Some (n, x.values)) same before) first in
     let led : Member (triple x.entry to v) es =
-    all i to v (subst (λ u. i ≤ last_of u) (sym same) most) (subst (λ u. next_of u from i ≡ Some (to, v)) (sym same) (alike ∙ next)) in
+    all i to v (subst (λ u. i ≤ last_of u) (sym same) most)
+    (subst (λ u. next_of u from i ≡ Some (to, v)) (sym same) (alike ∙ next)) in
     subst (λ u. Member u es) (sym is) (subst (λ a. Member (triple a to v) es) entry led)
 
 -- where each choice leads to an edge, it may be remembered so

@@ -25,7 +25,8 @@ use Rattle.summaries.specs.Under.{under}
 use Rattle.summaries.specs.Mails.{Mail, mail}
 use Rattle.summaries.specs.Dues.{caller_of, due_of}
 use Rattle.summaries.specs.Found.{call, call_eq, edge, site, pair, mail_of, calls_in, mails_in, TookMessage, HasSite}
-use Rattle.summaries.specs.Found.{HasExit, HasGiven, IsPlaced, IsIndexed, IsOwed, IsPending, IsGrounded, IsWorked, IsSaturated, IsEmpty, IsLed}
+use Rattle.summaries.specs.Found.{HasExit, HasGiven, IsPlaced, IsIndexed, IsOwed, IsPending, IsGrounded, IsWorked, IsSaturated, IsEmpty}
+use Rattle.summaries.specs.Found.{IsLed}
 use Rattle.summaries.specs.Grows.{EntersAt, Grows, triple_of}
 use Rattle.summaries.specs.Tables.{HasMore}
 

@@ -18,11 +18,13 @@ returns-then-contains-clause-worked g c =
     let held = c.requires.holds in
     let there : Member c.args.led self.found.led.keys =
     found_is_in led_eq same_led c.args.led self.found.led.keys (sym c.if-contains.ensures) in
-    let all = all_led self.graph.now es e c.args.led c.args.flow.now c.requires.flow c.requires.led (held.1.led c.args.led there) in record {
+    let flow = c.args.flow.now in
+    let here = c.requires.flow in
+    let all = all_led self.graph.now es e c.args.led flow here c.requires.led (held.1.led c.args.led there) in record {
       holds = (
         held.0,
         worked_off self.graph.now self.procedure self.found es e.entry e.point e.values
-            (led_worked self.graph.now self.procedure self.found es e c.requires.left c.args.flow.now c.requires.flow c.requires.no_call all)
+            (led_worked self.graph.now self.procedure self.found es e c.requires.left flow here c.requires.no_call all)
             held.1,
       );
       edges = λ t m. held.0.edge t.entry t.point t.values m;
@@ -40,8 +42,9 @@ returns-clause-worked g c =
     let h = record f { led = c.insert.new.self } in
     let es = g.S.PathSet.members mid.edges in
     let work = c.in_ok-lead.ensures.worked in
-    let here = subst (λ graph. slice_get graph.flows.items c.args.edge.point ≡ Some c.args.flow.now) (sym work.stays.graph) c.requires.flow in
-    let led = led_now mid.graph.now es c.args.edge c.args.led c.args.flow.now here c.requires.led c.in_ok-lead.ensures.all in
+    let flow = c.args.flow.now in
+    let here = subst (λ graph. slice_get graph.flows.items c.args.edge.point ≡ Some flow) (sym work.stays.graph) c.requires.flow in
+    let led = led_now mid.graph.now es c.args.edge c.args.led flow here c.requires.led c.in_ok-lead.ensures.all in
     let step = remembered_step mid.graph.now mid.procedure f h es (λ x m.
     elim (inserted_or led_eq f.led.keys c.insert.new.self.keys c.args.led x c.in_ok-insert.ensures.keys m) [
       | inl was ↦ inl was
