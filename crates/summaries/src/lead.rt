@@ -17,6 +17,7 @@ use std::alloc::Allocator;
 const MANY: Word = 8;
 
 /// What an edge is remembered by when its choices are led, if there are many.
+#[inline(always)]
 pub(crate) fn led_by<G: Allocator>(flow: &Flow<G>, edge: Edge) -> Option<Led>
     ensures { IfSome result (λ led. IsLedBy flow.now edge led) }
 {

@@ -117,6 +117,7 @@ impl<'g, G: Allocator, A: Allocator + Copy, S: PathSet<A>> Table<'g, G, A, S> {
     }
 
     /// Adds the edges that each choice leads to from an edge.
+    #[inline(always)]
     fn lead(&mut self, flow: &Flow<G>, edge: Edge) -> Result<(), TableFault>
         requires flow { slice_get (flows_of (graph_of self.old)) edge.point ≡ Some flow.now }
         requires no_call { IsNoCall flow.now }
@@ -139,6 +140,7 @@ impl<'g, G: Allocator, A: Allocator + Copy, S: PathSet<A>> Table<'g, G, A, S> {
 
     /// Adds the edges that each choice leads to from an edge, unless this was done for an edge that choice 0 leads to
     /// the same: then each choice does.
+    #[inline(never)]
     fn lead_once(&mut self, flow: &Flow<G>, edge: Edge, led: Led) -> Result<(), TableFault>
         requires flow { slice_get (flows_of (graph_of self.old)) edge.point ≡ Some flow.now }
         requires no_call { IsNoCall flow.now }
