@@ -39,7 +39,7 @@ covers_same ns ms rs ss masks nodes rows covers =
     subst (λ n. Covers n ss masks) (sym nodes) (subst (λ r. Covers ns r masks) (sym rows) covers)
 
 -- a key of places and one more
-one_more_key : (gs : Groups) (p q : Place) (w : ℕ) → Member q (keys_of (gs ++ (p, w) ∷ [])) → Member q (keys_of gs) ⊎ (q ≡ p)
+pub one_more_key : (gs : Groups) (p q : Place) (w : ℕ) → Member q (keys_of (gs ++ (p, w) ∷ [])) → Member q (keys_of gs) ⊎ (q ≡ p)
 one_more_key [] p q w (inl is) = inr is
 one_more_key [] p q w (inr later) = elim later [ ]
 one_more_key (g ∷ gs) p q w (inl is) = inl (inl is)

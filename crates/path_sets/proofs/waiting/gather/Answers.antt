@@ -1,15 +1,17 @@
 use Rattle.std.proofs.Common.{◌≡◌, ℕ, ◌+◌, ◌*◌, ◌<◌, true, ap, ◌∙◌, subst}
+use Rattle.std.specs.Map.{keys_of}
+use Rattle.language.specs.Lists.{Member}
 use Rattle.path_sets.specs.Masks.{bit_of, Marks}
 use Rattle.path_sets.specs.Edges.{edge_at}
 use Rattle.path_sets.specs.Triples.{triple}
 use Rattle.path_sets.specs.Diagrams.{merged_has}
 use Rattle.path_sets.specs.Members.{Covers}
-use Rattle.path_sets.proofs.Covered.{covers_begun, covers_same, puts_begun}
-use Rattle.path_sets.proofs.diagram.gather.Given as given
-use Rattle.path_sets.proofs.diagram.gather.Goals as goal
-use Rattle.path_sets.proofs.diagram.gather.Goals.{In_ok-begin}
+use Rattle.path_sets.proofs.Covered.{covers_begun, covers_same, one_more_key, puts_begun}
+use Rattle.path_sets.proofs.waiting.gather.Given as given
+use Rattle.path_sets.proofs.waiting.gather.Goals as goal
+use Rattle.path_sets.proofs.waiting.gather.Goals.{After-saturating_add}
 
-module _ (g : given.Over) (c : In_ok-begin g) where
+module _ (g : given.Over) (c : After-saturating_add g) where
   covers : Covers c.seek.new.self.nodes.kept.keys c.seek.new.self.rows.entries c.args.gathered.now.entries
   covers = covers_same _ _ _ _ c.args.gathered.now.entries (ap (λ n. n.kept.keys) c.seek.ensures.nodes)
       (ap (λ r. r.entries) c.seek.ensures.rows) c.requires.gathered.covers
@@ -39,3 +41,8 @@ returns-clause-gathered g c = record {
       c.args.gathered.now.entries c.begin.new.masks.entries (covers g c) c.points-mask.result c.mark.new.mask c.requires.none
       (knows g c) (marks g c) c.in_ok-begin.ensures.ok;
 }
+
+pub returns-clause-keys : goal.returns-clause-keys
+returns-clause-keys g c p m =
+    one_more_key c.args.gathered.now.entries c.args.place p c.mark.new.mask
+    (subst (λ es. Member p (keys_of es)) c.in_ok-begin.ensures.ok m)
