@@ -23,8 +23,12 @@ use indexmap::IndexMap;
 use language::Word;
 use std::alloc::{AllocError, Allocator};
 
-/// How many places are gathered before the oldest of them go into the diagrams.
-const MOST: usize = 262_144;
+/// How many places are gathered for each that has gone into the diagrams.
+const FOR_EACH: usize = 3;
+
+/// How many places are gathered at least before any go into the diagrams, and how many at most.
+const LEAST: usize = 4_096;
+const MOST: usize = 1_048_576;
 
 /// Puts a point into the mask of a place that is not gathered yet, which begins with the points that the diagrams have.
 /// Answers whether it is new; else the place stays where it is.
@@ -150,8 +154,9 @@ pub(crate) struct Gathered<A: Allocator> {
     last: usize,
     /// The number of the oldest shard that may have places.
     oldest: usize,
-    /// How many places there are.
+    /// How many places there are, and how many have gone into the diagrams.
     places: usize,
+    gone: usize,
     ghost home: { ArePlacesHome homes.entries shards.items },
     ghost there: { AreThere homes.entries shards.items },
 }
@@ -168,6 +173,7 @@ impl<A: Allocator + Copy> Gathered<A> {
             last: 0,
             oldest: 0,
             places: 0,
+            gone: 0,
         }
     }
 
@@ -258,7 +264,8 @@ impl<A: Allocator + Copy> Gathered<A> {
     pub(crate) fn full(&self) -> Option<usize>
         ensures { IfSome result (λ k. k < length self.now.shards.items) }
     {
-        if self.places >= MOST && self.oldest < self.shards.len() {
+        let most = self.gone.saturating_mul(FOR_EACH).max(LEAST).min(MOST);
+        if self.places >= most && self.oldest < self.shards.len() {
             return Some(self.oldest);
         }
         None
@@ -271,7 +278,9 @@ impl<A: Allocator + Copy> Gathered<A> {
         ensures others { (k : ℕ) → (k ≡ at → ⊥)
             → masks_at self.new.shards.items k ≡ masks_at self.old.shards.items k }
     {
-        self.places = self.places.saturating_sub(self.shards[at].masks.len());
+        let places = self.shards[at].masks.len();
+        self.places = self.places.saturating_sub(places);
+        self.gone = self.gone.saturating_add(places);
         if at + 1 < self.shards.len() {
             self.oldest = at + 1;
         }
