@@ -1,5 +1,5 @@
 -- Places that stand in shards, when one shard gets another, and what the diagrams have of them.
-use Rattle.std.proofs.Common.{◌≡◌, ◌⊎◌, ◌↔◌, ◌<◌, ℕ, zero, suc, Bool, true, false, nat_eq, List, [], ◌∷◌, ◌++◌, length}
+use Rattle.std.proofs.Common.{◌≡◌, ◌⊎◌, ◌<◌, ℕ, zero, suc, Bool, true, false, nat_eq, List, [], ◌∷◌, ◌++◌, length}
 use Rattle.std.proofs.Common.{None, Some, slice_get, slice_set, inl, inr, refl, sym, ap, ◌∙◌, subst, arith}
 use Rattle.std.specs.Prelude.{Option, Result, Ok, Err, OnErr, IfSome}
 use Rattle.std.specs.Map.{keys_of, lookup}
@@ -13,7 +13,7 @@ use Rattle.path_sets.specs.declared.rows.Row.{Row}
 use Rattle.path_sets.specs.declared.shards.Shard.{Shard}
 use Rattle.path_sets.specs.Diagrams.{merged_has, TakesGiven}
 use Rattle.path_sets.specs.Edges.{edge_at, edges}
-use Rattle.path_sets.specs.Members.{all_edges, Covers, CoversEach, IsEdgeThere, PutsEdge}
+use Rattle.path_sets.specs.Members.{all_edges, Covers, CoversEach, PutsEdge}
 use Rattle.path_sets.specs.Shards.{ArePlacesHome, masks_at, places_in}
 use Rattle.path_sets.specs.Triples.{Triple}
 use Rattle.path_sets.proofs.Gathering.{edges_append, in_place}

@@ -9,12 +9,12 @@ ghost use Rattle.path_sets.specs.Members.{all_edges, CoversEach};
 ghost use Rattle.path_sets.specs.Shards.{places_in};
 
 use crate::gathered::{put_all, put_shards};
-use crate::waiting::Gathered;
 use crate::mask::has;
 use crate::merged::Merged;
 use crate::path_set::PathSet;
 use crate::place::place_of;
 use crate::rows::{Row, row_of};
+use crate::waiting::Gathered;
 use language::{Point, Word};
 use std::alloc::{AllocError, Allocator};
 
@@ -98,7 +98,7 @@ impl<A: Allocator + Copy> PathSet<A> for DiagramEdges<A> {
     fn insert(&mut self, entry: Word, point: Point, values: Word) -> Result<bool, AllocError> {
         self.make_room()?;
         let (place, bit) = place_of(entry, point, values);
-        let added = self.gathered.gather(&mut self.merged, place, bit)?;
+        let added = self.gathered.gather(&self.merged, place, bit)?;
         if added {
             self.count += 1;
         }

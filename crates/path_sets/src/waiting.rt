@@ -28,6 +28,7 @@ const FOR_EACH: usize = 3;
 
 /// How many places are gathered at least before any go into the diagrams, and how many at most.
 const LEAST: usize = 4_096;
+
 const MOST: usize = 1_048_576;
 
 /// Puts a point into the mask of a place that is not gathered yet, which begins with the points that the diagrams have.
@@ -35,26 +36,23 @@ const MOST: usize = 1_048_576;
 fn gather<A: Allocator + Copy>(
     gathered: &mut Masks<A>,
     places: &mut usize,
-    merged: &mut Merged<A>,
+    merged: &Merged<A>,
     place: Place,
     bit: usize,
 ) -> Result<bool, AllocError>
     requires bit { bit < 64 }
     requires none { lookup (place_eq place) gathered.old.entries ≡ None }
-    requires gathered { AreGathered merged.old.nodes.kept.keys merged.old.rows.entries
+    requires gathered { AreGathered merged.now.nodes.kept.keys merged.now.rows.entries
         gathered.old }
-    ensures nodes { merged.new.nodes ≡ merged.old.nodes }
-    ensures rows { merged.new.rows ≡ merged.old.rows }
     ensures ok { IfOk result
-        (PutsEdge merged.new.nodes.kept.keys merged.new.rows.entries (edge_at place bit)
+        (PutsEdge merged.now.nodes.kept.keys merged.now.rows.entries (edge_at place bit)
         gathered.old.entries gathered.new.entries) }
     ensures err { OnErr result (gathered.new.entries ≡ gathered.old.entries) }
-    ensures gathered { AreGathered merged.new.nodes.kept.keys merged.new.rows.entries gathered.new }
+    ensures gathered { AreGathered merged.now.nodes.kept.keys merged.now.rows.entries gathered.new }
     ensures keys { (p : Place) → Member p (keys_of gathered.new.entries)
         → Member p (keys_of gathered.old.entries) ⊎ (p ≡ place) }
 {
     let row = row_of(&place);
-    merged.seek(&row);
     let mut mask = merged.points(&row, place.values);
     if !mark(&mut mask, bit) {
         return Ok(false);
@@ -69,20 +67,18 @@ fn put<A: Allocator + Copy>(
     gathered: &mut Masks<A>,
     last: &mut usize,
     places: &mut usize,
-    merged: &mut Merged<A>,
+    merged: &Merged<A>,
     place: Place,
     bit: usize,
 ) -> Result<bool, AllocError>
     requires bit { bit < 64 }
-    requires gathered { AreGathered merged.old.nodes.kept.keys merged.old.rows.entries
+    requires gathered { AreGathered merged.now.nodes.kept.keys merged.now.rows.entries
         gathered.old }
-    ensures nodes { merged.new.nodes ≡ merged.old.nodes }
-    ensures rows { merged.new.rows ≡ merged.old.rows }
     ensures ok { IfOk result
-        (PutsEdge merged.new.nodes.kept.keys merged.new.rows.entries (edge_at place bit)
+        (PutsEdge merged.now.nodes.kept.keys merged.now.rows.entries (edge_at place bit)
         gathered.old.entries gathered.new.entries) }
     ensures err { OnErr result (gathered.new.entries ≡ gathered.old.entries) }
-    ensures gathered { AreGathered merged.new.nodes.kept.keys merged.new.rows.entries gathered.new }
+    ensures gathered { AreGathered merged.now.nodes.kept.keys merged.now.rows.entries gathered.new }
     ensures keys { (p : Place) → Member p (keys_of gathered.new.entries)
         → Member p (keys_of gathered.old.entries) ⊎ (p ≡ place) }
 {
@@ -105,20 +101,18 @@ impl<A: Allocator + Copy> Shard<A> {
         &mut self,
         last: &mut usize,
         places: &mut usize,
-        merged: &mut Merged<A>,
+        merged: &Merged<A>,
         place: Place,
         bit: usize,
     ) -> Result<bool, AllocError>
         requires bit { bit < 64 }
-        requires covers { Covers merged.old.nodes.kept.keys merged.old.rows.entries
+        requires covers { Covers merged.now.nodes.kept.keys merged.now.rows.entries
             self.old.masks.entries }
-        ensures nodes { merged.new.nodes ≡ merged.old.nodes }
-        ensures rows { merged.new.rows ≡ merged.old.rows }
         ensures ok { IfOk result
-            (PutsEdge merged.new.nodes.kept.keys merged.new.rows.entries (edge_at place bit)
+            (PutsEdge merged.now.nodes.kept.keys merged.now.rows.entries (edge_at place bit)
             self.old.masks.entries self.new.masks.entries) }
         ensures err { OnErr result (self.new.masks.entries ≡ self.old.masks.entries) }
-        ensures covers { Covers merged.new.nodes.kept.keys merged.new.rows.entries
+        ensures covers { Covers merged.now.nodes.kept.keys merged.now.rows.entries
             self.new.masks.entries }
         ensures keys { (p : Place) → Member p (keys_of self.new.masks.entries)
             → Member p (keys_of self.old.masks.entries) ⊎ (p ≡ place) }
@@ -225,20 +219,18 @@ impl<A: Allocator + Copy> Gathered<A> {
     /// Puts a point into the mask of its place. Answers whether it is new.
     pub(crate) fn gather(
         &mut self,
-        merged: &mut Merged<A>,
+        merged: &Merged<A>,
         place: Place,
         bit: usize,
     ) -> Result<bool, AllocError>
         requires bit { bit < 64 }
-        requires covers { CoversEach merged.old.nodes.kept.keys merged.old.rows.entries
+        requires covers { CoversEach merged.now.nodes.kept.keys merged.now.rows.entries
             self.old.shards.items }
-        ensures nodes { merged.new.nodes ≡ merged.old.nodes }
-        ensures rows { merged.new.rows ≡ merged.old.rows }
         ensures ok { IfOk result
-            (PutsEdge merged.new.nodes.kept.keys merged.new.rows.entries (edge_at place bit)
+            (PutsEdge merged.now.nodes.kept.keys merged.now.rows.entries (edge_at place bit)
             (places_in self.old.shards.items) (places_in self.new.shards.items)) }
         ensures err { OnErr result (places_in self.new.shards.items ≡ places_in self.old.shards.items) }
-        ensures covers { CoversEach merged.new.nodes.kept.keys merged.new.rows.entries
+        ensures covers { CoversEach merged.now.nodes.kept.keys merged.now.rows.entries
             self.new.shards.items }
     {
         let at = self.shard_of(place.entry)?;

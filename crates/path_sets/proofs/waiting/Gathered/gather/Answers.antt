@@ -1,11 +1,10 @@
-use Rattle.std.proofs.Common.{◌≡◌, ◌<◌, Some, slice_get, slice_set, length, nat_eq, refl, sym, ap, ◌∙◌, subst}
+use Rattle.std.proofs.Common.{◌≡◌, ◌<◌, Some, slice_get, slice_set, length, nat_eq, refl, sym, ◌∙◌, subst}
 use Rattle.std.specs.Map.{lookup}
 use Rattle.std.proofs.lemmas.List.{length-set}
 use Rattle.std.proofs.lemmas.Option.{slice_get_read}
 use Rattle.path_sets.specs.Edges.{edge_at}
 use Rattle.path_sets.specs.Members.{Covers, CoversEach, PutsEdge}
-use Rattle.path_sets.specs.Shards.{masks_at, places_in}
-use Rattle.path_sets.proofs.Covered.{covers_same}
+use Rattle.path_sets.specs.Shards.{places_in}
 use Rattle.path_sets.proofs.InShards.{covers_as, covers_put, home_put, masks_is, on_err, puts_in, same_places}
 use Rattle.path_sets.proofs.Unions.{of_ok}
 use Rattle.path_sets.proofs.waiting.Gathered.gather.Given as given
@@ -50,8 +49,8 @@ returns-clause-ok g c =
     let s = c.shard_of.new.self in
     let ss = s.shards.items in
     let k = c.in_ok-at.at in
-    let ns = c.gather.new.merged.nodes.kept.keys in
-    let rs = c.gather.new.merged.rows.entries in
+    let ns = c.args.merged.now.nodes.kept.keys in
+    let rs = c.args.merged.now.rows.entries in
     let x = edge_at c.args.place c.args.bit in
     let w = c.gather.new.self in
     let new = places_in (slice_set ss k w) in
@@ -72,8 +71,6 @@ returns-clause-covers g c =
     let i = (goal.at.returns-clause-covers g c).After-index_mut in
     let s = c.shard_of.new.self in
     let ss = s.shards.items in
-    let nodes = ap (λ n. n.kept.keys) c.gather.ensures.nodes in
-    let rows = ap (λ r. r.entries) c.gather.ensures.rows in
     covers_put s.homes.entries ss s.home c.in_ok-at.at c.index_mut.result.now c.gather.new.self (at g i)
-    c.gather.new.merged.nodes.kept.keys c.gather.new.merged.rows.entries
-    (λ j. covers_same _ _ _ _ (masks_at ss j) nodes rows (covers g i j)) c.gather.ensures.covers
+    c.args.merged.now.nodes.kept.keys c.args.merged.now.rows.entries
+    (covers g i) c.gather.ensures.covers

@@ -1,9 +1,8 @@
-use Rattle.std.proofs.Common.{◌≡◌, ◌↔◌, ◌<◌, ℕ, true, Some, slice_get, nat_eq, refl, sym, ap, ◌∙◌, subst}
+use Rattle.std.proofs.Common.{◌≡◌, Some, slice_get, nat_eq, refl, sym, ap, ◌∙◌, subst}
 use Rattle.std.specs.Map.{keys_of, lookup}
 use Rattle.std.proofs.lemmas.Option.{none-some, slice_get_read}
 use Rattle.language.specs.Lists.{Member}
 use Rattle.path_sets.specs.Edges.{edge_at, edges}
-use Rattle.path_sets.specs.Masks.{bit_of}
 use Rattle.path_sets.specs.Shards.{masks_at, places_in}
 use Rattle.path_sets.specs.Triples.{Triple}
 use Rattle.path_sets.proofs.InShards.{edge_home, if_some, in_shard, masks_is, of_shard, one_home}
