@@ -26,9 +26,10 @@ use std::alloc::{AllocError, Allocator};
 /// How many places are gathered for each that has gone into the diagrams.
 const FOR_EACH: usize = 3;
 
-/// How many places are gathered at least before any go into the diagrams, and how many at most.
+/// How many places are gathered at least before any go into the diagrams.
 const LEAST: usize = 4_096;
 
+/// How many places are gathered at most.
 const MOST: usize = 1_048_576;
 
 /// Puts a point into the mask of a place that is not gathered yet, which begins with the points that the diagrams have.
@@ -148,8 +149,9 @@ pub(crate) struct Gathered<A: Allocator> {
     last: usize,
     /// The number of the oldest shard that may have places.
     oldest: usize,
-    /// How many places there are, and how many have gone into the diagrams.
+    /// How many places there are.
     places: usize,
+    /// How many places have gone into the diagrams.
     gone: usize,
     ghost home: { ArePlacesHome homes.entries shards.items },
     ghost there: { AreThere homes.entries shards.items },
