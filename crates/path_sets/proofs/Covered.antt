@@ -21,7 +21,8 @@ use Rattle.path_sets.proofs.Masks.{bits_hold, bits_known}
 use Rattle.path_sets.proofs.Universe.{any_member, Fits, is_member, member_any, member_is, members_more, one_longer, same_gathered}
 
 -- a key of places and one more
-pub one_more_key : (gs : Groups) (p q : Place) (w : ℕ) → Member q (keys_of (gs ++ (p, w) ∷ [])) → Member q (keys_of gs) ⊎ (q ≡ p)
+pub one_more_key : (gs : Groups) (p q : Place) (w : ℕ) → Member q (keys_of (gs ++ (p, w) ∷ []))
+    → Member q (keys_of gs) ⊎ (q ≡ p)
 one_more_key [] p q w (inl is) = inr is
 one_more_key [] p q w (inr later) = elim later [ ]
 one_more_key (g ∷ gs) p q w (inl is) = inl (inl is)

@@ -38,7 +38,8 @@ loop-at-preserved g c =
       taken = taken g p (omega arith);
       all = λ k t less m. elim (cases_eq k c.loop-at.at) [
         | inl here ↦ c.in_ok-put_all.ensures.all t
-            (subst (λ gs. Member t (edges gs)) (is g p (omega arith)) (subst (λ n. Member t (edges (masks_at c.args.shards.now n))) here m))
+            (subst (λ gs. Member t (edges gs)) (is g p (omega arith))
+            (subst (λ n. Member t (edges (masks_at c.args.shards.now n))) here m))
         | inr ne ↦ c.put_all.ensures.takes.kept t (c.loop-at.invariant.all k t (omega (arith, less, ne)) m)
       ];
     }

@@ -16,7 +16,8 @@ returns g c =
     let same = c.deref.ensures.value in
     let takes = subst (λ ss. TakesGiven (λ t. Member t (edges (places_in ss))) m.nodes.kept.keys o.nodes.kept.keys m.rows.entries
     o.rows.entries) same c.in_ok-put_shards.ensures.takes in
-    let all = subst (λ ss. (t : Triple) → Member t (edges (places_in ss)) → merged_has o.nodes.kept.keys o.rows.entries t ≡ true) same
+    let all =
+    subst (λ ss. (t : Triple) → Member t (edges (places_in ss)) → merged_has o.nodes.kept.keys o.rows.entries t ≡ true) same
     c.in_ok-put_shards.ensures.all in
     member_nodes s.merged.nodes.kept.keys m.nodes.kept.keys o.nodes.kept.keys s.merged.rows.entries m.rows.entries o.rows.entries
     (places_in s.gathered.shards.items) at.result.0 at.result.1 c.args.entry c.args.point 0 c.count.result (omega arith) (omega arith)

@@ -40,7 +40,8 @@ invariant_of-self-then-added g c =
     record {
       covers = c.gather.ensures.covers;
       counted = ap (λ n. n + 1) c.make_room.new.self.counted ∙ sym more;
-      once = all_none_twice c.make_room.new.self.merged.nodes.kept.keys c.make_room.new.self.merged.rows.entries (places_in c.gather.new.self.shards.items);
+      once = all_none_twice c.make_room.new.self.merged.nodes.kept.keys c.make_room.new.self.merged.rows.entries
+          (places_in c.gather.new.self.shards.items);
     }
 
 pub returns-then-added-clause-members : goal.returns-then-added-clause-members
