@@ -126,25 +126,10 @@ module _ {A : Type 0} where
   one_more_masks (s ∷ ss) w zero none = refl
   one_more_masks (s ∷ ss) w (suc k) none = one_more_masks ss w k none
 
-  -- the same places are home and covered still
-  pub home_same : (homes : List (ℕ × ℕ)) (ss ts : List (Shard A)) → ((k : ℕ) → masks_at ts k ≡ masks_at ss k)
-      → ArePlacesHome homes ss → ArePlacesHome homes ts
-  home_same homes ss ts same home k p m = home k p (subst (λ gs. Member p (keys_of gs)) (same k) m)
-
+  -- the same places are covered still
   pub covers_as : (ns : List Quad) (rs : List (Row × ℕ)) (ss ts : List (Shard A)) → ((k : ℕ) → masks_at ts k ≡ masks_at ss k)
       → CoversEach ns rs ss → CoversEach ns rs ts
   covers_as ns rs ss ts same covers k = subst (Covers ns rs) (sym (same k)) (covers k)
-
-  -- an entry whose shard has no places gets another shard
-  pub home_settled : (old new : List (ℕ × ℕ)) (ss : List (Shard A)) (e k : ℕ)
-      → ((j : ℕ) → lookup (nat_eq e) old ≡ Some j → masks_at ss j ≡ [])
-      → ((q : ℕ) → (q ≡ e → ⊥) → lookup (nat_eq q) new ≡ lookup (nat_eq q) old)
-      → ArePlacesHome old ss → ArePlacesHome new ss
-  home_settled old new ss e k none others home j p m = elim (cases_eq p.entry e) [
-    | inl is ↦ absurd (subst (λ gs. Member p (keys_of gs) → ⊥)
-        (sym (none j (ap (λ q. lookup (nat_eq q) old) (sym is) ∙ home j p m))) (λ never. elim never [ ]) m)
-    | inr ne ↦ others p.entry ne ∙ home j p m
-  ]
 
   module _ (homes : List (ℕ × ℕ)) (ss : List (Shard A)) (home : ArePlacesHome homes ss) where
     -- a path edge of a shard is one of an entry that has this shard
