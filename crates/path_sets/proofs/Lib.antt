@@ -26,3 +26,4 @@ pub mod Unique
 pub mod Chains
 pub mod Gathering
 pub mod Covered
+pub mod InShards

@@ -15,6 +15,7 @@ mod inner;
 mod laws;
 mod mask;
 mod merged;
+mod newest;
 mod node;
 mod nodes;
 mod ordered;
@@ -27,6 +28,7 @@ mod rows;
 mod seek;
 mod shards;
 mod union;
+mod waiting;
 
 pub use diagram::DiagramEdges;
 pub use edge_limit::{EdgeLimit, MOST_EDGES};
