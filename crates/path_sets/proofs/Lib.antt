@@ -26,4 +26,3 @@ pub mod Unique
 pub mod Chains
 pub mod Gathering
 pub mod Covered
-pub mod InShards

@@ -12,8 +12,6 @@ use Rattle.path_sets.specs.Triples.{Triple, triple}
 use Rattle.indexmap.specs.IndexMap.{IndexMap, IsUnique}
 use Rattle.path_sets.specs.Edges.{edge_at, edges, place_eq}
 use Rattle.path_sets.specs.Diagrams.{merged_has}
-use Rattle.path_sets.specs.declared.shards.Shard.{Shard}
-use Rattle.path_sets.specs.Shards.{masks_at}
 
 -- the numbers below this one, the greatest first
 unfoldable pub below : ℕ → List ℕ
@@ -54,10 +52,6 @@ abbrev pub Covers : List Quad → List (Row × ℕ) → List (Place × ℕ) → 
 Covers nodes rows masks =
     (p : Place) (bit : ℕ) → bit < 64 → Member p (keys_of masks) → merged_has nodes rows (edge_at p bit) ≡ true
     → is_gathered masks (edge_at p bit) ≡ true
-
--- what the diagrams have at a place of a shard is among what that shard has
-abbrev pub CoversEach : {A : Type 0} → List Quad → List (Row × ℕ) → List (Shard A) → Type 0
-CoversEach nodes rows shards = (k : ℕ) → Covers nodes rows (masks_at shards k)
 
 -- Each place is gathered once, and what the diagrams have there is among it.
 pub record AreGathered {S : Type 0} (nodes : List Quad) (rows : List (Row × ℕ)) (gathered : IndexMap Place ℕ S) : Type 0 where

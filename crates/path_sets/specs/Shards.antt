@@ -1,8 +1,7 @@
 -- The path edges of masks that stand in shards, those of an entry in one.
 use Rattle.std.specs.Prelude.{◌≡◌, ◌<◌, ℕ, zero, suc, nat_eq, List, [], ◌∷◌, ◌++◌, Some, length}
-use Rattle.std.specs.Map.{keys_of, lookup}
+use Rattle.std.specs.Map.{lookup}
 use Rattle.language.specs.Lists.{Member}
-use Rattle.path_sets.specs.declared.place.Place.{Place}
 use Rattle.path_sets.specs.declared.shards.Shard.{Shard}
 use Rattle.path_sets.specs.Edges.{edges}
 use Rattle.path_sets.specs.Triples.{Triple}
@@ -18,25 +17,9 @@ abbrev pub all_in : {A : Type 0} → List (Shard A) → List Triple
 all_in [] = []
 all_in (shard ∷ shards) = edges shard.masks.entries ++ all_in shards
 
--- the places of the shard with this number, with their masks; none behind the last
-abbrev pub masks_at : {A : Type 0} → List (Shard A) → ℕ → List (Place × ℕ)
-masks_at [] k = []
-masks_at (shard ∷ shards) zero = shard.masks.entries
-masks_at (shard ∷ shards) (suc k) = masks_at shards k
-
--- the places of all shards
-abbrev pub places_in : {A : Type 0} → List (Shard A) → List (Place × ℕ)
-places_in [] = []
-places_in (shard ∷ shards) = shard.masks.entries ++ places_in shards
-
 -- a path edge of a shard is one of an entry that has this shard
 abbrev pub AreHome : {A : Type 0} → List (ℕ × ℕ) → List (Shard A) → Type 0
 AreHome homes shards = (k : ℕ) (t : Triple) → Member t (edges_at shards k) → lookup (nat_eq t.entry) homes ≡ Some k
-
--- a place of a shard is one of an entry that has this shard
-abbrev pub ArePlacesHome : {A : Type 0} → List (ℕ × ℕ) → List (Shard A) → Type 0
-ArePlacesHome homes shards =
-    (k : ℕ) (p : Place) → Member p (keys_of (masks_at shards k)) → lookup (nat_eq p.entry) homes ≡ Some k
 
 -- the shard of each entry is there
 abbrev pub AreThere : {A : Type 0} → List (ℕ × ℕ) → List (Shard A) → Type 0

@@ -9,14 +9,12 @@ ghost use Rattle.path_sets.specs.Triples.{Triple};
 ghost use Rattle.path_sets.specs.Edges.{edges};
 ghost use Rattle.path_sets.specs.Diagrams.{TakesGiven, merged_has};
 ghost use Rattle.path_sets.specs.Cells.{AreCells, InCells, RowsStay};
-ghost use Rattle.path_sets.specs.Shards.{places_in};
 
 use crate::cell::{Cell, cell_at, cell_of, order_of};
 use crate::merged::Merged;
 use crate::place::Place;
 use crate::points::Masks;
 use crate::rows::row_of;
-use crate::shards::Shard;
 use std::alloc::{AllocError, Allocator};
 
 /// The place at an index, and its mask.
@@ -108,21 +106,4 @@ pub(crate) fn put_all<A: Allocator + Copy>(
     let mut cells = cells_of(merged, masks)?;
     sort(&mut cells)?;
     put_cells(merged, &cells)
-}
-
-/// Puts all path edges of the shards into the diagrams. Where memory is refused, some of them may be in.
-pub(crate) fn put_shards<A: Allocator + Copy>(
-    merged: &mut Merged<A>,
-    shards: &[Shard<A>],
-) -> Result<(), AllocError>
-    ensures takes { TakesGiven (λ t. Member t (edges (places_in shards.now)))
-        merged.old.nodes.kept.keys merged.new.nodes.kept.keys
-        merged.old.rows.entries merged.new.rows.entries }
-    ensures all { OnOk result ((t : Triple) → Member t (edges (places_in shards.now))
-        → merged_has merged.new.nodes.kept.keys merged.new.rows.entries t ≡ true) }
-{
-    for at in 0..shards.len() {
-        put_all(merged, &shards[at].masks)?;
-    }
-    Ok(())
 }

@@ -15,7 +15,6 @@ mod inner;
 mod laws;
 mod mask;
 mod merged;
-mod newest;
 mod node;
 mod nodes;
 mod ordered;
@@ -28,7 +27,6 @@ mod rows;
 mod seek;
 mod shards;
 mod union;
-mod waiting;
 
 pub use diagram::DiagramEdges;
 pub use edge_limit::{EdgeLimit, MOST_EDGES};

@@ -17,6 +17,7 @@ use crate::cell::Cell;
 use crate::inner::inner_nodes;
 use crate::quads::Quads;
 use crate::rows::{Row, Rows, begin, index_of, root, root_at, set_root};
+use crate::seek::seek;
 use crate::union::union;
 use indexmap::IndexMap;
 use language::Word;
@@ -61,6 +62,14 @@ impl<A: Allocator + Copy> Merged<A> {
             rows,
             last: 0,
         })
+    }
+
+    /// Has a row tried first from now on.
+    pub(crate) fn seek(&mut self, row: &Row)
+        ensures nodes { self.new.nodes ≡ self.old.nodes }
+        ensures rows { self.new.rows ≡ self.old.rows }
+    {
+        self.last = seek(&self.rows, self.last, row);
     }
 
     /// The points of a row that a valuation is at.

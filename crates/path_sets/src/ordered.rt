@@ -6,7 +6,6 @@ ghost use Rattle.language.specs.Lists.{NoneTwice, NoneTwice-prop};
 ghost use Rattle.path_sets.specs.Shards.{all_in, edges_at, AreHome, AreThere};
 
 use crate::homes::{Homes, home};
-use crate::newest::open;
 use crate::path_set::PathSet;
 use crate::place::place_of;
 use crate::seek::seek;
@@ -14,6 +13,9 @@ use crate::shards::Shard;
 use indexmap::IndexMap;
 use language::{Point, Word};
 use std::alloc::{AllocError, Allocator};
+
+/// How many places a shard has before new entries go to the next: so many stay in a processor's cache.
+const MANY: usize = 4_096;
 
 /// Path edges in one mask of 64 points for each valuation of each entry: a valuation mostly goes unchanged through many
 /// points. The places of entries that are first met one after another stand in one shard, in first-seen order, since
@@ -32,6 +34,25 @@ pub struct OrderedEdges<A: Allocator> {
     ghost there: { AreThere homes.entries shards.items },
     ghost counted: { count ≡ length (all_in shards.items) },
     ghost once: { NoneTwice (all_in shards.items) } by { NoneTwice-prop (all_in shards.items) },
+}
+
+/// The number of the shard that new entries go to, which is made where the last one has many places.
+pub(crate) fn open<A: Allocator + Copy>(
+    alloc: A,
+    shards: &mut Vec<Shard<A>, A>,
+) -> Result<usize, AllocError>
+    ensures within { IfOk result (λ k. k < length shards.new.items) }
+    ensures longer { length shards.old.items ≤ length shards.new.items }
+    ensures each { (k : ℕ) → edges_at shards.new.items k ≡ edges_at shards.old.items k }
+    ensures all { all_in shards.new.items ≡ all_in shards.old.items }
+{
+    if let Some(shard) = shards.as_slice().last() {
+        if shard.masks.len() < MANY {
+            return Ok(shards.len() - 1);
+        }
+    }
+    shards.push(Shard::new(alloc))?;
+    Ok(shards.len() - 1)
 }
 
 impl<A: Allocator + Copy> OrderedEdges<A> {

@@ -23,7 +23,7 @@ pub(crate) struct Shard<A: Allocator> {
 impl<A: Allocator + Copy> Shard<A> {
     /// No places, which take no memory yet.
     pub(crate) fn new(alloc: A) -> Self
-        ensures { result.masks.entries ≡ [] }
+        ensures { edges result.masks.entries ≡ [] }
     {
         Shard {
             masks: IndexMap::new(alloc),

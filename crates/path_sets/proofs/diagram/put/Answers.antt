@@ -1,8 +1,6 @@
-use Rattle.std.proofs.Common.{inl, subst}
-use Rattle.language.specs.Lists.{Member}
 use Rattle.path_sets.proofs.Covered.{covers_marked, puts_marked}
 use Rattle.path_sets.proofs.Gathering.{at_index}
-use Rattle.path_sets.proofs.waiting.put.Goals as goal
+use Rattle.path_sets.proofs.diagram.put.Goals as goal
 
 pub returns-in-Some-clause-ok : goal.returns-in-Some-clause-ok
 returns-in-Some-clause-ok g c =
@@ -25,6 +23,3 @@ returns-in-Some-clause-gathered g c =
           c.requires.gathered.covers
           c.mark_at.result (c.mark_at.ensures.settles p c.in-Some.ensures.here) c.mark_at.ensures.keys;
     }
-
-pub returns-in-Some-clause-keys : goal.returns-in-Some-clause-keys
-returns-in-Some-clause-keys g c p m = inl (subst (Member p) c.mark_at.ensures.keys m)
