@@ -10,7 +10,7 @@ pub mod OneBit
 pub mod TwoBits
 pub mod Stored
 pub mod Shifted
-pub mod Halves
+pub mod Halved
 pub mod OnePoint
 pub mod Canonical
 pub mod Unions

@@ -12,6 +12,7 @@ ghost use Rattle.path_sets.specs.Triples.{triple};
 ghost use Rattle.path_sets.specs.Members.{all_edges, AreGathered, Covers, PutsEdge};
 
 use crate::gathered::put_all;
+use crate::halves::Halves;
 use crate::mask::{has, mark};
 use crate::merged::Merged;
 use crate::path_set::PathSet;
@@ -71,7 +72,7 @@ impl<A: Allocator + Copy> DiagramEdges<A> {
     {
         let (place, bit) = place_of(entry, point, 0);
         let row = Row {
-            entry,
+            entry: Halves::new(entry),
             block: place.block,
         };
         let mut merged = self.merged.alone(row)?;
@@ -102,7 +103,7 @@ fn gather<A: Allocator + Copy>(
 {
     let row = row_of(&place);
     merged.seek(&row);
-    let mut mask = merged.points(&row, place.values);
+    let mut mask = merged.points(&row, place.values.word());
     if !mark(&mut mask, bit) {
         return Ok(false);
     }

@@ -42,7 +42,7 @@ fn cells_of<A: Allocator + Copy>(
     for at in 0..masks.len() {
         let (place, mask) = place_at(masks, at);
         let row = merged.settle(row_of(&place))?;
-        cells.push(cell_of(row, place.values, mask))?;
+        cells.push(cell_of(row, place.values.word(), mask))?;
     }
     Ok(cells)
 }

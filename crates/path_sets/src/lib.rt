@@ -10,6 +10,7 @@ mod cell;
 mod diagram;
 mod edge_limit;
 mod gathered;
+mod halves;
 mod homes;
 mod inner;
 mod laws;
@@ -30,6 +31,7 @@ mod union;
 
 pub use diagram::DiagramEdges;
 pub use edge_limit::{EdgeLimit, MOST_EDGES};
+pub use halves::Halves;
 pub use laws::{
     equal_sets_have_one_number, members_have_one_count, the_least_valuations_make_a_chain,
 };

@@ -4,6 +4,7 @@ ghost use Rattle.std.specs.Prelude.{◌≡◌, ◌<◌};
 ghost use Rattle.path_sets.specs.Edges.{edge_at};
 ghost use Rattle.path_sets.specs.Triples.{triple};
 
+use crate::halves::Halves;
 use language::{Point, Word};
 
 /// How many points a block has: one for each bit of a mask.
@@ -12,8 +13,8 @@ const BLOCK: usize = 64;
 /// The valuation on entry, the valuation at the points, and the number of their block.
 #[derive(Clone, Copy, Debug, PartialEq, Eq, Hash)]
 pub(crate) struct Place {
-    pub(crate) entry: Word,
-    pub(crate) values: Word,
+    pub(crate) entry: Halves,
+    pub(crate) values: Halves,
     pub(crate) block: usize,
 }
 
@@ -24,8 +25,8 @@ pub(crate) fn place_of(entry: Word, point: Point, values: Word) -> (Place, usize
 {
     let block = point / BLOCK;
     let place = Place {
-        entry,
-        values,
+        entry: Halves::new(entry),
+        values: Halves::new(values),
         block,
     };
     (place, point % BLOCK)

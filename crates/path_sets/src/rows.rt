@@ -8,16 +8,16 @@ ghost use Rattle.path_sets.specs.Cells.{RowsStay};
 ghost use Rattle.path_sets.specs.declared.rows.Row.{Row};
 ghost use Rattle.path_sets.specs.Diagrams.{root_of, row_eq, row_of, Roots};
 
+use crate::halves::Halves;
 use crate::place::Place;
 use indexmap::IndexMap;
-use language::Word;
 use std::alloc::{AllocError, Allocator};
 use std::hash::{BuildHasherDefault, FoldHasher};
 
 /// A valuation on entry, and the number of a block of 64 points.
 #[derive(Clone, Copy, Debug, PartialEq, Eq, Hash)]
 pub(crate) struct Row {
-    pub(crate) entry: Word,
+    pub(crate) entry: Halves,
     pub(crate) block: usize,
 }
 

@@ -1,7 +1,7 @@
 //! Path edges of one procedure, and the calls on them.
 
-use crate::halves::Halves;
 use language::{Point, Word};
+use path_sets::Halves;
 
 /// A path edge: the valuation on entry, the point, and the valuation there.
 #[derive(Clone, Copy, Debug, PartialEq, Eq)]

@@ -1,7 +1,7 @@
 //! What calls leave, as it is kept.
 
-use crate::halves::Halves;
 use flow_graph::Left;
+use path_sets::Halves;
 use std::marker::Model;
 
 /// What a call leaves, as a table keeps it, which takes 24 bytes, and not 32. Contracts see it as what is left.

@@ -1,7 +1,7 @@
 //! Pairs as they are kept.
 
-use crate::halves::Halves;
 use crate::pair::Pair;
+use path_sets::Halves;
 use std::marker::Model;
 
 /// A pair as a table keeps it, which takes 40 bytes, and not 48, and with its hash 48, and not 64. Contracts see it as

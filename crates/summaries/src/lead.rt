@@ -5,11 +5,10 @@ ghost use Rattle.summaries.specs.Grows.{IsLedBy};
 
 use crate::edge::{Edge, Led};
 use crate::frontier::Frontier;
-use crate::halves::Halves;
 use crate::table_fault::TableFault;
 use flow_graph::Flow;
 use language::{Point, Word};
-use path_sets::PathSet;
+use path_sets::{Halves, PathSet};
 use std::alloc::Allocator;
 
 /// A flow with so many choices is led once for all valuations that it leads alike. With fewer, to remember an edge takes

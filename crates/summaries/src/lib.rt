@@ -10,7 +10,6 @@ mod frontier;
 mod given;
 mod go_on;
 mod groups;
-mod halves;
 mod kept_left;
 mod kept_pair;
 mod laws;

@@ -146,7 +146,16 @@ impl<'g, G: Allocator, A: Allocator + Copy, S: PathSet<A>> Table<'g, G, A, S> {
         let Some(edge) = self.found.pending.pop() else {
             return Ok(false);
         };
-        let worked = self.work(edge);
+        let Edge {
+            entry,
+            point,
+            values,
+        } = edge;
+        let worked = self.work(Edge {
+            entry,
+            point,
+            values,
+        });
         self.keep(worked)?;
         Ok(true)
     }

@@ -1,5 +1,5 @@
 use Rattle.std.proofs.Common.{◌∙◌, arith}
-use Rattle.path_sets.proofs.Halves.{high_goes, high_rest, low_ends, low_goes}
+use Rattle.path_sets.proofs.Halved.{high_goes, high_rest, low_ends, low_goes}
 use Rattle.path_sets.proofs.cell.way.Goals as goal
 use Rattle.path_sets.proofs.cell.way.Goals.{else-rest-eq0-via-then-rest-eq0+else-cell-eq0, else-rest-eq0-via-else-rest-eq0}
 

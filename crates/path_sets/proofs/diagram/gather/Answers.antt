@@ -19,6 +19,8 @@ module _ (g : given.Over) (c : In_ok-begin g) where
       ≡ merged_has c.seek.new.self.nodes.kept.keys c.seek.new.self.rows.entries (edge_at c.args.place b)
   knows b less =
       c.points-mask.ensures b less
+      ∙ ap (λ v. merged_has c.seek.new.self.nodes.kept.keys c.seek.new.self.rows.entries
+      (triple c.row_of-row.result.entry (64 * c.row_of-row.result.block + b) v)) c.word.ensures
       ∙ ap (λ r. merged_has c.seek.new.self.nodes.kept.keys c.seek.new.self.rows.entries
       (triple r.entry (64 * r.block + b) c.args.place.values)) c.row_of-row.ensures
 

@@ -14,10 +14,10 @@ loop-at-preserved g c =
         indexes = λ k row h. stay.indexes k row (i.stay.indexes k row h);
         numbers = λ e b. stay.numbers e b ∙ i.stay.numbers e b;
       };
-      cells = next_cell ks ls c.args.masks.now.entries c.loop-at.at c.loop-at.cells.items c.push.new.self.items c.place_at-mask.result
-          c.cell_of.result c.place_at-mask.ensures c.in_ok-push.ensures.items stay.indexes i.cells (
+      cells = next_cell ks ls c.args.masks.now.entries c.loop-at.at c.loop-at.cells.items c.push.new.self.items c.place_at-place.result
+          c.cell_of.result c.place_at-place.ensures c.in_ok-push.ensures.items stay.indexes i.cells (
             ap (slice_get ls) c.cell_of.ensures.row ∙ c.in_ok-row.ensures.at ∙ ap Some c.row_of.ensures,
-            c.cell_of.ensures.values,
+            c.cell_of.ensures.values ∙ c.word.ensures,
             c.cell_of.ensures.mask,
           );
     }

@@ -17,10 +17,10 @@ returns-in-Some g c =
     let gs = s.gathered.entries in
     let x = triple c.args.entry c.args.point c.args.values in
     let fits : Fits x = record { entry = omega arith; point = omega arith; values = omega arith } in
-    let p = c.place_of-bit.result.0 in
-    let b = c.place_of-bit.result.1 in
-    let small = c.place_of-bit.ensures.bit in
-    let edge = c.place_of-bit.ensures.edge in
+    let p = c.place_of-place.result.0 in
+    let b = c.place_of-place.result.1 in
+    let small = c.place_of-place.ensures.bit in
+    let edge = c.place_of-place.ensures.edge in
     let m = c.index.result.now in
     let i = c.in-Some.at in
     let here = c.in-Some.ensures.here in
@@ -42,10 +42,10 @@ returns-in-None g c =
     let gs = s.gathered.entries in
     let x = triple c.args.entry c.args.point c.args.values in
     let fits : Fits x = record { entry = omega arith; point = omega arith; values = omega arith } in
-    let p = c.place_of-bit.result.0 in
-    let b = c.place_of-bit.result.1 in
-    let small = c.place_of-bit.ensures.bit in
-    let edge = c.place_of-bit.ensures.edge in
+    let p = c.place_of-place.result.0 in
+    let b = c.place_of-place.result.1 in
+    let small = c.place_of-place.ensures.bit in
+    let edge = c.place_of-place.ensures.edge in
     let values = ap (λ (t : Triple). t.values) edge in
     let same = c.has-in-None.ensures ∙ c.points.ensures b small
     ∙ ap (λ r. merged_has ns rs (triple r.entry (64 * r.block + b) c.args.values)) c.row_of.ensures

@@ -32,15 +32,15 @@ module _ (g : given.Over) (c : In_ok-added g) where
   -- what is put in, or is there, as the answer says
   puts : (b : Bool) → c.in_ok-added.added ≡ b
       → PutsEdge c.put.new.merged.nodes.kept.keys c.put.new.merged.rows.entries
-      (edge_at c.place_of-bit.result.0 c.place_of-bit.result.1) old new b
+      (edge_at c.place_of-place.result.0 c.place_of-place.result.1) old new b
   puts b is = subst (PutsEdge c.put.new.merged.nodes.kept.keys c.put.new.merged.rows.entries
-      (edge_at c.place_of-bit.result.0 c.place_of-bit.result.1) old new) is c.in_ok-added.ensures.ok
+      (edge_at c.place_of-place.result.0 c.place_of-place.result.1) old new) is c.in_ok-added.ensures.ok
 
 pub invariant_of-self-then-added : goal.invariant_of-self-then-added
 invariant_of-self-then-added g c =
     let i = (goal.at.invariant_of-self-then-added g c).In_ok-added in
     let more =
-    longer _ _ (x g i) _ (old g i) (new g i) _ (fits g i) c.place_of-bit.ensures.edge (here g i) (puts g i true c.if-added.true) in
+    longer _ _ (x g i) _ (old g i) (new g i) _ (fits g i) c.place_of-place.ensures.edge (here g i) (puts g i true c.if-added.true) in
     record {
       unique = c.put.ensures.gathered.unique;
       covers = c.put.ensures.gathered.covers;
@@ -51,23 +51,23 @@ invariant_of-self-then-added g c =
 pub returns-then-added-clause-members : goal.returns-then-added-clause-members
 returns-then-added-clause-members g c =
     let i = (goal.at.returns-then-added-clause-members g c).In_ok-added in
-    members_put _ _ (x g i) _ (old g i) (new g i) _ (fits g i) c.place_of-bit.ensures.edge (here g i ∙ c.in_ok-make_room.ensures)
+    members_put _ _ (x g i) _ (old g i) (new g i) _ (fits g i) c.place_of-place.ensures.edge (here g i ∙ c.in_ok-make_room.ensures)
     (puts g i true c.if-added.true)
 
 pub returns-then-added-clause-new : goal.returns-then-added-clause-new
 returns-then-added-clause-new g c =
     let i = (goal.at.returns-then-added-clause-new g c).In_ok-added in
-    OnTrue_from c.in_ok-added.added _ (λ is. was_new _ _ (x g i) _ (old g i) (new g i) _ (fits g i) c.place_of-bit.ensures.edge
+    OnTrue_from c.in_ok-added.added _ (λ is. was_new _ _ (x g i) _ (old g i) (new g i) _ (fits g i) c.place_of-place.ensures.edge
     (here g i ∙ c.in_ok-make_room.ensures) (puts g i true is))
 
 pub returns-else-added-clause-members : goal.returns-else-added-clause-members
 returns-else-added-clause-members g c =
     let i = (goal.at.returns-else-added-clause-members g c).In_ok-added in
-    members_kept _ _ (x g i) _ (old g i) (new g i) _ (fits g i) c.place_of-bit.ensures.edge (here g i ∙ c.in_ok-make_room.ensures)
+    members_kept _ _ (x g i) _ (old g i) (new g i) _ (fits g i) c.place_of-place.ensures.edge (here g i ∙ c.in_ok-make_room.ensures)
     (puts g i false c.if-added.false)
 
 pub returns-else-added-clause-known : goal.returns-else-added-clause-known
 returns-else-added-clause-known g c =
     let i = (goal.at.returns-else-added-clause-known g c).In_ok-added in
-    OnFalse_from c.in_ok-added.added _ (λ is. was_known _ _ (x g i) _ (old g i) (new g i) _ (fits g i) c.place_of-bit.ensures.edge
+    OnFalse_from c.in_ok-added.added _ (λ is. was_known _ _ (x g i) _ (old g i) (new g i) _ (fits g i) c.place_of-place.ensures.edge
     (here g i ∙ c.in_ok-make_room.ensures) (puts g i false is))

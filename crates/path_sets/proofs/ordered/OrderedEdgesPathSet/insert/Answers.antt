@@ -48,7 +48,7 @@ returns-in_err-added-clause-err g c =
 
 module _ (g : given.Over) (c : In_ok-added g) where
   abbrev x : Triple
-  x = edge_at c.place_of-bit.result.0 c.place_of-bit.result.1
+  x = edge_at c.place_of-place.result.0 c.place_of-place.result.1
 
   -- the shards before the path edge is put in, and after
   abbrev old : List (Shard g.row.A.Denot)
@@ -58,7 +58,7 @@ module _ (g : given.Over) (c : In_ok-added g) where
   new = slice_set old c.in_ok-at.at c.put.new.self
 
   own : lookup (nat_eq x.entry) c.shard_of.new.self.homes.entries ≡ Some c.in_ok-at.at
-  own = ap (λ (t : Triple). lookup (nat_eq t.entry) c.shard_of.new.self.homes.entries) c.place_of-bit.ensures.edge
+  own = ap (λ (t : Triple). lookup (nat_eq t.entry) c.shard_of.new.self.homes.entries) c.place_of-place.ensures.edge
       ∙ c.in_ok-at.ensures.shard
 
   at : slice_get old c.in_ok-at.at ≡ Some c.index_mut.result.now
@@ -83,7 +83,7 @@ module _ (g : given.Over) (c : In_ok-added g) where
   inserts : c.in_ok-added.added ≡ true → Inserts (triple c.args.entry c.args.point c.args.values) (all_in c.args.self.now.shards.items)
       (all_in new)
   inserts is =
-      subst (λ t. Inserts t (all_in c.args.self.now.shards.items) (all_in new)) c.place_of-bit.ensures.edge
+      subst (λ t. Inserts t (all_in c.args.self.now.shards.items) (all_in new)) c.place_of-place.ensures.edge
       (subst (λ ts. Inserts x ts (all_in new)) c.in_ok-at.ensures.edges (settles true is).0)
 
 pub invariant_of-self-then-added : goal.invariant_of-self-then-added
@@ -126,7 +126,7 @@ pub returns-then-added-clause-new : goal.returns-then-added-clause-new
 returns-then-added-clause-new g c =
     let i = (goal.at.returns-then-added-clause-new g c).In_ok-added in
     OnTrue_from c.in_ok-added.added _ (λ is m. (settles g i true is).1
-    (subst (λ t. Member t (all_in (old g i))) (sym c.place_of-bit.ensures.edge)
+    (subst (λ t. Member t (all_in (old g i))) (sym c.place_of-place.ensures.edge)
     (subst (λ ts. Member (triple c.args.entry c.args.point c.args.values) ts) (sym c.in_ok-at.ensures.edges) m)))
 
 pub returns-else-added-clause-members : goal.returns-else-added-clause-members
@@ -137,7 +137,7 @@ returns-else-added-clause-members g c =
     λ t. (
       λ m. inr (subst (Member t) kept m),
       λ h. elim h [
-        | inl e ↦ subst (λ y. Member y (all_in (new g i))) (c.place_of-bit.ensures.edge ∙ sym e)
+        | inl e ↦ subst (λ y. Member y (all_in (new g i))) (c.place_of-place.ensures.edge ∙ sym e)
             (subst (Member (x g i)) (sym same) known)
         | inr m ↦ subst (Member t) (sym kept) m
       ],
@@ -146,5 +146,5 @@ returns-else-added-clause-members g c =
 pub returns-else-added-clause-known : goal.returns-else-added-clause-known
 returns-else-added-clause-known g c =
     let i = (goal.at.returns-else-added-clause-known g c).In_ok-added in
-    OnFalse_from c.in_ok-added.added _ (λ is. subst (λ t. Member t (all_in c.args.self.now.shards.items)) c.place_of-bit.ensures.edge
+    OnFalse_from c.in_ok-added.added _ (λ is. subst (λ t. Member t (all_in c.args.self.now.shards.items)) c.place_of-place.ensures.edge
     (subst (Member (x g i)) c.in_ok-at.ensures.edges (settles g i false is).1))

@@ -9,10 +9,10 @@ use language::Word;
 use std::hash::{Hash, Hasher};
 use std::marker::Model;
 
-/// A valuation in two halves of 64 bits, as tables keep it: it need not stand at a multiple of 16 bytes, so that less
-/// memory is lost between values. Contracts see it as the valuation.
+/// A valuation in two halves of 64 bits, as it is kept many times: it need not stand at a multiple of 16 bytes, so that
+/// less memory is lost between values. Contracts see it as the valuation.
 #[derive(Clone, Copy, Debug)]
-pub(crate) struct Halves {
+pub struct Halves {
     low: u64,
     high: u64,
 }
@@ -39,7 +39,7 @@ impl Halves {
     ghost use Rattle.std.specs.Prelude.{◌≡◌};
 
     /// The halves of a valuation.
-    pub(crate) fn new(word: Word) -> Self
+    pub fn new(word: Word) -> Self
         ensures { result ≡ word }
     {
         let wide = word as u128;
@@ -50,7 +50,7 @@ impl Halves {
     }
 
     /// The valuation.
-    pub(crate) fn word(self) -> Word
+    pub fn word(self) -> Word
         ensures { result ≡ self }
     {
         self.low as Word + ((self.high as Word) << 64)
