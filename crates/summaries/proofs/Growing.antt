@@ -200,3 +200,12 @@ module _ {X : Type 0} (W : X → Triple → Type 0) (xs : List X) (i : ℕ) (old
         within = within;
         limit = λ is. absurd (ok_err is);
       }
+
+module _ {X : Type 0} (W : X → Triple → Type 0) {x y : X} (same : x ≡ y) {old new : List Triple} {before after : List Edge} where
+  -- what is added for an item is added for one that is the same
+  pub adds_for : {T : Type 0} {answer : Result T TableFault} {most : ℕ} → Adds (W x) answer most old new before after
+      → Adds (W y) answer most old new before after
+  adds_for {T} {answer} {most} = subst (λ z. Adds (W z) answer most old new before after) same
+
+  pub grows_for : Grows (W x) old new before after → Grows (W y) old new before after
+  grows_for = subst (λ z. Grows (W z) old new before after) same

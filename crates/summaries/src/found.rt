@@ -3,9 +3,10 @@
 ghost use Rattle.std.specs.Prelude.{◌≡◌};
 
 use crate::due::{Caller, Due};
-use crate::edge::{Call, Edge, Led, Site};
+use crate::edge::{Edge, Led};
 use crate::given::{Given, Sent};
 use crate::groups::Groups;
+use crate::kept_call::{KeptCall, KeptSite};
 use crate::kept_left::KeptLeft;
 use crate::kept_pair::KeptPair;
 use indexmap::IndexSet;
@@ -19,9 +20,9 @@ pub(crate) struct Found<A: Allocator> {
     /// Who enters the procedure, by the valuation on entry.
     pub(crate) entries: Groups<Word, Caller, A>,
     /// What the procedures called leave, by call.
-    pub(crate) summaries: Groups<Call, KeptLeft, A>,
+    pub(crate) summaries: Groups<KeptCall, KeptLeft, A>,
     /// Where calls stand, by call.
-    pub(crate) sites: Groups<Call, Site, A>,
+    pub(crate) sites: Groups<KeptCall, KeptSite, A>,
     /// The pairs of the procedure.
     pub(crate) pairs: IndexSet<KeptPair, BuildHasherDefault<FoldHasher>, A>,
     /// The places of the pairs, by the valuation on entry.
@@ -63,7 +64,7 @@ impl<A: Allocator + Copy> Found<A> {
         match message {
             Sent::Asked { call } => {
                 let calls = self.sites.by_key.keys();
-                let call = calls.as_slice()[call as usize];
+                let call = calls.as_slice()[call as usize].call();
                 let due = Due::Entry {
                     caller: Caller::Proc(procedure),
                     a: call.entered,

@@ -2,6 +2,7 @@
 
 use crate::edge::{Edge, Site};
 use crate::frontier::Frontier;
+use crate::kept_call::KeptSite;
 use crate::kept_left::KeptLeft;
 use crate::table_fault::TableFault;
 use flow_graph::{Flow, Graph, Left};
@@ -58,7 +59,7 @@ impl<'e, 'p, A: Allocator, S: PathSet<A>> Frontier<'e, 'p, A, S> {
     pub(crate) fn go_on_at_each<G: Allocator>(
         &mut self,
         graph: &Graph<G>,
-        sites: &[Site],
+        sites: &[KeptSite],
         left: Left,
     ) -> Result<(), TableFault>
         requires { IsWithin S.members self.old }
@@ -66,7 +67,7 @@ impl<'e, 'p, A: Allocator, S: PathSet<A>> Frontier<'e, 'p, A, S> {
             (OfSome (λ site. IsBehind graph.now site left) sites.now) result self.old self.new }
     {
         for site in sites {
-            self.reach_behind(graph, *site, left)?;
+            self.reach_behind(graph, site.site(), left)?;
         }
         Ok(())
     }

@@ -10,6 +10,7 @@ mod frontier;
 mod given;
 mod go_on;
 mod groups;
+mod kept_call;
 mod kept_left;
 mod kept_pair;
 mod laws;

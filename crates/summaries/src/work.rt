@@ -16,6 +16,7 @@ use crate::due::Caller;
 use crate::edge::{Call, Edge, Led, Site};
 use crate::frontier::Frontier;
 use crate::given::place;
+use crate::kept_call::{KeptCall, KeptSite};
 use crate::kept_left::KeptLeft;
 use crate::kept_pair::KeptPair;
 use crate::lead::led_by;
@@ -74,16 +75,16 @@ impl<'g, G: Allocator, A: Allocator + Copy, S: PathSet<A>> Table<'g, G, A, S> {
         ensures pairs { self.new.found.pairs ≡ self.old.found.pairs }
         ensures less { OnOk result (IsLess S.members self.old self.new) }
     {
-        let key = Call {
+        let key = KeptCall::new(Call {
             callee: call.callee(),
             entered: call.entry(edge.values),
-        };
+        });
         let site = Site {
             asked: edge.entry,
             point: edge.point,
             values: edge.values,
         };
-        let added = self.found.sites.add(key, site)?;
+        let added = self.found.sites.add(key, KeptSite::new(site))?;
         self.found.given.ask(added.had, added.at)?;
         let mut frontier = Frontier {
             edges: &mut self.edges,
@@ -199,12 +200,13 @@ impl<'g, G: Allocator, A: Allocator + Copy, S: PathSet<A>> Table<'g, G, A, S> {
         ensures only { TookOnly
             (summary_due call.callee call.entered left) self.old.found self.new.found }
     {
-        self.found.summaries.add(call, KeptLeft::new(left))?;
+        let key = KeptCall::new(call);
+        self.found.summaries.add(key, KeptLeft::new(left))?;
         let mut frontier = Frontier {
             edges: &mut self.edges,
             pending: &mut self.found.pending,
             limit: self.limit,
         };
-        frontier.go_on_at_each(self.graph, self.found.sites.of(call), left)
+        frontier.go_on_at_each(self.graph, self.found.sites.of(key), left)
     }
 }

@@ -1,20 +1,8 @@
-use Rattle.std.proofs.Common.{◌≡◌, ℕ, List, Result, false, Err, refl, sym, ap, ◌∙◌, subst, arith, rules}
-use Rattle.path_sets.specs.Triples.{Triple}
-use Rattle.summaries.specs.declared.edge.Edge.{Edge}
-use Rattle.summaries.specs.declared.table_fault.TableFault.{TableFault}
-use Rattle.summaries.specs.Grows.{Adds, Grows, IsBehind}
-use Rattle.summaries.proofs.Growing.{each_next, each_failed, each_done, fault_of}
+use Rattle.std.proofs.Common.{Err, refl, sym, ap, ◌∙◌, arith, rules}
+use Rattle.summaries.specs.Grows.{IsBehind}
+use Rattle.summaries.proofs.Growing.{each_next, each_failed, each_done, adds_for, grows_for, fault_of}
 use Rattle.summaries.proofs.Reaching.{still_within, reaches_on, stays_on}
 use Rattle.summaries.proofs.frontier.Frontier.go_on.Goals as goal
-
-module _ {X : Type 0} (W : X → Triple → Type 0) {x y : X} (same : x ≡ y) {old new : List Triple} {before after : List Edge} where
-  -- what is added for an item is added for one that is the same
-  adds_for : {T : Type 0} {answer : Result T TableFault} {most : ℕ} → Adds (W x) answer most old new before after
-      → Adds (W y) answer most old new before after
-  adds_for {T} {answer} {most} = subst (λ z. Adds (W z) answer most old new before after) same
-
-  grows_for : Grows (W x) old new before after → Grows (W y) old new before after
-  grows_for = subst (λ z. Grows (W z) old new before after) same
 
 pub returns-in_err-reach_behind : goal.returns-in_err-reach_behind
 returns-in_err-reach_behind g c =

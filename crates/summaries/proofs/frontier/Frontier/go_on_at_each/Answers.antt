@@ -1,7 +1,6 @@
-use Rattle.std.proofs.Common.{Err, refl, sym, ap, arith, rules}
-use Rattle.summaries.specs.Found.{site}
+use Rattle.std.proofs.Common.{Err, refl, sym, ap, ◌∙◌, arith, rules}
 use Rattle.summaries.specs.Grows.{IsBehind}
-use Rattle.summaries.proofs.Growing.{each_next, each_failed, each_done, fault_of}
+use Rattle.summaries.proofs.Growing.{each_next, each_failed, each_done, adds_for, grows_for, fault_of}
 use Rattle.summaries.proofs.Reaching.{still_within, reaches_on, stays_on}
 use Rattle.summaries.proofs.frontier.Frontier.go_on_at_each.Goals as goal
 
@@ -9,13 +8,17 @@ pub returns-in_err-reach_behind : goal.returns-in_err-reach_behind
 returns-in_err-reach_behind g c =
     reaches_on g.S.PathSet.members c.loop-site.invariant.2 c.in_err-reach_behind.ensures.stays
     (each_failed (λ site. IsBehind c.args.graph.now site c.args.left) c.args.sites.now c.loop-site.site-index _ _ _ _
-    c.loop-site.invariant.0 (site 0 0 0) c.loop-site-test.true _ _ c.in_err-reach_behind.ensures.adds (search rules)
+    c.loop-site.invariant.0 c.site-item.result c.loop-site-test.true _ _
+    (adds_for (λ site. IsBehind c.args.graph.now site c.args.left) (c.site.ensures ∙ c.site-item.is) c.in_err-reach_behind.ensures.adds)
+    (search rules)
     (λ e. ap Err (sym (fault_of _ _ _ c.from_residual.ensures.1 e))))
 
 pub loop-site-preserved : goal.loop-site-preserved
 loop-site-preserved g c = (
   each_next (λ site. IsBehind c.args.graph.now site c.args.left) c.args.sites.now c.loop-site.site-index _ _ _ _ c.loop-site.invariant.0
-      (site 0 0 0) c.loop-site-test.true _ _ c.in_ok-reach_behind.ensures.adds.ok,
+      c.site-item.result c.loop-site-test.true _ _
+      (grows_for (λ site. IsBehind c.args.graph.now site c.args.left) (c.site.ensures ∙ c.site-item.is)
+      c.in_ok-reach_behind.ensures.adds.ok),
   still_within g.S.PathSet.members c.in_ok-reach_behind.ensures,
   stays_on c.loop-site.invariant.2 c.in_ok-reach_behind.ensures.stays,
 )

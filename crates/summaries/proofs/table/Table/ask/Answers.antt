@@ -1,14 +1,16 @@
-use Rattle.std.proofs.Common.{ℕ, ◌≡◌, ◌⊎◌, Some, refl, sym, subst}
+use Rattle.std.proofs.Common.{ℕ, ◌≡◌, ◌⊎◌, ◌++◌, ◌∷◌, [], Some, refl, sym, ap, ◌∙◌, subst}
 use Rattle.std.proofs.lemmas.Result.{IfOk-weaker}
 use Rattle.path_sets.specs.Triples.{Triple}
+use Rattle.flow_graph.specs.Drawn.{callee_of, entered_from}
 use Rattle.flow_graph.specs.Flows.{entered_by}
 use Rattle.flow_graph.specs.declared.flow.Flow.TheVariants as flow
 use Rattle.language.specs.Lists.{Member}
 use Rattle.language.specs.Sequential.{caller}
 use Rattle.flow_graph.specs.Numbers.{numbered_entry}
+use Rattle.summaries.specs.declared.edge.Call.{Call}
 use Rattle.summaries.specs.Under.{under}
 use Rattle.indexmap.specs.IndexMap.{keys}
-use Rattle.summaries.specs.Found.{HasSite, IsIndexed, call, call_eq, site, entry_mail, mails_in}
+use Rattle.summaries.specs.Found.{HasSite, IsIndexed, call_eq, site, entry_mail, mails_in}
 use Rattle.summaries.specs.Grows.{AddsTo, Grows, OfSome, IsBehind, triple_of}
 use Rattle.summaries.proofs.Asking.{asked_to, ask_step, ask_only, behind_reached, asked_site, taken_there}
 use Rattle.summaries.proofs.Asking.{stands_there, was_given, asked_indexed, asked_gave}
@@ -19,11 +21,22 @@ use Rattle.summaries.proofs.Worked.{refused_worked, added_worked}
 use Rattle.summaries.proofs.table.Table.ask.Given as given
 use Rattle.summaries.proofs.table.Table.ask.Goals as goal
 
+-- the key is the call
+asked : (g : given.Over) (c : goal.After-go_on g) →
+    (c.new-key.result.callee ≡ callee_of c.args.call.now) × (c.new-key.result.entered ≡ entered_from c.args.call.now c.args.edge.values)
+asked g c = (ap (λ (k : Call). k.callee) c.new-key.ensures ∙ c.callee.ensures, ap (λ (k : Call). k.entered) c.new-key.ensures ∙ c.entry.ensures)
+
 -- the flow is a call of this procedure
 enters : (g : given.Over) (c : goal.After-go_on g) →
     entered_by (flow.Call c.args.call.now) c.args.edge.values ≡ Some
-    (c.callee.result, c.entry.result, c.args.call.now.back)
-enters g c = λ i. Some (sym c.callee.ensures i, sym c.entry.ensures i, c.args.call.now.back)
+    (c.new-key.result.callee, c.new-key.result.entered, c.args.call.now.back)
+enters g c = λ i. Some (sym (asked g c).0 i, sym (asked g c).1 i, c.args.call.now.back)
+
+-- it is kept that the call stands at the site
+added : (g : given.Over) (c : goal.After-go_on g) →
+    under call_eq c.add.new.self.by_key c.new-key.result ≡ under call_eq c.args.self.now.found.sites.by_key c.new-key.result
+    ++ site c.args.edge.entry c.args.edge.point c.args.edge.values ∷ []
+added g c = c.in_ok-added.ensures.added ∙ ap (λ x. under call_eq c.args.self.now.found.sites.by_key c.new-key.result ++ x ∷ []) c.new.ensures
 
 -- the summaries of the call are those that are found by it
 known : (g : given.Over) (c : goal.After-go_on g) →
@@ -31,7 +44,7 @@ known : (g : given.Over) (c : goal.After-go_on g) →
     let site = site c.args.edge.entry c.args.edge.point c.args.edge.values in
     let es = g.S.PathSet.members self.edges in
     let ds = g.S.PathSet.members c.go_on.new.self.edges.now in
-    let known = under call_eq self.found.summaries.by_key (call c.callee.result c.entry.result) in
+    let known = under call_eq self.found.summaries.by_key (c.new-key.result) in
     Grows (OfSome (IsBehind self.graph.now site) c.of.result.now) es ds self.found.pending.items c.go_on.new.self.pending.now.items →
     Grows (OfSome (IsBehind self.graph.now site) known) es ds self.found.pending.items c.go_on.new.self.pending.now.items
 known g c =
@@ -45,7 +58,7 @@ pub ask-requires : goal.ask-requires
 ask-requires g c =
     let self = c.args.self.now in
     let f = self.found in
-    let k = call c.callee.result c.entry.result in
+    let k = c.new-key.result in
     where_none (under call_eq f.sites.by_key k) c.in_ok-added.added.had c.in_ok-added.ensures.none
     (λ none m.
     let owed = c.requires.holds.0.given k.callee (numbered_entry (caller self.procedure) k.entered)
@@ -59,20 +72,20 @@ kept : (g : given.Over) (c : goal.After-go_on g) → IsIndexed c.args.self.now.f
     c.go_on.new.self.pending.now)
 kept g c =
     asked_indexed c.args.self.now.procedure c.args.self.now.found c.ask.new.self c.add.new.self c.go_on.new.self.pending.now
-    (call c.callee.result c.entry.result) c.in_ok-added.added.at c.in_ok-added.ensures.keys
-    (stands_there (keys c.add.new.self.by_key) (call c.callee.result c.entry.result) c.in_ok-added.added.at c.in_ok-added.ensures.at)
+    (c.new-key.result) c.in_ok-added.added.at c.in_ok-added.ensures.keys
+    (stands_there (keys c.add.new.self.by_key) (c.new-key.result) c.in_ok-added.added.at c.in_ok-added.ensures.at)
     c.in_ok-added.added.had
     c.in_ok-ask.ensures.known c.in_ok-ask.ensures.new
 
 -- its entry is given, now or before
 gave : (g : given.Over) (c : goal.After-go_on g) →
     let self = c.args.self.now in
-    AddsTo (λ m. m ≡ entry_mail self.procedure (call c.callee.result c.entry.result)) (mails_in self.procedure self.found)
+    AddsTo (λ m. m ≡ entry_mail self.procedure (c.new-key.result)) (mails_in self.procedure self.found)
     (mails_in self.procedure (asked_to self.graph.now self.procedure self.found c.ask.new.self c.add.new.self c.go_on.new.self.pending.now))
 gave g c =
     let self = c.args.self.now in
     let f = self.found in
-    let k = call c.callee.result c.entry.result in
+    let k = c.new-key.result in
     asked_gave self.procedure f c.ask.new.self c.add.new.self c.go_on.new.self.pending.now k c.in_ok-added.added.at
     c.in_ok-added.ensures.keys (stands_there (keys c.add.new.self.by_key) k c.in_ok-added.added.at c.in_ok-added.ensures.at)
     c.in_ok-added.added.had c.in_ok-ask.ensures.known c.in_ok-ask.ensures.new
@@ -108,7 +121,7 @@ returns-clause-worked g c =
     let es = g.S.PathSet.members self.edges in
     let ds = g.S.PathSet.members c.go_on.new.self.edges.now in
     let edges = ask_only self.graph.now self.procedure f c.ask.new.self c.add.new.self c.go_on.new.self.pending.now es ds e
-    c.callee.result c.entry.result c.args.call.now.back (flow.Call c.args.call.now)
+    c.new-key.result.callee c.new-key.result.entered c.args.call.now.back (flow.Call c.args.call.now)
     c.requires.holds.0 c.requires.edge c.requires.call (enters g c)
     (subst (λ bs. (t : Triple) → Member t ds →
     OfSome (IsBehind self.graph.now (site e.entry e.point e.values)) bs t ⊎ Member t es) c.of.ensures
@@ -116,15 +129,15 @@ returns-clause-worked g c =
     added_worked g.S.PathSet.members _ (λ t. t ≡ triple_of e) c.go_on.result self _ es _ _ c.go_on.ensures.adds
     (g.met.S.PathSet.none_twice c.go_on.new.self.edges.now) edges
     (λ t w. behind_reached self.graph.now self.procedure f c.ask.new.self c.add.new.self c.go_on.new.self.pending.now es ds e
-    c.callee.result c.entry.result c.args.call.now.back (flow.Call c.args.call.now)
+    c.new-key.result.callee c.new-key.result.entered c.args.call.now.back (flow.Call c.args.call.now)
     c.requires.holds.0 c.requires.edge c.requires.call (enters g c) t
     (subst (λ bs. OfSome (IsBehind self.graph.now (site e.entry e.point e.values)) bs t) c.of.ensures w))
     (IfOk-weaker c.go_on.result _ _
     (λ _ grown.
     let step = ask_step self.graph.now self.procedure f c.ask.new.self c.add.new.self c.go_on.new.self.pending.now es ds e
-    c.callee.result c.entry.result c.args.call.now.back (flow.Call c.args.call.now)
+    c.new-key.result.callee c.new-key.result.entered c.args.call.now.back (flow.Call c.args.call.now)
     c.requires.holds.0 c.requires.edge c.requires.call (enters g c) (gave g c)
-    c.in_ok-added.ensures.added
+    (added g c)
     c.in_ok-added.ensures.others (known g c grown) (kept g c) in
     still_holds self.graph.now self.procedure f _ es ds step (λ t. t ≡ triple_of e) c.requires.holds)
     c.go_on.ensures.adds.ok)
@@ -143,9 +156,9 @@ returns-clause-asked g c =
     let ds = g.S.PathSet.members c.go_on.new.self.edges.now in
     IfOk-weaker c.go_on.result _ _
     (λ _ grown.
-    subst (λ (t : ℕ × ℕ). HasSite found t.0 t.1 (site e.entry e.point e.values)) (λ i. (c.callee.ensures i, c.entry.ensures i))
+    subst (λ (t : ℕ × ℕ). HasSite found t.0 t.1 (site e.entry e.point e.values)) (λ i. ((asked g c).0 i, (asked g c).1 i))
     (asked_site self.graph.now self.procedure self.found c.ask.new.self c.add.new.self c.go_on.new.self.pending.now es ds e
-    c.callee.result c.entry.result c.args.call.now.back (flow.Call c.args.call.now)
+    c.new-key.result.callee c.new-key.result.entered c.args.call.now.back (flow.Call c.args.call.now)
     c.requires.holds.0 c.requires.edge c.requires.call (enters g c) (gave g c)
-    c.in_ok-added.ensures.added c.in_ok-added.ensures.others (known g c grown)))
+    (added g c) c.in_ok-added.ensures.others (known g c grown)))
     c.go_on.ensures.adds.ok
