@@ -1,12 +1,11 @@
 -- A stack of values as the bits of a number.
 use mir.Val.{bool_byte}
-use Rattle.std.proofs.Common.{◌≡◌, ◌<◌, ◌≤◌, ℕ, zero, suc, ◌+◌, ◌*◌, ◌/◌, ◌%◌, ◌^◌, ◌==◌, Bool}
+use Rattle.std.proofs.Common.{◌≡◌, ◌<◌, ◌≤◌, ℕ, zero, suc, ◌+◌, ◌*◌, ◌%◌, ◌^◌, ◌==◌, Bool}
 use Rattle.std.proofs.Common.{true, false, List, [], ◌∷◌, length, refl}
 use Rattle.std.proofs.Common.{◌∙◌, ap, arith, pow-suc}
 use Rattle.std.proofs.Math.Pow.{pow_mono}
-use Rattle.std.proofs.lemmas.Nat.Bits.{shr_and_one, bit_at-lt}
+use Rattle.std.proofs.lemmas.Nat.Bits.{bit_at-lt}
 use Rattle.std.specs.Int.{bit_at}
-use Rattle.std.specs.Int.RustNames.{bit_and}
 use Rattle.language.specs.Words.{word_bits}
 use Rattle.flow_graph.specs.Bits.{bit_of, worth_of, coded}
 
@@ -37,9 +36,8 @@ bit_worth n i = go (bit_at n i) (bit_at-lt n i)
     go (suc zero) h = refl
     go (suc (suc k)) h = absurd (omega (arith, h))
 
-pub shifted_worth : (n i : ℕ) → i < word_bits → bit_and (n / 2 ^ (i % word_bits)) 1 ≡ worth_of (bit_of n i)
-shifted_worth n i h = let same : i % word_bits ≡ i = omega (arith, h) in
-    shr_and_one n (i % word_bits) ∙ ap (bit_at n) same ∙ bit_worth n i
+pub read_worth : (n i : ℕ) → i < word_bits → bit_at n (i % word_bits) ≡ worth_of (bit_of n i)
+read_worth n i h = let same : i % word_bits ≡ i = omega (arith, h) in ap (bit_at n) same ∙ bit_worth n i
 
 pub byte_worth : (b : Bool) → bool_byte b ≡ worth_of b
 byte_worth true = refl

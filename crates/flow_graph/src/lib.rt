@@ -2,6 +2,7 @@
 #![tactic(auto)]
 
 mod assignment;
+mod bit;
 mod call;
 mod drawing;
 mod flow;

@@ -9,6 +9,7 @@ ghost use Rattle.flow_graph.specs.Postfix.{IsShallow, IsShallow-prop, IsStepped,
 ghost use Rattle.flow_graph.specs.Postfix.{need, Evaluates, PutsSteps, AreCodeOf};
 ghost use Rattle.flow_graph.specs.Views.{over_bits, scope_seen, IsSmall};
 
+use crate::bit::bit;
 use crate::put::push;
 use crate::scope::Scope;
 use language::{WORD_BITS, Word};
@@ -38,7 +39,7 @@ fn stepped(step: Step, values: Word, stack: u64) -> u64
     ensures { IsStepped step values stack result }
 {
     match step {
-        Step::Read(b) => stack % HALF * 2 + (values >> (b % WORD_BITS) & 1) as u64,
+        Step::Read(b) => stack % HALF * 2 + bit(values, b % WORD_BITS),
         Step::Constant(b) => stack % HALF * 2 + b as u64,
         Step::Not => stack / 2 * 2 + (1 - stack % 2),
         Step::Apply(op) => {

@@ -4,6 +4,7 @@ ghost use Rattle.std.specs.Prelude.{◌≡◌, ◌≤◌, length, map};
 ghost use Rattle.flow_graph.specs.Bits.{bit_of, coded};
 ghost use Rattle.flow_graph.specs.Tables.{most_inputs, slot, known_bit, AreBits};
 
+use crate::bit::bit;
 use language::Word;
 
 /// The row of bits in a valuation: the value of the first is its lowest bit.
@@ -17,7 +18,7 @@ pub(crate) fn row_of(bits: &[u8], values: Word) -> u64
     let mut row: u64 = 0;
     while at > 0 {
         at -= 1;
-        row = 2 * row + (values >> bits[at] & 1) as u64;
+        row = 2 * row + bit(values, bits[at]);
     }
     row
 }

@@ -3,7 +3,6 @@ use Rattle.std.proofs.Common.{◌≡◌, ◌≤◌, ◌<◌, ◌-◌, ◌∙◌,
 use Rattle.std.proofs.Common.{length, map, drop, get_or, ap, arith}
 use Rattle.std.proofs.Math.Pow.{pow_mono}
 use Rattle.std.proofs.lemmas.List.{length-map, length-drop}
-use Rattle.std.proofs.lemmas.Nat.Bits.{shr_and_one}
 use Rattle.resolved.specs.Limits.{most_places}
 use Rattle.flow_graph.specs.Bits.{bit_of, coded}
 use Rattle.flow_graph.specs.Tables.{AreBits}
@@ -29,8 +28,8 @@ overflow_mul-row c =
     let below = small (bit_of c.args.values) c.args.bits.now c.loop-at.at c.loop-at.row c.requires.few c.loop-at.invariant.1 in
     omega (arith, below)
 
-pub overflow_shr-row : goal.overflow_shr-row
-overflow_shr-row c =
+pub bit-requires : goal.bit-requires
+bit-requires c =
     inside c.args.bits.now (c.loop-at.at - 1) c.requires.places (omega (arith, c.loop-at-test.true, c.loop-at.invariant.0))
 
 pub overflow_add-row : goal.overflow_add-row
@@ -38,7 +37,7 @@ overflow_add-row c =
     let xs = c.args.bits.now in
     let below = small (bit_of c.args.values) xs c.loop-at.at c.loop-at.row c.requires.few c.loop-at.invariant.1 in
     let x = get_or xs (c.loop-at.at - 1) 0 in
-    let bit = shr_and_one c.args.values x ∙ bit_worth c.args.values x in
+    let bit = c.bit.ensures ∙ bit_worth c.args.values x in
     let one = worth_small (bit_of c.args.values x) in
     omega (arith, below, bit, one)
 
