@@ -1,5 +1,4 @@
 pub mod Quiet
-pub mod Indexed
 pub mod Keys
 pub mod Mails
 pub mod Placed

@@ -3,7 +3,6 @@ use Rattle.std.proofs.Common.{◌≡◌, ◌<◌, ℕ, zero, suc, false, List, [
 use Rattle.std.proofs.Common.{get_or, slice_get, inl, inr, refl, sym, ap, subst, ◌∙◌, arith}
 use Rattle.std.proofs.Common.{length-append}
 use Rattle.std.proofs.lemmas.List.{append-nil, get_or_append_left, map-append}
-use Rattle.std.proofs.Math.Seq.{get_or-append_seam}
 use Rattle.std.proofs.lemmas.Option.{slice_get_within, slice_get-get_or, get_or_from_slice_get}
 use Rattle.language.specs.Lists.{Member, NoneTwice}
 use Rattle.language.proofs.Members.{member_map, map_member}
@@ -41,12 +40,6 @@ module _ {X : Type 0} where
       let longer = length-append xs ys in
       slice_get-get_or (xs ++ ys) i x (omega (arith, near, longer))
       ∙ ap Some (get_or_append_left xs ys x i near ∙ get_or_from_slice_get xs i x x is)
-
-  -- the last stands where the others end
-  pub got_last : (xs : List X) (x : X) → slice_get (xs ++ x ∷ []) (length xs) ≡ Some x
-  got_last xs x =
-      let longer = length-append xs (x ∷ []) in
-      slice_get-get_or (xs ++ x ∷ []) (length xs) x (omega (arith, longer)) ∙ ap Some (get_or-append_seam xs x [] x)
 
   -- two places do not hold the same, where nothing stands twice
   pub one_place : (xs : List X) (d : X) (i j : ℕ) → NoneTwice xs → i < length xs → j < length xs

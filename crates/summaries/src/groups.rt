@@ -10,6 +10,7 @@ ghost use Rattle.summaries.specs.Under.{under};
 
 use crate::values::Values;
 use indexmap::IndexMap;
+use indexmap::map::Entry;
 use std::alloc::{AllocError, Allocator};
 use std::hash::{BuildHasherDefault, FoldHasher, Hash};
 
@@ -55,16 +56,18 @@ impl<K: Eq + Hash + Copy, V: Copy, A: Allocator + Copy> Groups<K, V, A> {
         ensures err { OnErr result
             ((k : K) → under K.eq self.new.by_key k ≡ under K.eq self.old.by_key k) }
     {
-        match self.by_key.get_index_of(&key) {
-            Some(at) => {
-                let alloc = *self.by_key.allocator();
-                let had = !self.by_key[at].as_slice().is_empty();
-                self.by_key[at].add(alloc, value)?;
+        let alloc = *self.by_key.allocator();
+        let entry = self.by_key.entry(key)?;
+        let at = entry.index();
+        match entry {
+            Entry::Occupied(known) => {
+                let values = known.into_mut();
+                let had = !values.as_slice().is_empty();
+                values.add(alloc, value)?;
                 Ok(Added { had, at })
             }
-            None => {
-                let at = self.by_key.len();
-                self.by_key.insert(key, Values::one(value))?;
+            Entry::Vacant(new) => {
+                new.insert(Values::one(value));
                 Ok(Added { had: false, at })
             }
         }

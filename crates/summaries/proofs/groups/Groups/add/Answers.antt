@@ -1,74 +1,66 @@
-use Rattle.std.proofs.Common.{◌≡◌, ◌++◌, ◌∷◌, [], Ok, Err, ◌∙◌, ap, sym, if◌then◌else◌, get_or, slice_get}
-use Rattle.std.specs.Map.{keys_of}
+use Rattle.std.proofs.Common.{◌≡◌, ℕ, Bool, true, false, cond, List, Some, Result, Ok, Err, slice_get}
+use Rattle.std.proofs.Common.{refl, sym, ap, ◌∙◌, rules}
+use Rattle.std.specs.Cmp.{IsEquivalence}
+use Rattle.std.specs.List.{position_or_len}
+use Rattle.std.specs.Map.{keys_of, lookup}
 use Rattle.std.specs.Result.{OnErr}
-use Rattle.std.proofs.lemmas.List.{map-append, length-map}
-use Rattle.std.proofs.lemmas.List.Quantifiers.{position-Some}
-use Rattle.std.proofs.lemmas.Option.{slice_get-get_or}
-use Rattle.indexmap.specs.IndexMap.{keys, get, with_value_at}
-use Rattle.indexmap.proofs.CallerLemmas.{keys-with_value_at, insert_entry-new}
-use Rattle.indexmap.proofs.SetLemmas.{keys_insert_entry}
-use Rattle.summaries.specs.Under.{values_in, under}
-use Rattle.summaries.proofs.Indexed.{written, one_more, none_more}
-use Rattle.summaries.proofs.Keys.{any_at, no_some}
-use Rattle.summaries.proofs.Placed.{got_last}
+use Rattle.indexmap.specs.Entry.{entry_value}
+use Rattle.indexmap.specs.IndexMap.{insert_entry}
+use Rattle.indexmap.specs.IndexSet.{insert_key}
+use Rattle.indexmap.proofs.SetLemmas.{keys_insert_entry, inserted_at}
+use Rattle.summaries.specs.declared.values.Values.{Values}
+use Rattle.summaries.specs.Under.{values_in, items_of}
 use Rattle.summaries.proofs.groups.Groups.add.Goals as goal
 
-pub returns-in_ok-add-in-Some-clause-added : goal.returns-in_ok-add-in-Some-clause-added
-returns-in_ok-add-in-Some-clause-added g c =
-    one_more g.K.PartialEq.eq g.met.K.Eq.laws c.args.self.now.by_key c.in-Some.ensures.unique c.in-Some.at c.args.key
-    c.index_mut.result.now c.add.new.self
-    c.in-Some.ensures.index c.in-Some.ensures.value c.index_mut.ensures.value c.args.value
-    c.in_ok-add-in-Some.ensures.ok
+module _ {K V : Type 0} (eq : K → K → Bool) (es fs : List (K × V)) (k : K) (v : V)
+    (is : fs ≡ insert_entry eq es k v) where
+  -- the keys after an insertion
+  keys_after : keys_of fs ≡ insert_key eq (keys_of es) k
+  keys_after = ap keys_of is ∙ keys_insert_entry eq es k v
 
-pub returns-in_ok-add-in-Some-clause-others : goal.returns-in_ok-add-in-Some-clause-others
-returns-in_ok-add-in-Some-clause-others g c = λ k apart.
-    written g.K.PartialEq.eq g.met.K.Eq.laws c.args.self.now.by_key c.in-Some.ensures.unique c.in-Some.at c.args.key
-    c.index_mut.result.now c.add.new.self
-    c.in-Some.ensures.index c.index_mut.ensures.value k
-    ∙ ap (λ b. if b then values_in c.add.new.self else under g.K.PartialEq.eq c.args.self.now.by_key k) apart
+  -- and the place of the key that was inserted
+  place_after : ((x : K) → eq x x ≡ true) → (i : ℕ) → i ≡ position_or_len (eq k) (keys_of es)
+      → (x : K) × (slice_get (keys_of fs) i ≡ Some x) × (eq k x ≡ true)
+  place_after itself i at =
+      let (x, here, same) = inserted_at eq itself es k v in
+      (x, (λ j. slice_get (keys_of (is j)) (at j)) ∙ here, same)
 
-pub returns-in_err-add-in-Some-clause-err : goal.returns-in_err-add-in-Some-clause-err
-returns-in_err-add-in-Some-clause-err g c =
-    let same = none_more g.K.PartialEq.eq g.met.K.Eq.laws c.args.self.now.by_key c.in-Some.ensures.unique
-    c.in-Some.at c.args.key c.index_mut.result.now c.add.new.self
-    c.in-Some.ensures.index c.in-Some.ensures.value c.index_mut.ensures.value c.in_err-add-in-Some.ensures.err in
-    elim c.from_residual.result as
-    (λ r. OnErr r ((k : g.row.K.Denot) → under g.K.PartialEq.eq
-    (with_value_at c.args.self.now.by_key c.in-Some.at c.add.new.self) k ≡ under g.K.PartialEq.eq
-    c.args.self.now.by_key k)) [ Ok _ ↦ tt | Err _ ↦ same ]
+module _ {K V A : Type 0} (eq : K → K → Bool) (laws : IsEquivalence eq) (es : List (K × Values V A)) (k : K)
+    (old new : Values V A)
+    (had : lookup (eq k) es ≡ Some old) (same : values_in new ≡ values_in old) where
+  -- each key has the items that it had, where those of k are the same
+  same_after : {X E : Type 0} (r : Result X E) (fs : List (K × Values V A))
+      → ((j : K) → lookup (eq j) fs ≡ cond (eq k j) (Some new) (lookup (eq j) es))
+      → OnErr r ((j : K) → items_of (lookup (eq j) fs) ≡ items_of (lookup (eq j) es))
+  same_after (Ok _) fs is = tt
+  same_after (Err _) fs is = λ j. ap items_of (is j) ∙ by j (eq k j) refl
+    where
+      by : (j : K) (b : Bool) → eq k j ≡ b
+          → items_of (cond b (Some new) (lookup (eq j) es)) ≡ items_of (lookup (eq j) es)
+      by j true e = same ∙ ap items_of (sym had ∙ (λ n. lookup (λ x. laws.congr k j x e n) es))
+      by j false e = refl
 
--- a write by place leaves the keys
-pub returns-in_ok-add-in-Some-clause-at : goal.returns-in_ok-add-in-Some-clause-at
-returns-in_ok-add-in-Some-clause-at g c =
-    let m = c.args.self.now.by_key in
-    let (at, same, _) = position-Some (g.K.PartialEq.eq c.args.key) (keys m) c.in-Some.at c.args.key (sym c.in-Some.ensures.index) in (
-      get_or (keys m) c.in-Some.at c.args.key,
-      ap (λ ks. slice_get ks c.in-Some.at) (keys-with_value_at m c.in-Some.at c.add.new.self)
-          ∙ slice_get-get_or (keys m) c.in-Some.at c.args.key at,
-      same,
-    )
+pub returns-in_ok-add-in-Occupied-clause-keys : goal.returns-in_ok-add-in-Occupied-clause-keys
+returns-in_ok-add-in-Occupied-clause-keys g c =
+    keys_after g.K.PartialEq.eq c.args.self.now.by_key.entries _ c.args.key c.add.new.self (search rules)
 
-pub returns-in_ok-add-in-Some-clause-keys : goal.returns-in_ok-add-in-Some-clause-keys
-returns-in_ok-add-in-Some-clause-keys g c =
-    let m = c.args.self.now.by_key in
-    let (at, same, _) = position-Some (g.K.PartialEq.eq c.args.key) (keys m) c.in-Some.at c.args.key (sym c.in-Some.ensures.index) in
-    keys-with_value_at m c.in-Some.at c.add.new.self
-    ∙ ap (λ b. if b then keys m else keys m ++ c.args.key ∷ [])
-    (sym (any_at (g.K.PartialEq.eq c.args.key) (keys m) c.args.key c.in-Some.at at same))
+pub returns-in_ok-add-in-Occupied-clause-at : goal.returns-in_ok-add-in-Occupied-clause-at
+returns-in_ok-add-in-Occupied-clause-at g c =
+    place_after g.K.PartialEq.eq c.args.self.now.by_key.entries _ c.args.key c.add.new.self (search rules)
+    g.met.K.Eq.laws.refl c.index-at.result (c.index-at.ensures ∙ c.in_ok-entry.ensures.index)
 
--- a key that is new goes last
-pub returns-in_ok-insert-in-None-clause-keys : goal.returns-in_ok-insert-in-None-clause-keys
-returns-in_ok-insert-in-None-clause-keys g c =
-    let m = c.args.self.now.by_key in
-    ap keys_of c.in_ok-insert-in-None.ensures.entries ∙ keys_insert_entry g.K.PartialEq.eq m.entries c.args.key c.one.result
+pub returns-in-Vacant-clause-keys : goal.returns-in-Vacant-clause-keys
+returns-in-Vacant-clause-keys g c =
+    keys_after g.K.PartialEq.eq c.args.self.now.by_key.entries _ c.args.key c.insert.result.now (search rules)
 
-pub returns-in_ok-insert-in-None-clause-at : goal.returns-in_ok-insert-in-None-clause-at
-returns-in_ok-insert-in-None-clause-at g c =
-    let m = c.args.self.now.by_key in
-    let absent = no_some (get g.K.PartialEq.eq m c.args.key) (sym c.in-None.ensures.found) in
-    let last = ap keys_of (c.in_ok-insert-in-None.ensures.entries ∙ insert_entry-new g.K.PartialEq.eq m c.args.key c.one.result absent)
-    ∙ map-append (λ e. e.0) m.entries ((c.args.key, c.one.result) ∷ []) in (
-      c.args.key,
-      (λ i. slice_get (last i) ((c.len-at.ensures.len ∙ sym (length-map m.entries (λ e. e.0))) i)) ∙ got_last (keys m) c.args.key,
-      g.met.K.Eq.laws.refl c.args.key,
-    )
+pub returns-in-Vacant-clause-at : goal.returns-in-Vacant-clause-at
+returns-in-Vacant-clause-at g c =
+    place_after g.K.PartialEq.eq c.args.self.now.by_key.entries _ c.args.key c.insert.result.now (search rules)
+    g.met.K.Eq.laws.refl c.index-at.result (c.index-at.ensures ∙ c.in_ok-entry.ensures.index)
+
+pub returns-in_err-add-in-Occupied-clause-err : goal.returns-in_err-add-in-Occupied-clause-err
+returns-in_err-add-in-Occupied-clause-err g c =
+    same_after g.K.PartialEq.eq g.met.K.Eq.laws c.args.self.now.by_key.entries c.args.key
+    c.into_mut-values.result.now c.add.new.self
+    (sym c.in_ok-entry.ensures.value ∙ ap entry_value c.in-Occupied.is ∙ c.into_mut-values.ensures.value)
+    c.in_err-add-in-Occupied.ensures.err c.from_residual-in_err-add-in-Occupied.result _ (search rules)
