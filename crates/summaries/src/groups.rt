@@ -41,6 +41,8 @@ impl<K: Eq + Hash + Copy, V: Copy, A: Allocator + Copy> Groups<K, V, A> {
     }
 
     /// Adds a value to those of a key. Where memory is refused, each key has the values that it had.
+    // Inlined: handing back `Added` costs more than the rest for a new key.
+    #[inline(always)]
     pub(crate) fn add(&mut self, key: K, value: V) -> Result<Added, AllocError>
         requires { FitsInMemory V.row }
         ensures had { IfOk result (λ r. OnTrue r.had (under K.eq self.old.by_key key ≢ [])) }

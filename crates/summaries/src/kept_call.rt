@@ -5,19 +5,23 @@ use language::Point;
 use path_sets::Halves;
 use std::marker::Model;
 
-/// A call as a table keeps it, which takes 24 bytes, and not 32. Contracts see it as the call.
+/// A call as a table keeps it, which takes 24 bytes, and not 32. Contracts see it as the call. The callee has 64 bits,
+/// so that nothing is copied but whole words: a processor waits for a word that was written in parts.
 #[derive(Clone, Copy, Debug, PartialEq, Eq, Hash)]
 pub(crate) struct KeptCall {
-    callee: u8,
+    callee: u64,
     entered: Halves,
 }
 
 impl Model for KeptCall {
+    ghost use Rattle.std.specs.Prelude.{◌<◌};
     ghost use Rattle.summaries.specs.declared.edge.Call.{Call};
 
     ghost Value = { Call };
 
     ghost view = { λ k. record { callee = k.callee; entered = k.entered } };
+
+    ghost invariant = { λ k. k.callee < 256 };
 
     ghost inverse = { λ c. record { callee = c.callee; entered = c.entered } };
 }
@@ -30,7 +34,7 @@ impl KeptCall {
         ensures { result ≡ call }
     {
         KeptCall {
-            callee: call.callee,
+            callee: call.callee as u64,
             entered: Halves::new(call.entered),
         }
     }
@@ -40,7 +44,7 @@ impl KeptCall {
         ensures { result ≡ self }
     {
         Call {
-            callee: self.callee,
+            callee: self.callee as u8,
             entered: self.entered.word(),
         }
     }
