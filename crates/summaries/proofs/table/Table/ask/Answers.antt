@@ -23,8 +23,12 @@ use Rattle.summaries.proofs.table.Table.ask.Goals as goal
 
 -- the key is the call
 asked : (g : given.Over) (c : goal.After-go_on g) →
-    (c.new-key.result.callee ≡ callee_of c.args.call.now) × (c.new-key.result.entered ≡ entered_from c.args.call.now c.args.edge.values)
-asked g c = (ap (λ (k : Call). k.callee) c.new-key.ensures ∙ c.callee.ensures, ap (λ (k : Call). k.entered) c.new-key.ensures ∙ c.entry.ensures)
+    (c.new-key.result.callee ≡ callee_of c.args.call.now)
+    × (c.new-key.result.entered ≡ entered_from c.args.call.now c.args.edge.values)
+asked g c = (
+  ap (λ (k : Call). k.callee) c.new-key.ensures ∙ c.callee.ensures,
+  ap (λ (k : Call). k.entered) c.new-key.ensures ∙ c.entry.ensures,
+)
 
 -- the flow is a call of this procedure
 enters : (g : given.Over) (c : goal.After-go_on g) →
@@ -36,7 +40,9 @@ enters g c = λ i. Some (sym (asked g c).0 i, sym (asked g c).1 i, c.args.call.n
 added : (g : given.Over) (c : goal.After-go_on g) →
     under call_eq c.add.new.self.by_key c.new-key.result ≡ under call_eq c.args.self.now.found.sites.by_key c.new-key.result
     ++ site c.args.edge.entry c.args.edge.point c.args.edge.values ∷ []
-added g c = c.in_ok-added.ensures.added ∙ ap (λ x. under call_eq c.args.self.now.found.sites.by_key c.new-key.result ++ x ∷ []) c.new.ensures
+added g c =
+    c.in_ok-added.ensures.added
+    ∙ ap (λ x. under call_eq c.args.self.now.found.sites.by_key c.new-key.result ++ x ∷ []) c.new.ensures
 
 -- the summaries of the call are those that are found by it
 known : (g : given.Over) (c : goal.After-go_on g) →
