@@ -195,7 +195,7 @@ fn taken_in_order<A: Allocator + Copy>(
     }
 }
 
-// The senders' messages, so many of each, came to each mailbox in order.
+// The senders' messages, `count` of each, came to each mailbox in order.
 fn came_in_order<R: Abort, A: Allocator + Copy, H: Allocator>(
     rt: &R,
     alloc: A,

@@ -31,8 +31,8 @@ fn pushed<A: Allocator>(mut numbers: Vec<u64, A>) -> Option<(u64, u64)> {
     }
 }
 
-/// So many refusals, and before the last so many growths; the numbers are there, and no block is out once they are let
-/// go.
+/// The number of refusals and, before the last one, of growths; the numbers are there, and no block is out once they
+/// are let go.
 fn refuses<R: Abort, A: Allocator>(rt: &R, alloc: A, nth: u64, wanted: (u64, u64)) {
     let scarce = Scarce::refusing(alloc, nth);
     let numbers = Vec::new(&scarce);

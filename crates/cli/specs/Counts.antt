@@ -10,7 +10,7 @@ use Rattle.summaries.specs.Fitting.{IsDueFor}
 use Rattle.summaries.specs.declared.pair.Pair.{Pair}
 use Rattle.summaries.specs.Found.{left}
 
--- There are so many of which P holds: a list of them, in which none stands twice, has this length.
+-- There are `n` items of which P holds: a list of them, in which none stands twice, has this length.
 pub record AreSoMany {A : Type 0} (P : A → Type 0) (n : ℕ) : Type 0 where
   pub all : List A
   pub once : NoneTwice all
@@ -27,13 +27,14 @@ pub record Counts : Type 0 where
 abbrev pub IsPairOf : Program → ℕ → Pair → Type 0
 IsPairOf program procedure x = AreNumbersOfPair program procedure x.a (left x.b x.r)
 
--- Procedure q is entered with so many valuations, it has so many pairs, and so many messages are due for it.
+-- The counts are those of the procedure: of the valuations that it is entered with, of its pairs, and of the messages
+-- due for it.
 pub record AreCountsOf (program : Program) (procedure : ℕ) (counts : Counts) : Type 0 where
   pub entries : AreSoMany (IsNumberOfEntry program procedure) counts.entries
   pub pairs : AreSoMany (IsPairOf program procedure) counts.pairs
   pub taken : AreSoMany (IsDueFor program procedure) counts.taken
 
--- the line of a procedure of this name, with so many entries, pairs and messages
+-- the line of a procedure of this name, with a given number of entries, pairs and messages
 abbrev pub counts_line : List ℕ → ℕ → ℕ → ℕ → List ℕ
 counts_line name entries pairs taken =
     name ++ (codes " entries " ++ (decimal entries ++ (codes " pairs " ++ (decimal pairs
@@ -49,7 +50,7 @@ counts_lines (name ∷ names) (counts ∷ cs) = counts_line name counts.entries 
 abbrev pub names_of : Tree → List (List ℕ)
 names_of tree = codes "main__" ∷ map (λ (p : Procedure). p.name.text) tree.procedures
 
--- The lines tell, for each procedure of the program's rewriting for so many rounds, in the order of their numbers, its
+-- The lines tell, for each procedure of the program's rewriting for K rounds, in the order of their numbers, its
 -- name and what is counted of it.
 pub record TellCounts (rounds : ℕ) (tree : Tree) (lines : List ℕ) : Type 0 where
   pub counts : List Counts

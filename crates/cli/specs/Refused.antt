@@ -15,7 +15,7 @@ use Rattle.refusals.specs.declared.refusal.Refusal.{Refusal}
 use Rattle.refusals.specs.declared.refusal.Refusal.TheVariants.{Unread, Unchecked, TooWide, EdgeLimit, Memory, NoWorker, Spent}
 use Rattle.cli.specs.Verdict.{IsOver}
 
--- The text is that of a checked tree, whose rewriting for so many rounds is too wide; and this is its first procedure
+-- The text is that of a checked tree, whose rewriting for K rounds is too wide; and this is its first procedure
 -- that is.
 pub record IsWide (bytes : List ℕ) (rounds : ℕ) (tree : Tree) (wide : Option Wide) : Type 0 where
   pub of : Text bytes tree
@@ -23,7 +23,7 @@ pub record IsWide (bytes : List ℕ) (rounds : ℕ) (tree : Tree) (wide : Option
   pub wider : IsNarrowFor rounds tree → ⊥
   pub first : IsFirstWideFor rounds tree wide
 
--- The text is that of a checked tree, whose rewriting for so many rounds is not too wide.
+-- The text is that of a checked tree, whose rewriting for K rounds is not too wide.
 abbrev pub HasRewriting : List ℕ → ℕ → Type 0
 HasRewriting bytes rounds = (t : Tree) × Text bytes t × IsChecked t × IsNarrowFor rounds t
 
@@ -44,7 +44,7 @@ HasWorkers bytes rounds None = ⊥
 HasWorkers bytes rounds (Some edges) = HasRewriting bytes rounds
 
 -- The refusal stands: the text is not read for this fault; or it is the text of a program in which this is the first
--- fault of scopes; or of a checked program whose rewriting for so many rounds is too wide, or has a procedure with more
+-- fault of scopes; or of a checked program whose rewriting for K rounds is too wide, or has a procedure with more
 -- path edges than the limit. While a text is read, memory may give out at any point, and so it may while scopes are
 -- checked. Later it gives out only where the program is rewritten and what follows, or over the line of a refusal that
 -- names an offset. The workers of a check may get no thread, or use up their calls.
@@ -59,7 +59,7 @@ RefusalStands bytes rounds limit NoWorker = HasWorkers bytes rounds limit
 RefusalStands bytes rounds limit Spent = HasWorkers bytes rounds limit
 
 -- A cause for which a program with this tree gets no verdict is told as this refusal: as the one of its name, and where
--- the rewriting for so many rounds is too wide with the first procedure that is.
+-- the rewriting for K rounds is too wide with the first procedure that is.
 abbrev pub IsToldAs : Tree → ℕ → NoVerdict → Refusal → Type 0
 IsToldAs tree rounds cause.TooWide why = (wide : Option Wide) × IsFirstWideFor rounds tree wide × (why ≡ TooWide wide)
 IsToldAs tree rounds cause.Memory why = why ≡ Memory

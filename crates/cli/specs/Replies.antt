@@ -19,7 +19,7 @@ use Rattle.refusals.specs.Lines.{NamesOffset, line_of, status_of}
 use Rattle.cli.specs.Refused.{IsPast, RefusalStands}
 use Rattle.cli.specs.Written.{bytes_of}
 
--- the text is that of a checked program, the bytes are the printed form of its rewriting for so many rounds, and within
+-- the text is that of a checked program, the bytes are the printed form of its rewriting for K rounds, and within
 -- the limits of texts they are a text of that rewriting, offsets aside
 pub record IsSequential (text : List ℕ) (rounds : ℕ) (bytes : List ℕ) : Type 0 where
   pub tree : Tree
@@ -45,7 +45,7 @@ TellsRefusal why reply = (bytes_of reply ≡ line_of why) × (reply.status ≡ s
 abbrev pub TellsOrLacks : {A : Type 0} → Refusal → Reply A → Type 0
 TellsOrLacks why reply = TellsRefusal why reply ⊎ (NamesOffset why × TellsRefusal Memory reply)
 
--- Some refusal stands for so many rounds and this limit, and the reply tells it, and is its line with its status.
+-- Some refusal stands for K rounds and this limit, and the reply tells it, and is its line with its status.
 abbrev pub RefusesFor : {A : Type 0} → List ℕ → ℕ → Option ℕ → Reply A → Type 0
 RefusesFor text rounds limit reply = (why : Refusal) × RefusalStands text rounds limit why × TellsRefusal why reply
 

@@ -9,7 +9,7 @@ use Rattle.round_rewrite.specs.Names.{rewritten_for}
 use Rattle.round_rewrite.specs.Narrow.{IsNarrowFor}
 
 -- The text is that of a checked program, and `sequential` is the tree of the grammar that the program is rewritten to
--- for so many rounds, which is not too wide and keeps exactly the failing asserts.
+-- for K rounds, which is not too wide and keeps exactly the failing asserts.
 pub record IsRewriting (text : List ℕ) (rounds : ℕ) (sequential : Tree) : Type 0 where
   pub tree : Tree
   pub of : Text text tree

@@ -18,13 +18,13 @@ use Rattle.refusals.specs.declared.refusal.Refusal.{Refusal}
 abbrev pub most_read : ℕ
 most_read = most_bytes + 1
 
--- The reader gave these bytes, at most so many, and all that it had where they are fewer.
+-- The reader gave these bytes, at most `most`, and all that it had where they are fewer.
 pub record Gave (most : ℕ) (old new : Option (List ℕ)) (bytes : List ℕ) : Type 0 where
   pub gave : Consumes old new bytes
   pub few : length bytes ≤ most
   pub end : length bytes < most → IsAtEnd new
 
--- The reader gave some bytes, fewer than so many.
+-- The reader gave some bytes, fewer than the number given.
 abbrev pub GavePart : ℕ → Option (List ℕ) → Option (List ℕ) → Type 0
 GavePart most old new = (bytes : List ℕ) × Consumes old new bytes × (length bytes < most)
 

@@ -9,11 +9,11 @@ use Rattle.round_rewrite.specs.Names.{sequential_for}
 use Rattle.summaries.specs.Tabulated.{HasMoreEdges}
 use Rattle.cli.specs.Counts.{TellCounts}
 
--- Each procedure of the program's rewriting for so many rounds has at most `edges` path edges.
+-- Each procedure of the program's rewriting for K rounds has at most `edges` path edges.
 abbrev pub IsWithinLimit : ℕ → ℕ → Tree → Type 0
 IsWithinLimit rounds edges tree = (q : ℕ) → ¬ HasMoreEdges (sequential_for rounds tree) q edges
 
--- Some procedure of the program's rewriting for so many rounds has more than `edges` path edges.
+-- Some procedure of the program's rewriting for K rounds has more than `edges` path edges.
 abbrev pub IsOverLimit : ℕ → ℕ → Tree → Type 0
 IsOverLimit rounds edges tree = (q : ℕ) × HasMoreEdges (sequential_for rounds tree) q edges
 
@@ -30,7 +30,7 @@ abbrev pub ComesBehind : Bool → ℕ → Tree → List ℕ → Type 0
 ComesBehind false rounds tree lines = lines ≡ []
 ComesBehind true rounds tree lines = TellCounts rounds tree lines
 
--- The reply is `unsafe` with status 1 where some run of at most so many rounds fails an assert, `safe` with status 0
+-- The reply is `unsafe` with status 1 where some run of at most K rounds fails an assert, `safe` with status 0
 -- where none does, and behind it comes what is asked for.
 abbrev pub AnswersOn : Tree → ℕ → Bool → List ℕ → ℕ → Type 0
 AnswersOn tree rounds stats bytes status =

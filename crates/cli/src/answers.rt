@@ -197,7 +197,7 @@ where
 
 /// The reply to a text. Where its status is 0 or 1, the text is that of a checked program. To `Check` no procedure of
 /// the program that it is rewritten to has then more path edges than the limit, and the reply is `unsafe` with status 1
-/// exactly where some run of at most so many rounds fails an assert, and else `safe` with 0; with `stats` a line
+/// exactly where some run of at most K rounds fails an assert, and else `safe` with 0; with `stats` a line
 /// follows for each procedure of that program, which counts its entry valuations, its pairs and the messages due for
 /// it. To `Sequential` the bytes are the printed form of that program, and within the limits of texts they are read
 /// back as it. Where the status is 2, a fault of the text stands, and the bytes are its line. Where it is 3, there is

@@ -36,7 +36,7 @@ fn refusal_of<N: Allocator, A: Allocator + Copy>(
     }
 }
 
-/// The report on a checked program for so many rounds, and at most so many path edges a procedure: the workers have the
+/// The report on a checked program for K rounds, and at most `limit` path edges a procedure: the workers have the
 /// board `B`, keep path edges in sets of the type `S`, and tell the gate of what they take and post.
 pub(crate) fn judge<R, B, S, K, N>(
     rt: &R,

@@ -12,7 +12,7 @@ use resolved::Sequential;
 use round_rewrite::{RewriteFault, Rounds, rewrite, too_wide};
 use std::alloc::Allocator;
 
-/// The sequential program that a text is rewritten to for so many rounds.
+/// The sequential program that a text is rewritten to for K rounds.
 pub(crate) fn rewritten<A: Allocator + Copy>(
     alloc: A,
     text: &[u8],

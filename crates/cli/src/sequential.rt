@@ -12,7 +12,7 @@ use round_rewrite::Rounds;
 use std::alloc::Allocator;
 use syntax::print;
 
-/// The printed form of the sequential program that a text is rewritten to for so many rounds.
+/// The printed form of the sequential program that a text is rewritten to for K rounds.
 pub(crate) fn sequential<A: Allocator + Copy>(
     alloc: A,
     text: &[u8],

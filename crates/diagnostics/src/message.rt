@@ -31,7 +31,7 @@ pub enum Wrong<'a> {
     NotAscii,
 }
 
-/// The first bytes, at most so many.
+/// The first bytes, at most `most`.
 fn first(bytes: &[u8], most: usize) -> &[u8]
     ensures { result.now ≡ take most bytes.now }
 {
@@ -42,7 +42,7 @@ fn first(bytes: &[u8], most: usize) -> &[u8]
     }
 }
 
-/// The last bytes, at most so many.
+/// The last bytes, at most `most`.
 fn last(bytes: &[u8], most: usize) -> &[u8]
     ensures { result.now ≡ drop (length bytes.now - most) bytes.now }
 {

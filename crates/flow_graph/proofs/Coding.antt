@@ -57,7 +57,7 @@ code_tells v w globals places e =
 pub code_small : (v : Valuation) → code v < 2 ^ (length v.globals + length v.places)
 code_small v = subst (λ n. code v < 2 ^ n) (length-append v.globals v.places) (coded_small (v.globals ++ v.places))
 
--- the number of so many values is below the power of 2
+-- the number of a list of values is below the power of 2 with its length
 coded_below : (g : ℕ) (bs : List Bool) → length bs ≡ g → coded bs < 2 ^ g
 coded_below g bs e = subst (λ n. coded bs < 2 ^ n) e (coded_small bs)
 

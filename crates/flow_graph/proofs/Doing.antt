@@ -239,7 +239,7 @@ does_no_call f x p es k w ne d = record {
     refused a b (inl h) = h a
     refused a b (inr h) = h b
 
--- each formula says what its expression is worth, for valuations with so many globals
+-- each formula says what its expression is worth, for valuations with a given number of globals
 abbrev pub AllSay : {A : Type 0} → List (Formula A) → Scope → List (Expression Place) → Type 0
 AllSay fs s es = (gs ls : List Bool) → length gs ≡ length s.globals → map (λ f. says f (coded (gs ++ ls))) fs ≡ values_of gs ls es
 

@@ -6,11 +6,11 @@ use Rattle.flow_graph.specs.Formulas.{says}
 use Rattle.flow_graph.specs.declared.formula.Formula.{Formula}
 use Rattle.flow_graph.specs.declared.left.Left.{Left}
 
--- where there are so many globals: those of the caller's valuation, and above them the arguments
+-- for this number of globals: those of the caller's valuation, and above them the arguments
 abbrev pub entry_of : {A : Type 0} → ℕ → List (Formula A) → ℕ → ℕ
 entry_of globals arguments values = values % 2 ^ globals + 2 ^ globals * coded (map (λ f. says f values) arguments)
 
--- where there are so many globals: those left, above them the places of the caller's valuation, and the result where
+-- for this number of globals: those left, above them the places of the caller's valuation, and the result where
 -- the bit of the target is
 abbrev pub resumed : ℕ → ℕ → ℕ → Left → ℕ
 resumed globals target values left =

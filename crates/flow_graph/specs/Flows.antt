@@ -79,7 +79,7 @@ widths_of scope gives = record {
   procedures = length scope.procedures;
 }
 
--- so many globals and so many values of a frame
+-- The valuation has the widths: the number of its globals, and that of the values of a frame.
 abbrev pub HasWidths : Widths → Valuation → Type 0
 HasWidths widths valuation = (length valuation.globals ≡ widths.globals) × (length valuation.places ≡ widths.places)
 
@@ -87,8 +87,8 @@ HasWidths widths valuation = (length valuation.globals ≡ widths.globals) × (l
 abbrev pub LeadsTo : Node → Valuation → ℕ → ℕ → Type 0
 LeadsTo node valuation point number = (v' : Valuation) × Leads node valuation point v' × (number ≡ code v')
 
--- The node calls a procedure, one of so many, with the globals and the arguments, which are `entered` as a number and
--- no more than there are places; and this is the point after the call.
+-- The node calls a procedure, one of a given number, with the globals and the arguments, which are `entered` as a
+-- number and no more than there are places; and this is the point after the call.
 abbrev pub NodeEnters : Node → ℕ → Valuation → ℕ → ℕ → ℕ → Type 0
 NodeEnters node procedures valuation callee entered point =
     (args : List Bool) × NodeCalls node valuation callee args point × (callee < procedures)

@@ -6,7 +6,7 @@ use Rattle.language.specs.Value.{Place, global, local, operate}
 use Rattle.language.specs.Step.{Routine}
 use Rattle.language.specs.Resolve.{Scope, place_of}
 
--- the bit of a place, where there are so many globals: none for a global that is not declared
+-- the bit of a place, for this number of globals: none for a global that is not declared
 abbrev pub bit_of_place : ℕ → Place → Option ℕ
 bit_of_place globals (global i) = cond (nat_lt i globals) (Some i) None
 bit_of_place globals (local i) = Some (globals + i)
@@ -20,12 +20,12 @@ abbrev pub mask_of : Option ℕ → ℕ
 mask_of None = 0
 mask_of (Some bit) = 2 ^ bit
 
--- the bit alone of the variable that is called for, where there are so many globals; 0 for none
+-- the bit alone of the variable that is called for, for this number of globals; 0 for none
 abbrev pub target_mask : ℕ → Option Place → ℕ
 target_mask globals None = 0
 target_mask globals (Some place) = mask_of (bit_of_place globals place)
 
--- the bit alone of the result of a procedure, where there are so many globals; 0 where it gives none
+-- the bit alone of the result of a procedure, for this number of globals; 0 where it gives none
 abbrev pub given_mask : ℕ → Routine → ℕ
 given_mask globals routine = cond routine.gives (2 ^ (globals + routine.places)) 0
 

@@ -7,7 +7,7 @@ use Rattle.trees.specs.Trees.{block_of}
 use Rattle.trees.specs.declared.tree.Stmt.{Stmt}
 use Rattle.flow_graph.specs.Nodes.{point_at}
 
--- size is how many statements there are, those inside of others included, where so many is a number of 64 bits
+-- size is how many statements there are, those inside of others included, where this is a number of 64 bits
 abbrev pub IsSize : {N : Type 0} → List (Stmt N) → ℕ → Type 0
 IsSize stmts size = statements (block_of stmts) ≤ 18446744073709551615 → size ≡ statements (block_of stmts)
 

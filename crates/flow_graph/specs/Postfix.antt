@@ -36,7 +36,7 @@ abbrev pub top : List Bool → Bool
 top [] = false
 top (b ∷ bs) = b
 
--- from a stack with so many values, each step finds what it takes, and none leaves more than 64
+-- from a stack with a given number of values, each step finds what it takes, and none leaves more than 64
 abbrev pub IsShallow : ℕ → List Step → Type 0
 IsShallow depth [] = Unit {0}
 IsShallow depth (Read bit ∷ ss) = (depth < 64) × ((bit < most_places) × IsShallow (suc depth) ss)

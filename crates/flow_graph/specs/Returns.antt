@@ -15,7 +15,7 @@ use Rattle.flow_graph.specs.declared.left.Left.{Left}
 abbrev pub left_by : {A : Type 0} → Graph A → ℕ → Left
 left_by graph values = record { globals = values % 2 ^ globals_of graph; result = has_any values (result_mask graph) }
 
--- where `values` is the number of a valuation with so many globals, the other is the number of its globals
+-- where `values` is the number of a valuation with a given number of globals, the other is the number of its globals
 abbrev pub AreGlobalsOf : ℕ → ℕ → ℕ → Type 0
 AreGlobalsOf globals values after =
     (v : Valuation) → length v.globals ≡ globals → values ≡ code v → after ≡ coded v.globals
@@ -29,7 +29,7 @@ behind (Some flow) values left = resumed_by flow values left
 abbrev pub resumed_at : {A : Type 0} → Graph A → ℕ → ℕ → Left → ℕ
 resumed_at graph point values left = behind (slice_get (flows_of graph) point) values left
 
--- the variable that is called for, if any, is a global or one of so many places
+-- the variable that is called for, if any, is a global or one of this number of places
 abbrev pub HasTarget : ℕ → Option Place → Type 0
 HasTarget places None = Unit {0}
 HasTarget places (Some (global i)) = Unit {0}

@@ -118,7 +118,7 @@ pub(crate) fn decided(op: Op, left: &[u64; WORDS]) -> Option<[u64; WORDS]>
     }
 }
 
-/// How many words the outputs of so many inputs take.
+/// How many words the outputs of a given number of inputs take.
 pub(crate) fn words_for(inputs: usize) -> usize
     requires { inputs ≤ most_inputs }
     ensures enough { 2 ^ inputs ≤ word_rows * result }

@@ -44,7 +44,7 @@ module _ {G A S : Type 0} (members : S → List Triple) where
       (q : ℕ) (s : Sight Due (Graphs G)) (o : Outcome G A S) → slice_get passes q ≡ Some s
       → slice_get outcomes q ≡ Some o → LaneEnds (begun graphs q limit board) s o
 
-  -- The lanes of all procedures have ended, by number, each with at most so many path edges, on one board.
+  -- The lanes of all procedures have ended, by number, each with at most `limit` path edges, on one board.
   pub record HaveEnded (graphs : Graphs G) (limit : EdgeLimit) (board : TableId) (passes : List (Sight Due (Graphs G)))
       (outcomes : List (Outcome G A S)) : Type 0 where
     pub each_pass : length passes ≡ length (graphs_of graphs)

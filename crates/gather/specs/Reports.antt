@@ -51,8 +51,8 @@ pub record IsFound (p : Program) (most : ℕ) (histories : List (List (Event Due
   pub summaries : AreSummaries p s
   pub few : (q : ℕ) → HasMoreEdges p q most → ⊥
 
--- The report on a source for so many rounds: its workers have found what there is in its rewriting, and its board is
--- closed; the answer is `Unsafe`, and some pair of `main__` is bad, exactly where some run of at most so many rounds
+-- The report on a source for K rounds: its workers have found what there is in its rewriting, and its board is
+-- closed; the answer is `Unsafe`, and some pair of `main__` is bad, exactly where some run of at most K rounds
 -- fails an assert.
 pub record IsReport {H A : Type 0} (source : Tree) (rounds most : ℕ) (r : Report H A) : Type 0 where
   pub found : IsFound (sequential_for rounds source) most r.ledger.histories.items r.summaries
@@ -61,8 +61,8 @@ pub record IsReport {H A : Type 0} (source : Tree) (rounds most : ℕ) (r : Repo
   pub bad : SomePairBad r.summaries ↔ Unsafe (meaning_of source) rounds
   pub narrow : IsNarrowFor rounds source
 
--- What one thread finds of a source for so many rounds: the summaries are those of its rewriting, in which no procedure
--- has more path edges than `most`, and some pair of `main__` is bad exactly where some run of at most so many rounds
+-- What one thread finds of a source for K rounds: the summaries are those of its rewriting, in which no procedure
+-- has more path edges than `most`, and some pair of `main__` is bad exactly where some run of at most K rounds
 -- fails an assert.
 pub record IsTabulated (source : Tree) (rounds most : ℕ) (s : Effects) : Type 0 where
   pub summaries : AreSummaries (sequential_for rounds source) s

@@ -160,7 +160,7 @@ where
     }
 }
 
-/// Two empty lists with room for so many. It is generic in what they hold, so that no caller has the drop of the
+/// Two empty lists with room for `count` items. It is generic in what they hold, so that no caller has the drop of the
 /// first where memory is refused for the second.
 fn rooms<T: Drop, U: Drop, A: Allocator + Copy>(
     alloc: A,

@@ -89,7 +89,7 @@ where
     Ok((ledger, summaries))
 }
 
-/// The report on a checked program for so many rounds, where no procedure of its rewriting has more path edges than the
+/// The report on a checked program for K rounds, where no procedure of its rewriting has more path edges than the
 /// limit. It is rewritten into a sequential program, whose procedures have a worker each, in a thread of its own, over
 /// a board of the type `B`; the path edges are kept in sets of the type `S`. The board and its histories are in memory
 /// of `heap`, tables and summaries in that of `alloc`. The gate is told of each take and post. `TooWide` is answered

@@ -1,7 +1,7 @@
 //! Rows of flow graphs: each line of the standard input is a question on the graphs of a text, and its answer goes to
 //! the standard output.
 //!
-//! A line is `ROUNDS | QUESTION | TEXT`: the text is checked and rewritten for so many rounds, and the question is put
+//! A line is `ROUNDS | QUESTION | TEXT`: the text is checked and rewritten for K rounds, and the question is put
 //! to the flow graphs of the result. A line that begins with `#` is written as it stands.
 #![tactic(auto)]
 

@@ -34,7 +34,7 @@ abbrev pub zeros : ℕ → List Bool
 zeros zero = []
 zeros (suc n) = false ∷ zeros n
 
--- the values of a new frame with so many places: the arguments, and 0 in every other place
+-- the values of a new frame with a given number of places: the arguments, and 0 in every other place
 abbrev pub fresh : ℕ → List Bool → List Bool
 fresh n arguments = arguments ++ zeros (n - length arguments)
 

@@ -6,14 +6,14 @@ use round_rewrite::Rounds;
 /// What is asked of a text.
 #[derive(Clone, Copy, Debug, PartialEq, Eq)]
 pub enum Order {
-    /// Whether a run of at most so many rounds fails an assert, where no procedure has more than so many path edges;
+    /// Whether a run of at most K rounds fails an assert, where no procedure has more than `edges` path edges;
     /// and, if asked for, what each procedure of the sequential program counts.
     Check {
         rounds: Rounds,
         edges: EdgeLimit,
         stats: bool,
     },
-    /// The sequential program that it is rewritten to for so many rounds.
+    /// The sequential program that it is rewritten to for K rounds.
     Sequential {
         rounds: Rounds,
     },

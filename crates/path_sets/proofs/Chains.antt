@@ -9,7 +9,7 @@ use Rattle.path_sets.specs.Suffixes.{Apart, Depends, HasNodes, Prefix, prefix, S
 use Rattle.path_sets.proofs.Shifted.{next_pow}
 use Rattle.path_sets.proofs.Led.{fits_from, fits_to}
 
--- the prefixes of 0s alone, of so many levels from one on
+-- the prefixes of 0s alone, of a given number of levels from one on
 abbrev chain : ℕ → ℕ → List Prefix
 chain k zero = []
 chain k (suc n) = prefix (k + n) 0 ∷ chain k n

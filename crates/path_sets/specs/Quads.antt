@@ -21,8 +21,8 @@ turn node valuation =
     cond (nat_eq (valuation % 4) 0) node.none
     (cond (nat_eq (valuation % 4) 1) node.first (cond (nat_eq (valuation % 4) 2) node.second node.both))
 
--- the points that a valuation comes to from a number, in less than so many steps: those of the node where nothing of it
--- is left
+-- the points that a valuation comes to from a number, in less than a given number of steps: those of the node where
+-- nothing of it is left
 unfoldable pub walk_to : List Quad → ℕ → ℕ → ℕ → ℕ
 walk_to quads zero number valuation = 0
 walk_to quads (suc most) number valuation =

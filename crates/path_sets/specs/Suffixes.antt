@@ -33,7 +33,7 @@ pub record AreNodes (width : ℕ) (S : ℕ → Type 0) (prefixes : List Prefix) 
       → (q : ℕ) × Member (prefix level q) prefixes × SameSuffixes S level p q
   pub apart : Apart S prefixes
 
--- The diagram of a set of valuations of so many bits has so many inner nodes: one for each level and each set of
+-- The diagram of a set of valuations of `width` bits has `count` inner nodes: one for each level and each set of
 -- suffixes that depends on the bit of the level.
 pub record HasNodes (width : ℕ) (S : ℕ → Type 0) (count : ℕ) : Type 0 where
   pub prefixes : List Prefix

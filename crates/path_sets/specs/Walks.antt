@@ -7,7 +7,7 @@ use Rattle.std.specs.Option.{option_map_or}
 abbrev pub node_at : {X : Type 0} → List X → ℕ → Option X
 node_at nodes number = cond (nat_lt number 2) None (slice_get nodes (number - 2))
 
--- whether a walk by the bits of a valuation comes from a number to 1, in at most so many steps
+-- whether a walk by the bits of a valuation comes from a number to 1, in at most a given number of steps
 unfoldable pub walk : {X : Type 0} → (X → ℕ → ℕ) → List X → ℕ → ℕ → ℕ → Bool
 walk next nodes zero number valuation = nat_eq number 1
 walk next nodes (suc most) number valuation =

@@ -14,7 +14,7 @@ use indexmap::IndexMap;
 use language::{Point, Word};
 use std::alloc::{AllocError, Allocator};
 
-/// How many places a shard has before new entries go to the next: so many stay in a processor's cache.
+/// How many places a shard has before new entries go to the next: that many stay in a processor's cache.
 const MANY: usize = 4_096;
 
 /// Path edges in one mask of 64 points for each valuation of each entry: a valuation mostly goes unchanged through many

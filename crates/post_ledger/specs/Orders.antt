@@ -49,8 +49,9 @@ module _ {M : Type 0} where
   abbrev pub HasJob : ℕ → ℕ → List (Entry M) → Type 0
   HasJob pass job order = (job < length (takes (part pass order))) × (Contains (dones (part pass order)) job → ⊥)
 
-  -- Lawful, on a board with so many mailboxes: the order begins with the opening post, whose sender is the starter;
-  -- the history of each mailbox is legal; and each later Post stands after its Take and not after that Take's Done.
+  -- Lawful, on a board with a given number of mailboxes: the order begins with the opening post, whose sender is the
+  -- starter; the history of each mailbox is legal; and each later Post stands after its Take and not after that Take's
+  -- Done.
   pub record IsLawful (boxes : ℕ) (order : List (Entry M)) : Type 0 where
     pub opens : (to : ℕ) × (m : M) × (rest : List (Entry M)) × (order ≡ Posted to boxes m 0 ∷ rest)
     pub inside : (i : ℕ) (e : Entry M) → slice_get order i ≡ Some e → mailbox_of e < boxes

@@ -55,7 +55,7 @@ fn may_follow<M: Copy + Eq>(before: &[Event<M>], taken: usize, event: Event<M>) 
     }
 }
 
-/// How many Takes there are with this event after so many.
+/// How many Takes there are with this event after `taken`.
 fn with_take<M: Copy>(taken: usize, event: Event<M>) -> usize
     requires { taken < 2 ^ 64 - 1 }
     ensures { result ≡ taken + length (takes (event ∷ [])) }

@@ -10,8 +10,8 @@ const YIELDS: u32 = 32;
 /// The longest sleep, in microseconds, as a power of two.
 const LONGEST: u32 = 11;
 
-/// Waits for a moment, the first time or after so many waits in a row: at first it lets other threads run, and then it
-/// sleeps, twice as long each time, so that a worker without work takes no processor from those that have some.
+/// Waits for a moment, the first time or after a number of waits in a row: at first it lets other threads run, and then
+/// it sleeps, twice as long each time, so that a worker without work takes no processor from those that have some.
 pub(crate) fn pause<R: Wait>(rt: &R, waits: u32) {
     if waits < YIELDS {
         thread::yield_now();

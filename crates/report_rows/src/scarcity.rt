@@ -31,7 +31,7 @@ fn run<R: Wait + Threads + Sync>(rt: &R, alloc: Global, asked: &Asked, nth: u64)
 }
 
 impl<R: Wait + Threads + Sync> Trial<'_, R> {
-    /// Writes what comes of it where each allocation is refused in turn, until a run meets no refusal, or so many
+    /// Writes what comes of it where each allocation is refused in turn, until a run meets no refusal, or that many
     /// were tried.
     pub fn write_refused(&self, out: &mut String, most: u64) -> Result<(), AllocError> {
         for nth in 1..most {

@@ -7,8 +7,8 @@ use Rattle.language.specs.Rest.{Label, rest_from}
 use Rattle.language.specs.Step.{Routine, Program, AtRest}
 use Rattle.resolved.specs.Scoped.{SimpleInScope, SideInScope, Throughout, EachRoutine, EachThread}
 
--- In a procedure, among these and so many globals: the statement is in scope, each target has its right side, there is
--- a rest from the label of a goto on, and only a procedure that gives a value returns one.
+-- In a procedure, among these and this number of globals: the statement is in scope, each target has its right side,
+-- there is a rest from the label of a goto on, and only a procedure that gives a value returns one.
 pub record SimpleComplete (routines : List Routine) (globals : ℕ) (own : Routine) (statement : Simple Place ℕ Label) : Type 0 where
   pub scope : SimpleInScope routines globals own.places statement
   pub sides : HasAllSides (plain statement)

@@ -7,7 +7,7 @@ use Rattle.language.specs.Value.{Place, global, local}
 use Rattle.language.specs.Rest.{Label, Code}
 use Rattle.language.specs.Step.{Routine, Program, AtRoutine}
 
--- the place is one of so many globals, or of the procedure's own places
+-- the place is one of this number of globals, or of the procedure's own places
 abbrev pub PlaceInScope : ℕ → ℕ → Place → Type 0
 PlaceInScope globals own (global i) = i < globals
 PlaceInScope globals own (local i) = i < own

@@ -3,7 +3,7 @@
 //!
 //! `check TEXT` and `parts TEXT` ask for the check, `rewrite COUNT TEXT`, `holds COUNT LINE :: TEXT`, `fits COUNT TEXT`
 //! and `widths COUNT TEXT` for the rewriting, and `rounds COUNT` for a number of rounds alone. `refuse` before a case
-//! has each allocation refused in turn. `{COUNT WORDS}` in a text stands for so many times these words. Lines that
+//! has each allocation refused in turn. `{COUNT WORDS}` in a text stands for these words, COUNT times. Lines that
 //! begin with `#`, and empty lines, are printed alone.
 #![tactic(auto)]
 
@@ -15,7 +15,7 @@ use refusals::refused_in_turn;
 use std::alloc::{AllocError, Global};
 use std::io;
 
-/// A text with the same words so many times in it: what stands before them, `COUNT WORDS`, and what stands behind.
+/// A text with the same words several times in it: what stands before them, `COUNT WORDS`, and what stands behind.
 fn repeated(
     alloc: Global,
     before: &str,

@@ -120,7 +120,7 @@ half_plus : (q : ℕ) (c : Bool) → plus q c / 2 ≡ plus (q / 2) (low q && c)
 half_plus q true = half_next q ∙ sym (ap (plus (q / 2)) (and_true (low q)))
 half_plus q false = sym (ap (plus (q / 2)) (and_false (low q)))
 
--- a number in so many bits, the highest first, in front of what follows
+-- a number in a given number of bits, the highest first, in front of what follows
 abbrev pub in_bits : ℕ → ℕ → List Bool → List Bool
 in_bits zero q rest = rest
 in_bits (suc m) q rest = in_bits m (q / 2) (low q ∷ rest)
@@ -148,7 +148,7 @@ pub zero_bits : (m : ℕ) (rest : List Bool) → in_bits m 0 rest ≡ zeros m ++
 zero_bits zero rest = refl
 zero_bits (suc m) rest = zero_bits m (false ∷ rest) ∙ zeros_behind m rest
 
--- so many bits from a place on are those of the number
+-- a given number of bits from a place on are those of the number
 abbrev pub HasBits : List Bool → ℕ → ℕ → ℕ → List Bool → Type 0
 HasBits X at m q rest = (j : ℕ) → bit X (at + j) ≡ bit (in_bits m q rest) j
 

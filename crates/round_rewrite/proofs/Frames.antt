@@ -18,7 +18,7 @@ use Rattle.round_rewrite.proofs.Blocks.{put}
 use Rattle.round_rewrite.proofs.Laid.{Shape, bit_right, with_right}
 use Rattle.round_rewrite.proofs.Prologue.{Site}
 
--- in scope, with room for so many temporaries
+-- in scope, with room for a given number of temporaries
 abbrev pub Roomy : List Routine → ℕ → ℕ → ℕ → Simple Place ℕ Label → Type 0
 Roomy routines n own d s = SimpleInScope routines n own s × (draws_of is_global (parts.plain s) ≤ d)
 

@@ -26,7 +26,7 @@ abbrev pub Long : ℕ → List (List Bool) → Type 0
 Long n [] = Unit {0}
 Long n (r ∷ rs) = (length r ≡ n) × Long n rs
 
--- there are so many rows, and each is so long
+-- there is this number of rows, and each has this length
 abbrev pub AreRows : ℕ → ℕ → List (List Bool) → Type 0
 AreRows n count G = Long n G × (length G ≡ count)
 

@@ -94,7 +94,7 @@ arguments_use_ids = list_uses_ids ExpressionInGrammar variables_of variables_of_
 arguments_ids_used : (es : List (Expression Name)) → Each IsId (variables_of_all es) → AllByRecursion ExpressionInGrammar es
 arguments_ids_used = list_ids_used ExpressionInGrammar variables_of variables_of_all (λ e es. refl) ids_used
 
--- so many bits of the round
+-- the lowest bits of the round
 bit_ids : (count : ℕ) → Each IsId (bit_names count)
 bit_ids count = numbered_each IsId bit_name count (λ j lt. bit_id j) 0 count (omega arith)
 

@@ -154,7 +154,7 @@ named_rewritten last x (p ∷ ps) = go (same_text x p.name.text) (named_rewritte
     go true h = refl
     go false h = h
 
--- a procedure is there, with so many formals
+-- a procedure is there, with a given number of formals
 abbrev Takes : Option Procedure → ℕ → Type 0
 Takes o n = (o ≡ None → ⊥) × IsThere o (λ r. length r.formals ≡ n)
 

@@ -1,4 +1,4 @@
--- The rewriting theorem: some run within so many rounds fails exactly where some run of the rewritten
+-- The rewriting theorem: some run within K rounds fails exactly where some run of the rewritten
 -- program ends with `bad` being 1.
 use Rattle.std.specs.Prelude.{ℕ, ◌↔◌, codes}
 use Rattle.language.specs.Tree.{Tree}
@@ -10,13 +10,13 @@ use Rattle.round_rewrite.specs.Names.{rewritten_for, sequential_for}
 use Rattle.round_rewrite.specs.Limits.{last_of}
 use Rattle.round_rewrite.specs.Places.{rewritten_program, bad_at}
 
--- the program is unsafe within so many rounds exactly where some pair of the one that is rewritten for them has `bad`
+-- the program is unsafe within K rounds exactly where some pair of the one that is rewritten for them has `bad`
 abbrev pub KeepsFailures : ℕ → Program → Type 0
 KeepsFailures rounds program =
     let last = last_of rounds in
     Unsafe program rounds ↔ SomeBad (in_text_order (rewritten_program last program)) (bad_at program.globals last)
 
--- The tree's program is unsafe within so many rounds exactly where some pair of `main__` of the tree that is rewritten
+-- The tree's program is unsafe within K rounds exactly where some pair of `main__` of the tree that is rewritten
 -- for them has `bad__`.
 abbrev pub KeepsTree : ℕ → Tree → Type 0
 KeepsTree rounds tree =

@@ -9,7 +9,7 @@ most_rounds = 8
 abbrev pub round_bits : ℕ → ℕ
 round_bits last = cond (nat_lt last 4) 2 3
 
--- the last of so many rounds, which count from 0; of no round it is 0 too
+-- the last of K rounds, which count from 0; of no round it is 0 too
 abbrev pub last_of : ℕ → ℕ
 last_of zero = zero
 last_of (suc n) = n

@@ -29,7 +29,7 @@ bit_name zero = named (codes "rl__")
 bit_name (suc zero) = named (codes "rh__")
 bit_name (suc (suc number)) = named (codes "rt__")
 
--- so many bits of the round, the low bit first
+-- the lowest bits of the round, the low bit first
 abbrev pub bit_names : ℕ → List Name
 bit_names count = map bit_name (numbers 0 count)
 
@@ -76,10 +76,10 @@ rewritten_tree last tree = record {
   threads = record { at = 0; name = named (codes "main__") } ∷ [];
 }
 
--- the tree that a tree is rewritten to for so many rounds
+-- the tree that a tree is rewritten to for K rounds
 abbrev pub rewritten_for : ℕ → Tree → Tree
 rewritten_for rounds tree = rewritten_tree (last_of rounds) tree
 
--- the sequential program that a tree is rewritten to for so many rounds
+-- the sequential program that a tree is rewritten to for K rounds
 abbrev pub sequential_for : ℕ → Tree → Program
 sequential_for rounds tree = sequential_of (rewritten_for rounds tree)

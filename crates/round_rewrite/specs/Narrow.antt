@@ -11,7 +11,7 @@ use Rattle.round_rewrite.specs.declared.width.Wide.{Wide}
 abbrev pub IsNarrow : ℕ → Tree → Type 0
 IsNarrow last tree = AllNarrow (rewritten_tree last tree)
 
--- every procedure of the tree rewritten for so many rounds has at most 128 places
+-- every procedure of the tree rewritten for K rounds has at most 128 places
 abbrev pub IsNarrowFor : ℕ → Tree → Type 0
 IsNarrowFor rounds tree = AllNarrow (rewritten_for rounds tree)
 
@@ -31,6 +31,6 @@ IsFirstWide last tree (Some wide) =
     (i : ℕ) × (p : Procedure) × (slice_get tree.procedures i ≡ Some p) × (p.name.at ≡ wide.at)
     × (wide.places ≡ rewritten_width last tree p) × (most_places < wide.places) × AreNarrow last tree (take i tree.procedures)
 
--- the same of the tree rewritten for so many rounds
+-- the same of the tree rewritten for K rounds
 abbrev pub IsFirstWideFor : ℕ → Tree → Option Wide → Type 0
 IsFirstWideFor rounds tree wide = IsFirstWide (last_of rounds) tree wide

@@ -10,7 +10,7 @@ abbrev pub is_global : Place → Bool
 is_global (global i) = true
 is_global (local i) = false
 
--- where the copies for a round stand, where there are so many globals
+-- where the copies for a round stand, for this number of globals
 abbrev pub copy_at : ℕ → ℕ → Place → Place
 copy_at globals round (global i) = global (round * globals + i)
 copy_at globals round (local i) = local i
@@ -25,7 +25,8 @@ save_at globals last (suc round) (local i) = local i
 abbrev pub bits_at : ℕ → ℕ → ℕ
 bits_at globals last = suc last * globals + last * globals
 
--- behind them stand the bits of the round, the highest first: so many from a place on, as a list with the low bit first
+-- behind them stand the bits of the round, the highest first: a given number from a place on, as a list with the low
+-- bit first
 abbrev pub bits_from : ℕ → ℕ → List Place
 bits_from at zero = []
 bits_from at (suc count) = global (at + count) ∷ bits_from at count
@@ -41,7 +42,7 @@ bad_at globals last = bits_at globals last + (round_bits last + 1)
 abbrev pub global_count : ℕ → ℕ → ℕ
 global_count globals last = bits_at globals last + (round_bits last + 2)
 
--- the places of the rewritten program, in a procedure with so many places: the copies of all globals for
+-- the places of the rewritten program, in a procedure with a given number of places: the copies of all globals for
 -- round 0, 1, .., then the guesses saved for round 1, .., then the bits, stop and bad; the temporaries
 -- come after the procedure's own places. A procedure's number goes up by 1, since the first one is new.
 abbrev pub places : ℕ → ℕ → ℕ → Naming Place Place ℕ ℕ

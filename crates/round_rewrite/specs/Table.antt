@@ -1,4 +1,4 @@
--- The rewriting for so many rounds, as one table over trees. Rounds count from 0 here; `last` is the last
+-- The rewriting for K rounds, as one table over trees. Rounds count from 0 here; `last` is the last
 -- of them. (Only the idea, to guess the globals of later rounds and to check the guesses at the end, is that
 -- of Lal and Reps 2008.)
 use Rattle.std.specs.Prelude.{ℕ, zero, suc, ◌/◌, ◌%◌, Bool, true, false, List, [], ◌∷◌, ◌++◌, Option, Some, None, map}
@@ -56,7 +56,7 @@ raised (low ∷ bits) = value (negation (var low)) ∷ added (var low) bits
 abbrev pub each : {W R : Type 0} → R → List W → List R
 each r ws = map (λ w. r) ws
 
--- how many `?` with a global target an assignment has: so many temporaries it draws
+-- how many `?` with a global target an assignment has: it draws that many temporaries
 abbrev pub draws : {V : Type 0} → (V → Bool) → List V → List (RightSide V) → ℕ
 draws is_shared [] rs = 0
 draws is_shared (x ∷ xs) [] = 0
@@ -141,7 +141,7 @@ module _ {V W P Q : Type 0} (naming : Naming V W P Q) (last : ℕ) where
   reset_targets = reverse (naming.bits last) ++ naming.stop ∷ []
 
   module _ {L : Type 0} where
-    -- the draw of so many temporaries, if any
+    -- the draw of a given number of temporaries, if any
     abbrev pub drawing : ℕ → Block W Q L → Block W Q L
     drawing zero rest = rest
     drawing (suc n) rest =

@@ -93,6 +93,6 @@ abbrev pub own_width : tree.Procedure → ℕ
 own_width procedure =
     length procedure.formals + (length procedure.locals + (procedure_needs procedure + cond (gives_value procedure.body) 1 0))
 
--- the globals, so many, and what the procedure has of its own are at most 128 places
+-- the globals, of a given number, and what the procedure has of its own are at most 128 places
 abbrev pub IsOwnNarrow : ℕ → tree.Procedure → Type 0
 IsOwnNarrow globals procedure = globals + own_width procedure ≤ most_places

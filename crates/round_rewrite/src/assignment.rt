@@ -49,7 +49,7 @@ pub fn any_values<A: Allocator + Copy>(
 impl<'a, N: Allocator, A: Allocator + Copy> Writer<'a, N, A> {
     ghost use Rattle.round_rewrite.specs.Writing.{naming_of};
 
-    /// How many `?` with a global target an assignment has: so many temporaries it draws. Each call has a target
+    /// How many `?` with a global target an assignment has: it draws that many temporaries. Each call has a target
     /// less; a checked program of at most 128 places has no more targets than places.
     pub fn draws(&self, xs: &[Name<N>], rs: &[Rhs<N>]) -> usize
         ensures count { result

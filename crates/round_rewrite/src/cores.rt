@@ -102,7 +102,7 @@ pub fn checked<A: Allocator + Copy>(alloc: &A, side: Rhs<A>) -> Result<Core<A>, 
     Ok(Core::If(side, yes, no))
 }
 
-/// Puts so many variables of the round's number behind others, the highest bit first.
+/// Puts the `count` lowest variables of the round's number behind others, the highest bit first.
 pub fn push_bits<A: Allocator + Copy>(
     alloc: &A,
     count: u8,

@@ -88,7 +88,7 @@ fn literal<A: Allocator + Copy>(alloc: &A, value: u8, number: u8) -> Result<Expr
     }
 }
 
-/// That the bits of the round's number from one on, and so many above it, have this value.
+/// That the bits of the round's number from `number` to `above` places higher have this value.
 fn has_value<A: Allocator + Copy>(
     alloc: &A,
     value: u8,

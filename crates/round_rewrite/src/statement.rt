@@ -34,7 +34,7 @@ impl<'a, N: Allocator, A: Allocator + Copy> Writer<'a, N, A> {
         push(stop_test(self.alloc)?, into)
     }
 
-    /// Puts the draw of so many temporaries, if any, behind others.
+    /// Puts the draw of a given number of temporaries, if any, behind others.
     fn drawing(&self, number: usize, into: &mut Vec<Stmt<A>, A>) -> Result<(), AllocError>
         requires { number < 2 ^ 63 }
         ensures { IfOk result (λ _. Lays into.old.items into.new.items

@@ -34,7 +34,7 @@ fn global_count(rounds: Rounds, globals: usize) -> u128
     (2 * last + 1) * (globals as u128) + (rounds.bits() as u128 + 2)
 }
 
-/// How many places a procedure has when it is rewritten, in a program of so many globals.
+/// How many places a procedure has when it is rewritten, in a program with this number of globals.
 fn places<N: Allocator, A: Allocator + Copy>(
     alloc: &A,
     rounds: Rounds,
@@ -91,7 +91,7 @@ pub(crate) fn is_narrow<N: Allocator, A: Allocator + Copy>(
     first_wide(alloc, rounds, program).is_none()
 }
 
-/// Which procedure of a checked program is too wide for so many rounds: the first, in the order of the source, that has
+/// Which procedure of a checked program is too wide for K rounds: the first, in the order of the source, that has
 /// more than 128 places when it is rewritten. It takes no memory. `rewrite` answers `TooWide` where there is one.
 pub fn too_wide<N: Allocator, A: Allocator + Copy>(
     alloc: &A,

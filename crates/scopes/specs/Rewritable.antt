@@ -58,7 +58,7 @@ abbrev pub SidesDeclared : Scope → List (RightSide Name) → Type 0
 SidesDeclared scope [] = Unit {0}
 SidesDeclared scope (side ∷ sides) = SideDeclared scope side × SidesDeclared scope sides
 
--- the first procedure of this name is there, and has at least so many formals and locals
+-- the first procedure of this name is there, and has at least a given number of formals and locals
 abbrev pub HasRoom : Option Procedure → ℕ → Type 0
 HasRoom None n = ⊥
 HasRoom (Some procedure) n = n ≤ length (procedure.formals ++ procedure.locals)

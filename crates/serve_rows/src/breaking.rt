@@ -47,7 +47,7 @@ fn token_at(text: &[u8], at: usize) -> (usize, usize) {
     }
 }
 
-/// The text in three parts, of which the middle one is written so many times.
+/// The text in three parts, of which the middle one is written several times.
 fn rewritten(
     alloc: Global,
     text: &[u8],

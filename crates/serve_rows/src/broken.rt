@@ -19,7 +19,7 @@ fn kind_for<R: AllocGlobal + Wait + Threads + Sync>(
     kind_of(str::from_utf8(written.as_slice()).unwrap_or(""), status)
 }
 
-/// The kinds of what is written for so many broken texts, made from these files in turn.
+/// The kinds of what is written for a number of broken texts, made from these files in turn.
 fn kinds_of<R: Files + AllocGlobal + Wait + Threads + Sync>(
     rt: &R,
     files: &str,

@@ -23,7 +23,7 @@ pub fn write_long<R: Files + AllocGlobal>(rt: &R) -> io::Result<()> {
     fs::write(rt, "long.bp", text)
 }
 
-/// A text and blanks behind it, to so many bytes.
+/// A text and blanks behind it, to a given number of bytes.
 fn padded(alloc: Global, text: &str, length: usize) -> Result<Vec<u8>, AllocError> {
     let mut bytes = Vec::new(alloc);
     bytes.extend_from_slice(text.as_bytes())?;

@@ -36,7 +36,7 @@ impl Calls {
         }
     }
 
-    /// How many bytes the next call may give or take of so many.
+    /// How many bytes the next call may give or take of those wanted.
     fn next(&mut self, asked: usize) -> io::Result<usize> {
         if self.interrupts_next {
             self.interrupts_next = false;

@@ -3,8 +3,8 @@
 //! | Line | What is printed under it |
 //! |---|---|
 //! | `set STEPS` | what each step on an empty set answers |
-//! | `many N WIDTH POINTS` | whether both kinds of sets answer alike to N triples in no order, of so many bits, points and 8 entries |
-//! | `many N WIDTH POINTS TURN` | the same, where eight other entries follow after so many triples each |
+//! | `many N WIDTH POINTS` | whether both kinds of sets answer alike to N triples in no order, of WIDTH bits, POINTS points and 8 entries |
+//! | `many N WIDTH POINTS TURN` | the same, where eight other entries follow after TURN triples each |
 //! | `nodes STEPS` | what each step on an empty set of diagrams answers |
 //! | `each allocation: many N` | whether a set of diagrams takes N triples all the same where each allocation is refused in turn |
 //! | `each allocation: ordered N` | the same of an ordered set |

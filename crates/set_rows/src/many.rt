@@ -116,7 +116,7 @@ pub fn agree(alloc: Global, out: &mut String, numbers: &str) -> Result<(), Alloc
     write!(out, "{}", if alike { "agree" } else { "differ" })
 }
 
-/// Whether a set of diagrams, or an ordered one, takes so many edges all the same, whichever of its allocations is
+/// Whether a set of diagrams, or an ordered one, takes that many edges all the same, whichever of its allocations is
 /// refused.
 pub fn takes_each(alloc: Global, ordered: bool, count: u64) -> &'static str {
     let shape = Shape {

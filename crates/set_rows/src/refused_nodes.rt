@@ -112,8 +112,8 @@ fn came_in<A: Allocator + Copy, B: Allocator, T: PathSet<B>>(
     came_after(alloc, &mut set, other, words, spot)
 }
 
-/// Writes what comes of a count where each of its allocations is refused in turn; so many are `asked` for in front of
-/// it.
+/// Writes what comes of a count where each of its allocations is refused in turn; `asked` of them are asked for in
+/// front of it.
 fn in_turn<B: Allocator, T: PathSet<B>>(
     alloc: Global,
     out: &mut String,

@@ -87,8 +87,8 @@ pub fn step<A: Allocator, S: PathSet<A>>(
     }
 }
 
-/// The edge of a number, at one of 7 points and of one of 9 entries; so many different ones, and then the first ones
-/// again.
+/// The edge of a number, at one of 7 points and of one of 9 entries; a number of different ones, and then the first
+/// ones again.
 fn edge_of(different: u64, number: u64) -> (Word, usize, Word) {
     let number = number.checked_rem(different).unwrap_or(0);
     (
@@ -124,7 +124,7 @@ fn keeps<A: Allocator, S: PathSet<A>>(
     Ok(kept && counted && added != known && contains(set, edge))
 }
 
-/// Whether a set keeps so many different edges, and then takes none of the first 20 again.
+/// Whether a set keeps a number of different edges, and then takes none of the first 20 again.
 fn keeps_all<A: Allocator, S: PathSet<A>>(set: &mut S, different: u64) -> Result<bool, AllocError> {
     for number in 0..different.saturating_add(20) {
         if !keeps(set, different, number)? {
@@ -167,7 +167,7 @@ fn said(came: Came, scarce: &Scarce<Global>, nth: u64) -> Option<&'static str> {
     }
 }
 
-/// Whether a set of diagrams, or an ordered one, keeps so many different edges, whichever of its allocations is
+/// Whether a set of diagrams, or an ordered one, keeps a number of different edges, whichever of its allocations is
 /// refused.
 pub fn keeps_each(alloc: Global, ordered: bool, different: u64) -> &'static str {
     for nth in 1..1000u64 {

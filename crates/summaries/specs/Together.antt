@@ -34,7 +34,7 @@ module _ {G A S : Type 0} where
   abbrev pub IsReceived : List (Table G A S) → Mail → Type 0
   IsReceived ts message = (k : NumberedMessage) → due_of k ≡ message.due → IsTaken (slice_get ts message.to) k
 
-  -- each table may hold so many edges
+  -- each table has this limit on its edges
   abbrev pub HaveLimit : ℕ → List (Table G A S) → Type 0
   HaveLimit limit ts = (q : ℕ) (t : Table G A S) → slice_get ts q ≡ Some t → limit_of t ≡ limit
 

@@ -11,8 +11,8 @@ use language::{Point, Word};
 use path_sets::{Halves, PathSet};
 use std::alloc::Allocator;
 
-/// A flow with so many choices is led once for all valuations that it leads alike. With fewer, to remember an edge takes
-/// more than to lead it again.
+/// A flow with at least this number of choices is led once for all valuations that it leads alike. With fewer, to
+/// remember an edge takes more than to lead it again.
 const MANY: Word = 8;
 
 /// What an edge is remembered by when its choices are led, if there are many.

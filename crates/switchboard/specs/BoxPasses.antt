@@ -13,7 +13,7 @@ use Rattle.switchboard.specs.Sights.{BoardState, Sight, Account, IsSound}
 use Rattle.switchboard.specs.Knowing.{unseen, only_seen, hand_at}
 use Rattle.switchboard.specs.PerBox.{View, IsBoardTable, Seat}
 
--- the hand has nothing but its share, and has tickets for so many calls
+-- the hand has nothing but its share, and has tickets for a given number of calls
 pub record IsIdleHand {T : Type 0} (left : ℕ) (hand : Hand T) : Type 0 where
   pub tickets : hand.tickets ≡ []
   pub inside : hand.inside ≡ []
@@ -49,9 +49,9 @@ module _ {M W : Type 0} where
       pub close : seen.knows ≡ true → IsClosed seen.order
       pub known : made ≡ true → IsSome seen.aborted
 
-    -- The seat is this pass's alone, at a board of this world with so many mailboxes. It holds no mailbox, waits for
-    -- none, and has none in the count; it made just its own events of the order that it has seen; it has tickets, and
-    -- Posts to count up, for its calls.
+    -- The seat is this pass's alone, at a board of this world with a given number of mailboxes. It holds no mailbox,
+    -- waits for none, and has none in the count; it made just its own events of the order that it has seen; it has
+    -- tickets, and Posts to count up, for its calls.
     pub record IsBoxPass (id : TableId) (number left : ℕ) (made : Bool) (w : W) (boxes : ℕ) (me : Seat M W) : Type 0 where
       pub base : Ground M W
       pub is_base : get_elem? me.0.boards 0 ≡ some base

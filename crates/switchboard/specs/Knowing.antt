@@ -20,7 +20,7 @@ module _ {T : Type 0} where
   abbrev pub bare : ℕ → Hand T
   bare parts = record { seen = []; tickets = []; inside = []; drawn = []; parts = parts }
 
-  -- so many hands that have nothing but such shares
+  -- a given number of hands that have nothing but such shares
   abbrev pub bares : ℕ → ℕ → List (Hand T)
   bares zero parts = []
   bares (suc n) parts = bare parts ∷ bares n parts
@@ -136,7 +136,7 @@ module _ {M W T : Type 0} where
     under = 0;
   }
 
-  -- a seat of so many passes, from this number on, which have seen nothing but the opening post
+  -- a seat of a given number of passes, from this number on, which have seen nothing but the opening post
   abbrev pub first_view : Ground M W → ℕ → ℕ → Knowing M W T
   first_view basis first count = record {
     boards = basis ∷ [];

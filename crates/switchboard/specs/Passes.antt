@@ -18,7 +18,7 @@ latest f d [] = d
 latest f d (x ∷ []) = f x
 latest f d (x ∷ y ∷ ys) = latest f d (y ∷ ys)
 
--- how many calls a lane with so many tickets has, where one is kept for an abort
+-- how many calls a lane with a given number of tickets has, where one is kept for an abort
 abbrev pub calls_of : Bool → ℕ → ℕ
 calls_of kept left = if kept then left - 1 else left
 

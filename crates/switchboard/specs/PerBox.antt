@@ -70,7 +70,7 @@ module _ {M : Type 0} where
   LockStands mailbox order words homes hands = (log : List (List (Event M))) × Kept (word_of mailbox) mailbox log words homes hands
       × EndsIn log (part mailbox order)
 
--- the table of a board with so many mailboxes
+-- the table of a board with a given number of mailboxes
 abbrev pub IsBoardTable : TableId → ℕ → Type 0
 IsBoardTable id boxes = (id.words ≡ 8 * (boxes + 1)) × (id.slots ≡ boxes) × (boxes ≤ 64)
 

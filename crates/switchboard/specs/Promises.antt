@@ -21,7 +21,7 @@ module _ {M W : Type 0} where
   abbrev pub WasSpent : Sight M W → Sight M W → Type 0
   WasSpent before after = (before.calls ≡ 0) × (after ≡ before)
 
-  -- the first passes of a board with so many mailboxes, in the order of their numbers
+  -- the first passes of a board with a given number of mailboxes, in the order of their numbers
   abbrev pub AreFirst : TableId → ℕ → List (Sight M W) → Type 0
   AreFirst id boxes passes = (j : ℕ) (p : Sight M W) → slice_get passes j ≡ Some p
       → (p.board ≡ id) × (p.number ≡ j) × (p.seen.boxes ≡ boxes)

@@ -71,7 +71,7 @@ module _ {M W : Type 0} where
     seen = state;
   }
 
-  -- so many passes, numbered from `first` on
+  -- a given number of passes, numbered from `first` on
   abbrev pub fresh_sights : TableId → ℕ → BoardState M W → ℕ → ℕ → List (Sight M W)
   fresh_sights id budget state first zero = []
   fresh_sights id budget state first (suc count) = fresh_sight id budget state first ∷ fresh_sights id budget state (suc first) count

@@ -43,7 +43,7 @@ pub fn put<T: Drop, A: Allocator>(list: &mut Vec<T, A>, value: T) -> Result<(), 
 }
 
 impl<'a, A: Allocator + Clone> Reader<'a, A> {
-    /// A list of one element, with room for so many.
+    /// A list of one element, with room for `room` elements.
     pub fn one<T: Drop>(&self, room: usize, first: T) -> Result<Vec<T, A>, ReadFault>
         ensures ok { IfOk result (λ list. list.items ≡ first ∷ []) }
         ensures err { IsOkUnless result ReadFault.Memory }

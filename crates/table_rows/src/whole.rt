@@ -27,7 +27,7 @@ fn by_graphs<A: Allocator + Copy, S: PathSet<A>>(
     tabulate::<_, _, S>(alloc, &graphs, limit)
 }
 
-/// The summaries of a sequential program with so many path edges at most.
+/// The summaries of a sequential program with at most a given number of path edges.
 fn tabulated<A: Allocator + Copy, S: PathSet<A>>(
     alloc: A,
     sequential: &Sequential<Global>,

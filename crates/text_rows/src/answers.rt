@@ -11,7 +11,7 @@ use syntax::{ReadFault, print, read};
 use tokens::{CutFault, Token, as_ascii, cut, is_too_deep};
 use trees::Program;
 
-/// A text has at most so many bytes.
+/// The most bytes of a text.
 const LIMIT: usize = 65536;
 
 fn say<A: Allocator>(page: &mut Page<A>, holds: bool) {

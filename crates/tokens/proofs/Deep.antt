@@ -17,7 +17,7 @@ one b = cond b 1 0
 count-cons : (test : Tok → Bool) (t : Tok) (ts : List Tok) → count_by test (t ∷ ts) ≡ one (test t) + count_by test ts
 count-cons test t ts = sum_by-cons (λ x. cond (test x) 1 0) t ts
 
--- Whether the tokens nest too deep behind tokens of which so many open and so many close.
+-- Whether the tokens nest too deep behind tokens of which given numbers open and close.
 abbrev pub nests : ℕ → ℕ → List Tok → Bool
 nests o c [] = false
 nests o c (t ∷ ts) =
@@ -63,7 +63,7 @@ nests_complete o c (t ∷ front) rest low deep =
     by_test true f more = refl
     by_test false f more = more (grind (arith, nat_tests))
 
--- Whether a run is too long, behind so many operators of the same run.
+-- Whether a run is too long, behind a given number of operators of the same run.
 abbrev pub runs : ℕ → List Tok → Bool
 runs n [] = false
 runs n (t ∷ ts) =

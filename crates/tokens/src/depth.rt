@@ -6,7 +6,7 @@ ghost use Rattle.tokens.specs.Token.{toks_of};
 
 use crate::vocabulary::{Kind, Token};
 
-/// By so many more tokens may open than close, and so many operators may stand in one run.
+/// The most tokens that may be open at once, and the most operators in one run.
 const LIMIT: usize = 64;
 
 fn opens(kind: Kind) -> bool

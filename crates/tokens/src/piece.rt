@@ -13,9 +13,9 @@ use crate::words::{sign_at_front, word_kind};
 /// The front of a text.
 #[derive(Clone, Copy)]
 pub enum Piece {
-    /// A blank or a comment of so many bytes.
+    /// A blank or a comment, with its number of bytes.
     Gap(usize),
-    /// A token of this kind and of so many bytes.
+    /// A token of this kind, with its number of bytes.
     Word(Kind, usize),
     /// Neither.
     Bad,

@@ -10,7 +10,7 @@
 //! | `each allocation: WORDS \| TEXT` | the reply, where with allocation N refused, for each N, it is that one or `no verdict: memory` |
 //! | `each schedule: WORDS \| TEXT` | the reply, where it is the same 100 times, and with each of the first eight workers in turn kept back |
 //! | `each pair: WORDS \| TEXT` | the reply, where it is the same over each pair of board and set |
-//! | `200 allocations: WORDS \| TEXT` | the same for the first so many |
+//! | `200 allocations: WORDS \| TEXT` | the same for the first 200 |
 //! | `from each allocation on: WORDS \| TEXT` | the same where all behind that one are refused too |
 //! | `all pairs, each allocation: WORDS \| TEXT` | one of these over each pair of board and set |
 //! | `message: WORDS \| TEXT` | the reply, and what standard error tells of it, where each allocation refused leaves that or an error |

@@ -34,7 +34,7 @@ fn put(alloc: Global, bytes: &mut Vec<u8>, inside: &str) -> Result<(), AllocErro
     }
 }
 
-/// Puts a name so many times, each with its number, with commas between.
+/// Puts a name several times, each with its number, with commas between.
 fn put_names(alloc: Global, bytes: &mut Vec<u8>, count: u32, name: &str) -> Result<(), AllocError> {
     for nth in 0..count {
         if nth > 0 {

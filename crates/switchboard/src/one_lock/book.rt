@@ -82,7 +82,7 @@ fn note_take<M: Copy, A: Allocator>(
 }
 
 impl<M: Copy, W, A: Allocator> Book<M, W, A> {
-    /// A book of so many mailboxes, with the opening post in one of them.
+    /// A book of a given number of mailboxes, with the opening post in one of them.
     pub fn open(alloc: A, world: &W, boxes: u8, to: u8, first: M) -> Result<Self, AllocError>
     where
         A: Clone,

@@ -9,7 +9,7 @@ use Rattle.command_line.specs.Line.{IsGiven, ReadsNumber}
 use Rattle.command_line.proofs.Reading.{flag, gives, has_rounds, is_given, is_met, is_named, number, of_command, reads}
 use Rattle.command_line.proofs.line.asked.Goals as goal
 
--- what the text of a number of so many bits is read as
+-- what the text of a number with a given number of bits is read as
 abbrev ReadsAs : ℕ → List ℕ → Result ℕ ParseIntError → Type 0
 ReadsAs bits t r = ParsesUnsigned bits 10 t r × ExplainsUnsignedError 10 t r × HasUnsignedDigitsIfOk t r
 
