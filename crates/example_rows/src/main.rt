@@ -2,7 +2,7 @@
 //! NAME` begins a text, the lines under it are that text, and a line `$ WORDS` asks about it. Each line `$ WORDS` is
 //! printed again, with the reply and the status under it.
 //!
-//! `examples/run --write` makes the files stdin and stdout from the documents and examples/verdicts.txt.
+//! `examples/run --write` makes the files stdin and stdout from the documents, examples/verdicts.txt and random programs.
 #![tactic(auto)]
 
 mod row;
