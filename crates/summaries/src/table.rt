@@ -146,6 +146,7 @@ impl<'g, G: Allocator, A: Allocator + Copy, S: PathSet<A>> Table<'g, G, A, S> {
         let Some(edge) = self.found.pending.pop() else {
             return Ok(false);
         };
+        // Read field by field: a processor waits for a word that it has just written in parts.
         let Edge {
             entry,
             point,
