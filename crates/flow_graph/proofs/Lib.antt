@@ -2,6 +2,7 @@ pub mod Places
 pub mod Stacks
 pub mod Codes
 pub mod Rows
+pub mod Windowed
 pub mod Picking
 pub mod Worths
 pub mod Nodes

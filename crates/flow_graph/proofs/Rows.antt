@@ -187,6 +187,12 @@ pub bits_pushed : (b : ℕ) (xs : List ℕ) → b < most_places → AreBits xs �
 bits_pushed b [] h k = (h, tt)
 bits_pushed b (x ∷ xs) h k = (k.0, bits_pushed b xs h k.1)
 
+-- a bit is a place
+pub bit_inside : (xs : List ℕ) (i : ℕ) → AreBits xs → i < length xs → get_or xs i 0 < most_places
+bit_inside [] i bits within = absurd (omega (arith, within))
+bit_inside (x ∷ xs) zero bits within = bits.0
+bit_inside (x ∷ xs) (suc i) bits within = bit_inside xs i bits.1 (omega (arith, within))
+
 -- inputs widen to themselves, and step by step
 pub widens_same : (xs : List ℕ) → Widens xs xs
 widens_same xs = ([], sym (append-nil xs))

@@ -7,6 +7,7 @@ use Rattle.flow_graph.specs.Bits.{bit_of, coded}
 use Rattle.flow_graph.specs.Located.{worth}
 use Rattle.flow_graph.specs.Postfix.{after_steps, top}
 use Rattle.flow_graph.specs.Tables.{table_says, HaveRow}
+use Rattle.flow_graph.specs.Windows.{seen}
 use Rattle.flow_graph.specs.declared.formula.Formula.{Formula}
 use Rattle.flow_graph.specs.declared.formula.Formula.TheVariants.{Code, Picks as Picked, Table as Tabled}
 use Rattle.flow_graph.specs.declared.outputs.Outputs.{Outputs}
@@ -23,7 +24,7 @@ words_of (More words) = words.items
 
 -- the output of a table in the row of these values
 abbrev pub table_worth : {A : Type 0} → Table A → ℕ → Bool
-table_worth table values = table_says table.inputs.items (words_of table.outputs) values
+table_worth table values = table_says (seen table.inputs.items.items) (words_of table.outputs) values
 
 -- for all values by which the known bits have this row, the output in their row is what the expression is worth
 abbrev pub IsTruthTableIn : {A : Type 0} → Table A → List ℕ → ℕ → Expression ℕ → Type 0
@@ -37,7 +38,7 @@ case_worth (Some table) values = table_worth table values
 
 -- the output of the table for the row that the picked bits have by these values
 abbrev pub picks_worth : {A : Type 0} → Picks A → ℕ → Bool
-picks_worth picks values = case_worth (slice_get picks.cases.items (coded (map (bit_of values) picks.bits))) values
+picks_worth picks values = case_worth (slice_get picks.cases.items (coded (map (bit_of values) (seen picks.bits.items.items)))) values
 
 -- for all values, the table for the row of the picked bits says what the expression is worth
 abbrev pub AreTruthTablesOf : {A : Type 0} → Picks A → Expression ℕ → Type 0

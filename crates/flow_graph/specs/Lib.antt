@@ -3,6 +3,7 @@ pub mod Located
 pub mod Views
 pub mod Postfix
 pub mod Tables
+pub mod Windows
 pub mod Formulas
 pub mod Nodes
 pub mod Points

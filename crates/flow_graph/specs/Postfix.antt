@@ -46,10 +46,10 @@ IsShallow depth (Apply operator ∷ ss) = (2 ≤ depth) × IsShallow (depth - 1)
 IsShallow depth (ApplySwapped operator ∷ ss) = (2 ≤ depth) × IsShallow (depth - 1) ss
 
 -- an inequality of numbers has one proof at most
-pub less_prop : (i n : ℕ) → IsProp (i < n)
+less_prop : (i n : ℕ) → IsProp (i < n)
 less_prop i n = le_prop
 
-few_prop : (i n : ℕ) → IsProp (i ≤ n)
+pub few_prop : (i n : ℕ) → IsProp (i ≤ n)
 few_prop i n = le_prop
 
 -- this has one proof at most, so a type may carry it

@@ -1,11 +1,9 @@
 -- Truth tables: the worth of an expression of a few bits for each of their values.
-use mathlib.Core.HLevel.{×_prop, Unit-prop}
 use Rattle.std.specs.Prelude.{◌≡◌, ◌<◌, ◌/◌, ◌%◌, ℕ, suc, get_or, Bool, true, false, cond, ◌==◌, Option, Some, None}
 use Rattle.std.specs.Prelude.{List, [], ◌∷◌, ◌++◌, map}
 use Rattle.language.specs.Tree.{Expression}
 use Rattle.flow_graph.specs.Bits.{bit_of, coded}
 use Rattle.flow_graph.specs.Located.{worth}
-use Rattle.flow_graph.specs.Postfix.{less_prop}
 use Rattle.resolved.specs.Limits.{most_places}
 
 -- how many inputs come before the first that is this bit
@@ -59,11 +57,6 @@ table_says inputs words values = output words (coded (map (bit_of values) inputs
 abbrev pub AreBits : List ℕ → Type 0
 AreBits [] = Unit {0}
 AreBits (bit ∷ bits) = (bit < most_places) × AreBits bits
-
--- this has one proof at most, so a type may carry it
-pub AreBits-prop : (bs : List ℕ) → IsProp (AreBits bs)
-AreBits-prop [] = Unit-prop
-AreBits-prop (b ∷ bs) = ×_prop (less_prop b most_places) (AreBits-prop bs)
 
 -- inputs that were there, and some more
 abbrev pub Widens : List ℕ → List ℕ → Type 0

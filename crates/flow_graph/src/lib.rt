@@ -22,6 +22,7 @@ mod side;
 mod sizes;
 mod table;
 mod takes;
+mod windows;
 
 pub use assignment::Assignment;
 pub use call::Call;

@@ -18,7 +18,7 @@ use crate::scope::Scope;
 use crate::side::Side;
 use crate::sizes::{size, size_of};
 use crate::table::Table;
-use arrayvec::ArrayVec;
+use crate::windows::Windows;
 use language::{EXIT, Point, Word};
 use resolved::MOST_PLACES;
 use std::alloc::{AllocError, Allocator};
@@ -37,7 +37,7 @@ fn nowhere<A: Allocator>() -> Flow<A>
     ensures { (widths : Widths) → Does result stops widths }
 {
     let always_0 = Table {
-        inputs: ArrayVec::new(),
+        inputs: Windows::new(&[]),
         outputs: Outputs::One(0),
     };
     Flow::Assume(Side::Value(Formula::Table(always_0)), EXIT)

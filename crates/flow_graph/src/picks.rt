@@ -1,13 +1,15 @@
 //! Expressions of many bits, as truth tables by the values of a few.
 
 ghost use Rattle.std.specs.Prelude.{◌≡◌, ◌<◌, ◌≤◌, ℕ, get_or, length, IfOk, IfSome};
-ghost use Rattle.flow_graph.specs.Tables.{AreBits, AreBits-prop};
+ghost use Rattle.flow_graph.specs.Tables.{AreBits};
+ghost use Rattle.flow_graph.specs.Windows.{seen};
 ghost use Rattle.flow_graph.specs.Views.{over_bits, IsSmall};
 ghost use Rattle.resolved.specs.Limits.{most_places};
 
-use crate::row::{Known, row_of};
+use crate::row::Known;
 use crate::scope::Scope;
 use crate::table::Table;
+use crate::windows::Windows;
 use language::Word;
 use resolved::MOST_PLACES;
 use std::alloc::{AllocError, Allocator};
@@ -25,9 +27,9 @@ type Counts = [u32; MOST_PLACES];
 /// An expression as a truth table for each row of three bits, by number of row.
 #[derive(Debug, Drop)]
 pub struct Picks<A: Allocator> {
-    pub(crate) bits: [u8; PICKED],
+    pub(crate) bits: Windows,
     pub(crate) cases: Vec<Table<A>, A>,
-    pub(crate) ghost places: { AreBits bits } by { AreBits-prop bits },
+    pub(crate) ghost three: { length (seen bits.items.items) ≡ 3 },
     pub(crate) ghost all: { length cases.items ≡ 8 },
 }
 
@@ -40,7 +42,7 @@ impl<A: Allocator> Picks<A> {
     pub(crate) fn value(&self, values: Word) -> bool
         ensures { result ≡ picks_worth self.now values }
     {
-        let row = row_of(&self.bits, values);
+        let row = self.bits.row(values);
         self.cases[row as usize].value(values)
     }
 }
@@ -115,6 +117,7 @@ impl<'a, N: Allocator> Scope<'a, N> {
                 None => return Ok(None),
             }
         }
+        let bits = Windows::new(&bits);
         Ok(Some(Picks { bits, cases }))
     }
 }

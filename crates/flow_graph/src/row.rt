@@ -1,27 +1,7 @@
 //! Rows: the values of some bits, as a number.
 
-ghost use Rattle.std.specs.Prelude.{◌≡◌, ◌≤◌, length, map};
-ghost use Rattle.flow_graph.specs.Bits.{bit_of, coded};
-ghost use Rattle.flow_graph.specs.Tables.{most_inputs, slot, known_bit, AreBits};
-
-use crate::bit::bit;
-use language::Word;
-
-/// The row of bits in a valuation: the value of the first is its lowest bit.
-#[inline(always)]
-pub(crate) fn row_of(bits: &[u8], values: Word) -> u64
-    requires places { AreBits bits.now }
-    requires few { length bits.now ≤ most_inputs }
-    ensures { result ≡ coded (map (bit_of values) bits.now) }
-{
-    let mut at = bits.len();
-    let mut row: u64 = 0;
-    while at > 0 {
-        at -= 1;
-        row = 2 * row + bit(values, bits[at]);
-    }
-    row
-}
+ghost use Rattle.std.specs.Prelude.{◌≡◌, ◌≤◌, length};
+ghost use Rattle.flow_graph.specs.Tables.{most_inputs, slot, known_bit};
 
 /// The slot of a bit among others: how many they are, where it is none of them.
 pub(crate) fn slot_of(bits: &[u8], bit: u8) -> usize

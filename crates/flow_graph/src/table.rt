@@ -1,7 +1,7 @@
 //! Truth tables for expressions of at most ten bits.
 
 ghost use Rattle.std.specs.Prelude.{◌≡◌, ◌<◌, ◌≤◌, length, IfOk, IfSome};
-ghost use Rattle.flow_graph.specs.Tables.{most_inputs, Tabulates, ReadsBit, AreBits, AreBits-prop};
+ghost use Rattle.flow_graph.specs.Tables.{most_inputs, Tabulates, ReadsBit, AreBits};
 ghost use Rattle.flow_graph.specs.Tables.{Widens};
 ghost use Rattle.flow_graph.specs.Views.{over_bits, IsSmall};
 ghost use Rattle.resolved.specs.Limits.{most_places};
@@ -10,10 +10,12 @@ use crate::outputs::{
     ALL, Outputs, WORD_ROWS, WORDS, combined, decided, first_words, outputs_of_constant,
     outputs_of_slot, words_for,
 };
-use crate::row::{Known, row_of, slot_of};
+use crate::row::{Known, slot_of};
 use crate::scope::Scope;
+use crate::windows::Windows;
 use arrayvec::ArrayVec;
 use language::Word;
+use resolved::MOST_PLACES;
 use std::alloc::{AllocError, Allocator};
 use trees::{Expr, Op};
 
@@ -23,9 +25,8 @@ const MOST: usize = 10;
 /// An expression as a truth table: where each input has the value of its bit of j, the expression is worth output j.
 #[derive(Debug, Drop)]
 pub struct Table<A: Allocator> {
-    pub(crate) inputs: ArrayVec<u8, MOST>,
+    pub(crate) inputs: Windows,
     pub(crate) outputs: Outputs<A>,
-    pub(crate) ghost bits: { AreBits inputs.items } by { AreBits-prop inputs.items },
 }
 
 impl<A: Allocator> Table<A> {
@@ -36,7 +37,7 @@ impl<A: Allocator> Table<A> {
     pub(crate) fn value(&self, values: Word) -> bool
         ensures { result ≡ table_worth self.now values }
     {
-        let row = row_of(self.inputs.as_slice(), values);
+        let row = self.inputs.row(values);
         self.outputs.word(row / WORD_ROWS) >> (row % WORD_ROWS) & 1 == 1
     }
 }
@@ -56,6 +57,19 @@ fn read(inputs: &mut ArrayVec<u8, MOST>, bit: u8) -> Option<[u64; WORDS]>
         Ok(()) => Some(outputs_of_slot(slot)),
         Err(_) => None,
     }
+}
+
+/// These bits in order, so that neighbours are read together.
+fn in_order(bits: &[u8]) -> ArrayVec<u8, MOST>
+    ensures { AreBits result.items }
+{
+    let mut sorted = ArrayVec::new();
+    for bit in 0..MOST_PLACES {
+        if slot_of(bits, bit as u8) < bits.len() && sorted.len() < MOST {
+            sorted.push(bit as u8);
+        }
+    }
+    sorted
 }
 
 impl<'a, N: Allocator> Scope<'a, N> {
@@ -117,11 +131,16 @@ impl<'a, N: Allocator> Scope<'a, N> {
             (λ made. IfSome made
             (λ t. IsTruthTableIn t known.now.bits.now known.now.row (over_bits self.now e.now))) }
     {
-        let mut inputs = ArrayVec::new();
+        let mut found = ArrayVec::new();
+        if self.outputs(e, known, &mut found).is_none() {
+            return Ok(None);
+        }
+        let mut inputs = in_order(found.as_slice());
         let Some(all) = self.outputs(e, known, &mut inputs) else {
             return Ok(None);
         };
         let outputs = first_words(alloc, &all, words_for(inputs.len()))?;
+        let inputs = Windows::new(inputs.as_slice());
         Ok(Some(Table { inputs, outputs }))
     }
 }

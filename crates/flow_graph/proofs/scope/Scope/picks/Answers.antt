@@ -1,7 +1,10 @@
 -- A table is made for each row of the bits.
-use Rattle.std.proofs.Common.{◌≡◌, ◌∷◌, [], length, length-append, sym, ap, subst, arith}
+use Rattle.std.proofs.Common.{◌≡◌, ◌∷◌, [], map, ◌∙◌, length, length-append, sym, ap, subst, arith}
 use Rattle.std.specs.Prelude.{IfSome}
-use Rattle.flow_graph.specs.Formulas.{IsTruthTableIn}
+use Rattle.std.specs.List.{slice_get}
+use Rattle.flow_graph.specs.Bits.{bit_of, coded}
+use Rattle.flow_graph.specs.Formulas.{IsTruthTableIn, case_worth}
+use Rattle.flow_graph.specs.Windows.{seen}
 use Rattle.flow_graph.specs.Views.{over_bits}
 use Rattle.flow_graph.proofs.Picking.{AreCases, one_more, cases_say}
 use Rattle.flow_graph.proofs.scope.Scope.picks.Goals as goal
@@ -23,5 +26,7 @@ loop-row-preserved g c =
 pub returns : goal.returns
 returns g c v =
     let bits = c.most_read-bits.result in
-    cases_say bits (over_bits c.args.self.now c.args.e.now) c.loop-row.cases.items v c.loop-row.invariant.1
+    let read : seen c.new-bits.result.items.items ≡ bits = c.new-bits.ensures in
+    ap (λ is. case_worth (slice_get c.loop-row.cases.items (coded (map (bit_of v) is))) v) read
+    ∙ cases_say bits (over_bits c.args.self.now c.args.e.now) c.loop-row.cases.items v c.loop-row.invariant.1
     (let eight : length c.loop-row.cases.items ≡ 8 = search in eight) (let three : length bits ≡ 3 = search in three)

@@ -1,0 +1,104 @@
+//! Bits of a valuation as a row: neighbours are read together.
+
+ghost use Rattle.std.specs.Prelude.{◌≡◌, ◌<◌, ◌≤◌, ◌+◌, ◌++◌, ◌∷◌, [], length, map};
+ghost use Rattle.language.specs.Words.{word_bits};
+ghost use Rattle.flow_graph.specs.Bits.{bit_of, coded};
+ghost use Rattle.flow_graph.specs.Tables.{most_inputs, AreBits};
+ghost use Rattle.flow_graph.specs.Windows.{seen, IsWindow, AreWindows, AreWindows-prop};
+
+use crate::bit::{HALF, half};
+use arrayvec::ArrayVec;
+use language::Word;
+
+/// The most windows: one for each input of a table.
+const MOST: usize = 10;
+
+/// Neighbouring bits in one half of a valuation.
+#[derive(Debug, Clone, Copy, Default, Drop)]
+pub(crate) struct Window {
+    pub(crate) first: u8,
+    pub(crate) count: u8,
+    /// By how much the half is rotated, so that the bits stand at their places in the row.
+    pub(crate) turn: u8,
+    /// 1 at these places.
+    pub(crate) mask: u16,
+}
+
+/// The bits of a row, the lowest first.
+#[derive(Debug, Drop)]
+pub(crate) struct Windows {
+    pub(crate) items: ArrayVec<Window, MOST>,
+    pub(crate) ghost laid: { AreWindows 0 items.items } by { AreWindows-prop 0 items.items },
+}
+
+impl Window {
+    /// A window on one bit, behind others of a row.
+    fn new(bit: u8, front: usize) -> Self
+        requires few { front < most_inputs }
+        requires place { bit < word_bits }
+        ensures window { IsWindow front result }
+        ensures bit { (result.first ≡ bit) × (result.count ≡ 1) }
+    {
+        Window {
+            first: bit,
+            count: 1,
+            turn: (bit % HALF + HALF - front as u8) % HALF,
+            mask: 1 << front,
+        }
+    }
+}
+
+/// Adds a bit to a row: to the last window if it is the next of its half.
+fn add(items: &mut ArrayVec<Window, MOST>, bit: u8, front: usize)
+    requires laid { AreWindows 0 items.old.items }
+    requires front { front ≡ length (seen items.old.items) }
+    requires room { front < most_inputs }
+    requires few { length items.old.items ≤ front }
+    requires place { bit < word_bits }
+    ensures laid { AreWindows 0 items.new.items }
+    ensures seen { seen items.new.items ≡ seen items.old.items ++ bit ∷ [] }
+    ensures few { length items.new.items ≤ front + 1 }
+{
+    match items.pop() {
+        Some(last) if last.first + last.count == bit && bit % HALF != 0 => items.push(Window {
+            count: last.count + 1,
+            mask: last.mask + (1 << front),
+            ..last
+        }),
+        Some(last) => {
+            items.push(last);
+            items.push(Window::new(bit, front));
+        }
+        None => items.push(Window::new(bit, front)),
+    }
+}
+
+impl Windows {
+    /// Windows on these bits.
+    pub(crate) fn new(bits: &[u8]) -> Self
+        requires few { length bits.now ≤ most_inputs }
+        requires places { AreBits bits.now }
+        ensures { seen result.items.items ≡ bits.now }
+    {
+        let mut items = ArrayVec::new();
+        let mut front: usize = 0;
+        for bit in bits {
+            add(&mut items, *bit, front);
+            front += 1;
+        }
+        Windows { items }
+    }
+
+    /// The row of these bits in a valuation: the value of the first is its lowest bit.
+    #[inline(always)]
+    pub(crate) fn row(&self, values: Word) -> u64
+        ensures { result ≡ coded (map (bit_of values) (seen self.now.items.items)) }
+    {
+        let mut row: u64 = 0;
+        for window in self.items.as_slice() {
+            let half = half(values, window.first).rotate_right(window.turn as u32);
+            row += half & window.mask as u64;
+        }
+        row
+    }
+}
