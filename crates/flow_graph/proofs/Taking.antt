@@ -1,4 +1,4 @@
--- Where what graphs send is taken, and no more than is due, what is taken is what is due.
+-- If what graphs send is taken, and nothing that is not due, what is taken is what is due.
 use Rattle.std.proofs.Common.{◌≡◌, ◌↔◌, ℕ, zero, suc, List, [], ◌∷◌, length, Some, slice_get, refl, sym, ◌∙◌, ap, subst, arith}
 use Rattle.std.proofs.lemmas.Option.{none-some}
 use Rattle.language.specs.Rest.{Code}
@@ -22,7 +22,7 @@ use Rattle.flow_graph.specs.declared.graph.Graph.{Graph}
 use Rattle.flow_graph.proofs.Coding.{coded_zeros}
 use Rattle.flow_graph.proofs.Reaching.{reaches_reached, reached_reaches, sends_owed, owed_sends}
 
--- as many in one list as in another: there is a second item where there is a first
+-- two lists of the same length: there is a second item if there is a first
 pub there_too : {X Y : Type 0} (xs : List X) (ys : List Y) (q : ℕ) (x : X) → length xs ≡ length ys → slice_get xs q ≡ Some x
     → (y : Y) × (slice_get ys q ≡ Some y)
 there_too [] ys q x h e = absurd (none-some x e)

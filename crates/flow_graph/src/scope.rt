@@ -21,7 +21,7 @@ pub(crate) struct Scope<'a, N: Allocator> {
 }
 
 impl<'a, N: Allocator> Scope<'a, N> {
-    /// The bit of a variable: `None` where it is declared nowhere.
+    /// The bit of a variable: `None` if it is declared nowhere.
     pub(crate) fn bit(&self, x: &Name<N>) -> Option<u8>
         requires { IsSmall self.now }
         ensures bit { result ≡ bit_of_name (scope_seen self.now) (name_of x.now) }
@@ -41,7 +41,7 @@ impl<'a, N: Allocator> Scope<'a, N> {
         }
     }
 
-    /// The bit of a variable, alone: 0 where it is declared nowhere.
+    /// The bit of a variable, alone: 0 if it is declared nowhere.
     pub(crate) fn mask(&self, x: &Name<N>) -> Word
         requires { IsSmall self.now }
         ensures { result ≡ mask_of (bit_of_name (scope_seen self.now) (name_of x.now)) }

@@ -14,7 +14,7 @@ use Rattle.procedure_worker.specs.Own.{taken_in, posted_in}
 use Rattle.gather.specs.Reports.{posted_to}
 use Rattle.gather.proofs.Lists.{in_own, in_part, own_member}
 
--- where the images are none twice, nothing is
+-- if no image occurs twice, no item does
 pub none_twice_of_map : {X Y : Type 0} (f : X → Y) (xs : List X) → NoneTwice (map f xs) → NoneTwice xs
 none_twice_of_map f [] once = tt
 none_twice_of_map f (x ∷ xs) once = (λ m. once.0 (member_map f xs x m), none_twice_of_map f xs once.1)
@@ -92,7 +92,7 @@ module _ {M : Type 0} where
   with_post q (Taken of s m) es once senders same rest = rest
   with_post q (Completed of t) es once senders same rest = rest
 
-  -- where no pass posted a message twice, and each message has one sender, no message was posted twice to a mailbox
+  -- if no pass posted a message twice, and each message has one sender, no message was posted twice to a mailbox
   pub posted_once : (q : ℕ) (es : List (Entry M)) → ((s : ℕ) → NoneTwice (posted_in (own s es))) → HaveSenders q es
       → NoneTwice (posted_to (part q es))
   posted_once q [] once senders = tt

@@ -29,7 +29,7 @@ Standing p (state g fs) = AllStand p fs
 pub whole_stands : (b : Code) → IsRestOf b b
 whole_stands b = subst (IsRestOf b) (join_done b) (in_whole b done)
 
--- a procedure's number tells its body
+-- a procedure's number determines its body
 entered : (p : Program) (q : ℕ) (o : Option Routine) → slice_get p.routines q ≡ o → (P : State → Type 0) (F : Routine → State) →
     ((routine : Routine) → Stands p q routine.body → Standing p (F routine)) → AtRoutine o (λ routine. P (F routine))
     → (u : State) × Standing p u × P u

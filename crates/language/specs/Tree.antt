@@ -37,8 +37,8 @@ pub data Simple (V P L : Type 0) : Type 0 where
   leave_with : Expression V → Simple V P L
   call_for : V → P → List (Expression V) → Simple V P L
 
--- what a statement is marked with: its label, if it has one, and in a text its offset (of the label,
--- where it has one)
+-- what a statement is marked with: its label, if it has one, and in a text its offset (of the label, if it
+-- has one)
 pub record Mark (L : Type 0) : Type 0 where
   pub label : Option L
   pub at : ℕ

@@ -84,7 +84,8 @@ length-globals last xs =
     length-append (first ++ second ++ bits) last_names
     ∙ (ap (λ z. z + 2) (e ∙ ap₂ (λ x y. x + y) (d ∙ ap₂ (λ x y. x + y) a b) c) ∙ omega arith)
 
--- Where a bit's name, `stop__` and `bad__` stand among the names behind the globals' own: the bits from the highest on.
+-- Where a bit's name, `stop__` and `bad__` stand among the names after the globals' own: the bits from the highest
+-- on.
 number_bit : (m j i : ℕ) → 2 ≤ m → m ≤ 3 → suc (j + i) ≡ m
     → number_of (bit_name j).text (reverse (bit_names m) ++ last_names) ≡ i
 number_bit zero j i h h' e = absurd (omega arith)

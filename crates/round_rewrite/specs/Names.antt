@@ -47,7 +47,7 @@ names own = record {
   called = λ p. p;
 }
 
--- a procedure rewritten: its temporaries stand after its locals
+-- a procedure rewritten: its temporaries come after its locals
 abbrev pub rewritten_procedure : ℕ → Procedure → Procedure
 rewritten_procedure last procedure =
     let own = procedure.formals ++ procedure.locals in

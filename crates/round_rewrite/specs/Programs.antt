@@ -10,7 +10,7 @@ use Rattle.round_rewrite.specs.declared.rounds.Rounds.{Rounds}
 abbrev pub count_of : Rounds → ℕ
 count_of rounds = suc rounds.last
 
--- The fault that is answered for a tree: its rewriting for K rounds is too wide, and then it is, or memory ran
+-- The fault that is returned for a tree: its rewriting for K rounds is too wide, and then it is, or memory ran
 -- out, and then it is not.
 abbrev pub IsFaultOf : ℕ → Tree → RewriteFault → Type 0
 IsFaultOf rounds tree answer =

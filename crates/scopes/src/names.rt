@@ -11,7 +11,7 @@ use crate::search::earliest;
 use std::alloc::{AllocError, Allocator};
 use trees::{Name, Proc};
 
-/// The lesser of two offsets that may be there.
+/// The lesser of two optional offsets.
 #[tactic(auto, using(crate::proofs::Found::lesser_steps))]
 pub fn earlier(a: Option<u32>, b: Option<u32>) -> Option<u32>
     ensures { result ≡ earlier_of a b }
@@ -23,7 +23,7 @@ pub fn earlier(a: Option<u32>, b: Option<u32>) -> Option<u32>
     }
 }
 
-/// Puts references to names behind those that are there.
+/// Appends references to names to those that are there.
 pub fn lend<'a, A: Allocator>(
     names: &'a [Name<A>],
     mut into: Vec<&'a Name<A>, A>,

@@ -6,7 +6,7 @@ use language::Word;
 use path_sets::{DiagramEdges, PathSet};
 use std::alloc::{AllocError, Allocator, Global};
 
-/// Inserts the least multiples of a number, `count` of them; answers how many were new.
+/// Inserts the least multiples of a number, `count` of them; returns how many were new.
 fn insert_multiples<A: Allocator, S: PathSet<A>>(
     set: &mut S,
     spot: Spot,
@@ -20,7 +20,7 @@ fn insert_multiples<A: Allocator, S: PathSet<A>>(
     Ok(set.len().saturating_sub(before))
 }
 
-/// Inserts the valuations of a given number of bits with an even number of ones; answers how many were new.
+/// Inserts the valuations of a given number of bits with an even number of ones; returns how many were new.
 fn insert_even<A: Allocator, S: PathSet<A>>(
     set: &mut S,
     spot: Spot,

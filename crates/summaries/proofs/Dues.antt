@@ -76,7 +76,7 @@ pub same_summary : (s p a x : ℕ) (b y : Left) → summary_due s a b ≡ summar
 unfolding call_in left_in
 same_summary s p a x b y e = (sym (ap (call_in (call s a)) e), sym (ap (left_in b) e))
 
--- an entry is no summary
+-- an entry is not a summary
 pub apart : (from : Caller) (s a x : ℕ) (b : Left) → Entry from a ≡ summary_due s x b → ⊥
 unfolding IsSummary
 apart from s a x b e = subst IsSummary (sym e) tt

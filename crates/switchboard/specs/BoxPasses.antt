@@ -42,8 +42,8 @@ module _ {M W : Type 0} where
   }
 
   module _ (fits : W → ℕ → M → Type 0) where
-    -- what a pass has seen: it is sound; who knows the close has seen a closed order; and who made an abort knows of
-    -- one
+    -- what a pass has seen: it is sound; whoever knows the close has seen a closed order; and whoever made an abort
+    -- knows of one
     pub record IsSeen (world : W) (boxes : ℕ) (made : Bool) (seen : Seen M) : Type 0 where
       pub sound : IsSound fits (state_seen world boxes seen)
       pub close : seen.knows ≡ true → IsClosed seen.order

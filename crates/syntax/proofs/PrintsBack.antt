@@ -39,7 +39,7 @@ operator_shown and = refl
 operator_shown equal = refl
 operator_shown differs = refl
 
--- An operation without parentheses, where its operands are read at every level.
+-- An operation without parentheses, if its operands are read at every level.
 operation_shows : (o : Operator) (a b : Expression Name) → ((l : ℕ) → Shows (Reads l) unplaced_expression (operand_parts a) a)
     → ((l : ℕ) → Shows (Reads l) unplaced_expression (operand_parts b) b)
     → Shows (Reads 0) unplaced_expression (operation o (operand_parts a) (operand_parts b)) (two o a b)

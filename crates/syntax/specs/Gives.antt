@@ -7,7 +7,7 @@ use Rattle.syntax.specs.Parser.{Parser}
 use Rattle.syntax.specs.declared.fault.ReadFault.{ReadFault}
 use Rattle.syntax.specs.declared.fault.ReadFault.TheVariants as fault
 
--- Nothing is given where a token is refused; want of memory says nothing; no other fault comes.
+-- Nothing is given if a token is refused; lack of memory says nothing; no other fault comes.
 abbrev pub RefusesTokens : {Y : Type 0} → ReadFault → Option Y → Type 0
 RefusesTokens (fault.Syntax at) given = given ≡ None
 RefusesTokens fault.Memory given = Unit {0}

@@ -69,7 +69,7 @@ pub record ProcedureInGrammar (procedure : Procedure) : Type 0 where
 abbrev pub ThreadInGrammar : ThreadLine → Type 0
 ThreadInGrammar line = IsId line.name
 
--- A tree is one of the grammar where its names are ids, it has a procedure and a thread line at least, and its parts
+-- A tree is one of the grammar if its names are ids, it has a procedure and a thread line at least, and its parts
 -- are of the grammar.
 pub record InGrammar (tree : Tree) : Type 0 where
   pub globals : AreIds tree.globals

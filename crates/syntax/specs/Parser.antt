@@ -40,7 +40,7 @@ run step (suc n) i ts = step (run step n) i ts
 unfoldable pub fix : {I X : Type 0} → ((I → Parser X) → I → Parser X) → I → Parser X
 fix step i ts = run step (suc (length ts)) i ts
 
--- this again and again, while the test holds of the tokens
+-- this again and again, while the test holds for the tokens
 abbrev pub many_step : {X : Type 0} → (List Tok → Bool) → Parser X → (Unit {0} → Parser (List X)) → Unit {0} → Parser (List X)
 many_step test parser rec u ts = cond (test ts) ((parser >>= λ x. rec u >>= λ xs. give (x ∷ xs)) ts) (Some ([], ts))
 

@@ -10,7 +10,7 @@ use Rattle.tokens.specs.declared.vocabulary.Kind.TheVariants as kind
 use Rattle.tokens.specs.Parts.{Part, shown, space, line, fixed, text_of}
 use Rattle.syntax.specs.Grammar.{joined}
 
--- The text goes on with these parts, unless memory runs out.
+-- The text continues with these parts, unless memory runs out.
 abbrev pub Prints : {A X E : Type 0} → Result X E → String A → String A → List Part → Type 0
 Prints result old new parts = IfOk result (λ _. string_bytes new ≡ string_bytes old ++ text_of parts)
 
@@ -84,7 +84,7 @@ simple_parts (leave_with expression) = ended (fixed kind.Return ∷ space ∷ ex
 simple_parts (call callee es) = ended (call_parts callee es)
 simple_parts (call_for target callee es) = ended (name_parts target ++ (space ∷ fixed kind.Assign ∷ space ∷ call_parts callee es))
 
--- The statement's first line begins with its label, a colon and a space, where it has a label.
+-- The statement's first line begins with its label, a colon and a space, if it has a label.
 abbrev pub label_parts : Option Name → List Part
 label_parts None = []
 label_parts (Some label) = name_parts label ++ (fixed kind.Colon ∷ space ∷ [])

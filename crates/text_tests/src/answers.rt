@@ -106,7 +106,7 @@ fn number_of_fault<A: Allocator + Copy>(alloc: A, bytes: &[u8]) -> u32 {
     }
 }
 
-// The lengths of the fronts of a text that are read. A front that is not read has to be refused for its syntax, at a
+// The lengths of the fronts of a text that are read. A front that is not read must be refused for its syntax, at a
 // place in it.
 fn show_fronts<A: Allocator + Copy>(alloc: A, page: &mut Page<A>, bytes: &[u8]) {
     for length in 0..=bytes.len() {
@@ -128,7 +128,8 @@ fn show_front<A: Allocator + Copy>(alloc: A, page: &mut Page<A>, bytes: &[u8]) {
     page.put(" ");
 }
 
-// What is printed for a text, where it is printed so or memory is wanted whichever allocation is refused.
+// What is printed for a text, if, whichever allocation is refused, it is printed the same or memory is
+// lacking.
 fn refused<A: Allocator + Copy>(alloc: A, bytes: &[u8]) -> Result<String<A>, AllocError> {
     let mut page = Page::new(alloc);
     show_text(alloc, &mut page, View::Printed, bytes);

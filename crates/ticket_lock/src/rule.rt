@@ -1,4 +1,4 @@
-//! What a table's rule has to say so that a lock may stand at a place of the table.
+//! What a table's rule has to say so that a lock may be at a place of the table.
 ghost use Rattle.std.specs.Prelude.{ℕ};
 ghost use Rattle.ticket_lock.specs.declared.hand.Hand.{Hand};
 ghost use Rattle.ticket_lock.specs.Turns.{Kind, Opens};
@@ -20,7 +20,7 @@ impl At for Brand {
 }
 
 /// A rule that holds the lock's rule at each of its places: a place is a word, at which the count of values left
-/// stands, with the next ticket in the word behind it, and a slot, in which the value lies.
+/// stands, with the next ticket in the word after it, and a slot, in which the value lies.
 pub trait LockRule<T, V, K>: TableRule<Option<T>, V, K> {
     ghost is_place: { K → ℕ → ℕ → Type 0 };
 

@@ -1,4 +1,4 @@
--- At the front of a text stands one gap or one token at most.
+-- At the front of a text there is at most one gap or token.
 use Rattle.std.proofs.Common.{◌≡◌, ℕ, ◌<◌, Bool, true, false, not, ◌&&◌, ◌||◌, List, [], ◌∷◌, ◌++◌, length, refl, sym, subst, arith, Some}
 use Rattle.std.specs.Prelude.{option_map, unwrap_or, ◌==◌}
 use Rattle.std.proofs.lemmas.Bool.Decides.{nat_tests}
@@ -67,7 +67,7 @@ pub gap_begins : (w r : List ℕ) → IsGap w r → begins is_gap_byte w ≡ tru
 gap_begins w r (blank e) = rw e refl
 gap_begins w r (comment pass stop) = refl
 
--- Where a gap stands, no token does.
+-- If there is a gap at the front, there is no token.
 pub token_no_gap : (k : Kind) (v r w s : List ℕ) → v ++ r ≡ w ++ s → IsToken k v r → IsGap w s → ⊥
 token_no_gap k v r w s e (word is stop) gap =
     apart is_word_byte is_gap_byte word_no_gap (v ++ r) (begins-append _ v r (word_begins k v is))

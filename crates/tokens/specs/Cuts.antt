@@ -13,7 +13,7 @@ is_blank b = b == 32 || b == 9 || b == 10 || b == 13
 abbrev pub is_in_line : ℕ → Bool
 is_in_line b = not (b == 10)
 
--- The test does not hold of the byte that comes next, if one does.
+-- The test does not hold for the byte that comes next, if one does.
 abbrev pub Stops : (ℕ → Bool) → List ℕ → Type 0
 Stops test [] = Unit {0}
 Stops test (b ∷ bytes) = test b ≡ false

@@ -1,4 +1,4 @@
--- What stands in a pass's own list, and what may come behind a state of the board.
+-- What stands in a pass's own list, and what may come after a state of the board.
 use Rattle.std.proofs.Common.{◌≡◌, inl, inr, ℕ, ◌<◌, List, [], ◌∷◌, length, Contains, refl, sym, ap, ◌∙◌, subst}
 use Rattle.std.proofs.lemmas.Bool.{cases_eq}
 use Rattle.post_ledger.specs.declared.event.Event.{Event}
@@ -59,7 +59,7 @@ module _ {M : Type 0} where
       next (event.Take s m) h k same = same
       next (event.Done t) h k same = ap (λ l. t ∷ l) same
 
-  -- a job stays one where the own list stays
+  -- a job stays a job if the own list stays
   pub job_stays : (p job : ℕ) (a b : List (Entry M)) → own p a ≡ own p b → HasJob p job a → HasJob p job b
   job_stays p job a b same has = (
     subst (λ l. job < length l) (takes_own p a ∙ (ap (λ l. takes (part p l)) same ∙ sym (takes_own p b))) has.0,
@@ -73,7 +73,7 @@ module _ {M W : Type 0} (fits : W → ℕ → M → Type 0) where
   Fit w (entry.Taken of s m) = Unit {0}
   Fit w (entry.Completed of t) = Unit {0}
 
-  -- what an entry needs that it may come after a state
+  -- what an entry needs to come after a state
   pub record Allowed (e : Entry M) (x : BoardState M W) : Type 0 where
     pub near : mailbox_of e < x.boxes
     pub follows : MayFollow (part (mailbox_of e) x.order) (event_of e)
