@@ -38,7 +38,7 @@ impl<A: Allocator> Letters for LockPerBox<Letter, (), A> {
     type Heap = A;
 }
 
-// Takes a message, which has to be there.
+// Takes a message, which must be there.
 pub(crate) fn message<R: Wait + Abort, B: Letters>(
     rt: &R,
     board: &B,
@@ -59,7 +59,7 @@ pub(crate) fn message<R: Wait + Abort, B: Letters>(
     }
 }
 
-// Takes a message, which has to be this one.
+// Takes a message, which must be this one.
 pub(crate) fn takes<R: Wait + Abort, B: Letters>(
     rt: &R,
     board: &B,

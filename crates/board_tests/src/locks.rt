@@ -91,7 +91,7 @@ fn finish<A: Allocator>(lock: Lock<A>, lanes: Vec<MarkLane<A>, A>) -> Marks<A>
     lock.close(lanes.into_iter())
 }
 
-// Draws a ticket, which has to have this number.
+// Draws a ticket, which must have this number.
 fn draw<R: Abort, A: Allocator>(
     rt: &R,
     lock: &Lock<A>,
@@ -124,7 +124,7 @@ fn look_early<R: Abort, A: Allocator>(
     }
 }
 
-// Looks in turn, adds a mark and leaves. So many marks have to be there before.
+// Looks in turn, adds a mark and leaves. A given number of marks must be there before.
 fn serve<R: Abort, A: Allocator>(
     rt: &R,
     lock: &Lock<A>,

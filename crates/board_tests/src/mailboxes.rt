@@ -28,7 +28,7 @@ fn posts<R: Abort, A: Allocator>(rt: &R, mailbox: &mut Mailbox<u8, A>, sender: u
     assert_eq!(rt; answer, Ok(()));
 }
 
-// Takes the message, which has to be this one with this number.
+// Takes the message, which must be this one with this number.
 fn takes<R: Abort, A: Allocator>(rt: &R, mailbox: &mut Mailbox<u8, A>, number: u64, message: u8)
     ensures { TakesOldest mailbox.old mailbox.new message }
 {
@@ -36,7 +36,7 @@ fn takes<R: Abort, A: Allocator>(rt: &R, mailbox: &mut Mailbox<u8, A>, number: u
     assert!(rt; answer == Some((number, message)));
 }
 
-// The whole history has to be this, and legal.
+// The whole history must be this, and legal.
 fn has<R: Abort, A: Allocator>(rt: &R, mailbox: &Mailbox<u8, A>, wanted: &[Event<u8>]) {
     let history = mailbox.history();
     assert!(rt; history == wanted && legal(history));

@@ -54,7 +54,7 @@ module _ {A : Type 0} (p : Program) (fit : ArgumentsFit p) (q : ℕ) (graph : Gr
       let (m, owed, e) = owed_sends p q graph is M K right fit tells_of order s k h in
       (m, owed_due p q M (λ m d. d.0) s m owed, e)
 
--- who owes a message has an entry
+-- whoever owes a message has an entry
 owes_entry : (p : Program) (q : ℕ) (M : Message → Type 0) (s : ℕ) (m : Message) → Owes p q M s m → (k : Message) × M k
 owes_entry p q M _ _ (by_messages.asks a v e r s reached calls) = let (from, is) = reached_entry p q M a v r reached in (entry from a, is)
 owes_entry p q M _ _ (by_messages.tells a v s is reached) = (entry (caller s) a, is)

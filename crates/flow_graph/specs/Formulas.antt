@@ -43,14 +43,14 @@ picks_worth picks values = case_worth (slice_get picks.cases.items (coded (map (
 abbrev pub AreTruthTablesOf : {A : Type 0} → Picks A → Expression ℕ → Type 0
 AreTruthTablesOf picks expression = (values : ℕ) → picks_worth picks values ≡ worth (bit_of values) expression
 
--- what the formula answers for these values: the table's output in their row, that of the table for the picked bits'
+-- the value of the formula for these values: the table's output in their row, that of the table for the picked bits'
 -- row, or what its steps leave on the stack
 abbrev pub says : {A : Type 0} → Formula A → ℕ → Bool
 says (Tabled table) values = table_worth table values
 says (Picked picks) values = picks_worth picks values
 says (Code p) values = top (after_steps (bit_of values) p.steps.items [])
 
--- For every valuation of as many globals as the scope has, the formula answers the value of the expression.
+-- For every valuation of as many globals as the scope has, the formula has the value of the expression.
 abbrev pub FormulaSays : {A : Type 0} → Formula A → Scope → Expression Name → Type 0
 FormulaSays formula scope expression =
     (globals places : List Bool) → length globals ≡ length scope.globals →

@@ -64,7 +64,7 @@ pub fn what_a_graph_reaches_has_its_widths<A: Allocator>()
         → (n < length (flows_of graph)) × IsNumberOfValuation p q a × IsNumberOfValuation p q v }
 {}
 
-/// By messages of the widths of its procedure, a graph sends only messages of the widths of who they are for.
+/// By messages of the widths of its procedure, a graph sends only messages of the widths of their receivers.
 pub fn what_a_graph_sends_has_its_widths<A: Allocator>()
     ensures { (p : Program) (q : ℕ) (graph : Graph A) (ks : List NumberedMessage) → ArgumentsFit p
         → IsInTextOrder p

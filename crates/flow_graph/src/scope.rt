@@ -1,4 +1,4 @@
-//! Where the variables of a procedure stand in a valuation.
+//! Where the variables of a procedure are in a valuation.
 
 ghost use Rattle.std.specs.Prelude.{◌≡◌, ◌<◌, IfSome};
 ghost use Rattle.trees.specs.Trees.{name_of};
@@ -10,8 +10,8 @@ use language::Word;
 use std::alloc::Allocator;
 use trees::{Name, Proc, declares, number_of_name};
 
-/// The names in whose scope the statements of a procedure stand: no more variables than a valuation has
-/// places, and the procedures.
+/// The names in the scope of the statements of a procedure: no more variables than a valuation has places,
+/// and the procedures.
 #[derive(Drop)]
 pub(crate) struct Scope<'a, N: Allocator> {
     pub(crate) globals: &'a [Name<N>],

@@ -41,7 +41,7 @@ module _ {X : Type 0} where
   take_whole (x ∷ xs) zero h = absurd (omega (arith, h))
   take_whole (x ∷ xs) (suc n) h = ap (λ l. x ∷ l) (take_whole xs n (omega (arith, h)))
 
--- if R holds for the items of two lists by their places, it holds so with one more item of the second, if it
+-- if R holds for the items of two lists by their places, it holds with one more item of the second, if it
 -- holds for that one
 pub more_by_place : {X Y : Type 0} (R : ℕ → X → Y → Type 0) (all : List X) (ys : List Y) (y : Y) (n : ℕ) → length ys ≡ n
     → ((a : X) → slice_get all n ≡ Some a → R n a y)
@@ -74,7 +74,7 @@ behind_more is xs z behind last i k x y near at_i at_k so =
       ]
     ]
 
--- if R holds for each item by its place, it holds so with one more item, if it holds for that one
+-- if R holds for each item by its place, it holds with one more item, if it holds for that one
 pub each_more : {X : Type 0} (R : ℕ → X → Type 0) (xs new : List X) (z : X) (n : ℕ) → new ≡ xs ++ z ∷ [] → length xs ≡ n
     → R n z → ((i : ℕ) (x : X) → slice_get xs i ≡ Some x → R i x) → (i : ℕ) (x : X) → slice_get new i ≡ Some x → R i x
 each_more R xs new z n is many last each i x at =

@@ -53,7 +53,7 @@ sends_own : {A : Type 0} (graph : Graph A) (c : ℕ) (M : NumberedMessage → Ty
 sends_own graph c M n s k (asks a m v s' e m' flow reached at enters) = refl
 sends_own graph c M n s k (tells a v s' took reached) = refl
 
--- what stands in a list that is not empty
+-- what is in a list that is not empty
 some_member : {X : Type 0} (xs : List X) (n : ℕ) → n < length xs → (x : X) × Member x xs
 some_member [] n h = absurd (omega (arith, h))
 some_member (x ∷ xs) n h = (x, inl refl)
@@ -113,7 +113,7 @@ module _ {G A S : Type 0} (members : S → List Triple) (graphs : Graphs G) (lim
             subst (λ l. NoneTwice (posted_in l)) (sym (own_else s (Posted to boxes m 0) rest other ∙ nothing)) tt
       ]
 
-  -- nobody posted a message twice to one mailbox
+  -- no pass posted a message twice to one mailbox
   own_once : (s : ℕ) → NoneTwice (posted_in (own s settled.order))
   own_once s = elim (cases_lt s boxes) [
     | inl near ↦

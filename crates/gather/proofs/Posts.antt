@@ -125,7 +125,7 @@ module _ {M : Type 0} where
   takes_there (event.Done t ∷ h) s m (inl is) = let no : ⊥ = cc in absurd no
   takes_there (event.Done t ∷ h) s m (inr there) = takes_there h s m there
 
-  -- what a pass took stands among the Takes of its mailbox
+  -- what a pass took is among the Takes of its mailbox
   pub taken_part : (q : ℕ) (es : List (Entry M)) (m : M) → Member m (taken_in (own q es))
       → (s : ℕ) × Member (s, m) (takes (part q es))
   taken_part q es m h =
@@ -134,7 +134,7 @@ module _ {M : Type 0} where
       let event = in_part es (Taken of s m) there in
       (s, subst (λ z. Member (s, m) (takes (part z es))) made (takes_there (part of es) s m event))
 
-  -- nobody made an entry of an order in which none is by this maker
+  -- this maker made no entry of an order in which none is by it
   pub own_nothing : (s : ℕ) (es : List (Entry M)) → ((e : Entry M) → Member e es → maker_of e ≢ s) → own s es ≡ []
   own_nothing s [] none = refl
   own_nothing s (e ∷ es) none =

@@ -11,20 +11,20 @@ use Rattle.gather.specs.declared.jobs.Came.TheVariants.{Run, Declined}
 abbrev pub AllCanRun : {J : Type 0} → (J → Type 0) → List J → Type 0
 AllCanRun {J} can_run jobs = (i : ℕ) (j : J) → slice_get jobs i ≡ Some j → can_run j
 
--- what a job gave back
+-- what a job returned
 abbrev pub back_of : {B : Type 0} → Came B → B
 back_of (Run b) = b
 back_of (Declined b none) = b
 
--- the two parts of a pair that a job gave back
+-- the two parts of a pair that a job returned
 abbrev pub first_of : {P O : Type 0} → Came (P × O) → P
 first_of c = (back_of c).0
 
 abbrev pub second_of : {P O : Type 0} → Came (P × O) → O
 second_of c = (back_of c).1
 
--- This is the result of the job with number n: it was run, and gave back what it gives then; or it was declined,
--- and gave back what it gives then, with evidence that it gets no thread.
+-- This is the result of the job with number n: it was run, and returned what it returns when run; or it was
+-- declined, and returned what it returns when declined, with evidence that it gets no thread.
 abbrev pub CameOf : {B : Type 0} → (B → Type 0) → (B → Type 0) → ℕ → Came B → Type 0
 CameOf runs declines n (Run b) = runs b
 CameOf runs declines n (Declined b none) = declines b × (none.first ≤ n)
@@ -43,7 +43,7 @@ pub record HaveCome {J B : Type 0} (runs declines : J → B → Type 0) (jobs : 
   pub behind : (i k : ℕ) (c d : Came B) → i ≤ k → slice_get cames i ≡ Some c → slice_get cames k ≡ Some d
       → IsDeclined c → IsDeclined d
 
--- the job with this number gives this back
+-- the job with this number returns this
 abbrev pub OfJob : {J B : Type 0} → List J → (J → B → Type 0) → ℕ → B → Type 0
 OfJob {J} jobs gives n b = (j : J) → slice_get jobs n ≡ Some j → gives j b
 

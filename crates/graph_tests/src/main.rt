@@ -2,7 +2,7 @@
 //! the standard output.
 //!
 //! A line is `ROUNDS | QUESTION | TEXT`: the text is checked and rewritten for K rounds, and the question is put
-//! to the flow graphs of the result. A line that begins with `#` is written as it stands.
+//! to the flow graphs of the result. A line that begins with `#` is written as it is.
 #![tactic(auto)]
 
 mod answers;

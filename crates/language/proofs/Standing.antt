@@ -1,4 +1,4 @@
--- Each frame stands at a rest of its procedure's body, and steps keep that.
+-- Each frame is at a rest of its procedure's body, and steps keep that.
 use Rattle.std.proofs.Common.{◌≡◌, ℕ, zero, suc, true, false, List, [], ◌∷◌, Option, Some, None, slice_get, inl, inr, refl, sym, ap, subst}
 use Rattle.std.proofs.Common.{Bool}
 use Rattle.language.specs.Tree.{skip, assign, assert, assume, goto, leave, call, leave_with, call_for, done, one, choose, loop}

@@ -18,7 +18,7 @@ abbrev pub is_declared : List ℕ → List Name → Bool
 is_declared text [] = false
 is_declared text (name ∷ names) = cond (same_text text name.text) true (is_declared text names)
 
--- the names in whose scope a procedure's statements stand: its formals, then its locals, and the globals
+-- the names in scope for a procedure's statements: its formals, then its locals, and the globals
 pub record Scope : Type 0 where
   pub globals : List Name
   pub locals : List Name

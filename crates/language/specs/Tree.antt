@@ -3,7 +3,7 @@
 -- procedure and a label are written as.
 use Rattle.std.specs.Prelude.{ℕ, Bool, List, Option}
 
--- a name as it stands in a text: its bytes, and the offset of the first
+-- a name as it occurs in a text: its bytes, and the offset of the first
 pub record Name : Type 0 where
   pub text : List ℕ
   pub at : ℕ

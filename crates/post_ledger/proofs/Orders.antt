@@ -51,7 +51,7 @@ module _ {M : Type 0} where
   completed-append [] b = omega arith
   completed-append (e ∷ a) b = omega (arith, completed-append a b)
 
-  -- an entry stands in the history of its mailbox
+  -- an entry is in the history of its mailbox
   pub part_here : (q : ℕ) (e : Entry M) (es : List (Entry M)) → mailbox_of e ≡ q → part q (e ∷ es) ≡ event_of e ∷ part q es
   part_here q e es is = rw (eq-eqb (mailbox_of e) q is) refl
 

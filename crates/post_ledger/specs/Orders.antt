@@ -45,7 +45,7 @@ module _ {M : Type 0} where
   completed [] = 0
   completed (entry ∷ entries) = length (dones (event_of entry ∷ [])) + completed entries
 
-  -- the pass has the job of its Take with this number: the Take stands in the order, and no Done of it does
+  -- the pass has the job of its Take with this number: the Take is in the order, and no Done of it is
   abbrev pub HasJob : ℕ → ℕ → List (Entry M) → Type 0
   HasJob pass job order = (job < length (takes (part pass order))) × (Contains (dones (part pass order)) job → ⊥)
 

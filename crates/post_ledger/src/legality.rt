@@ -67,7 +67,7 @@ fn with_take<M: Copy>(taken: usize, event: Event<M>) -> usize
 }
 
 /// Whether the events are a legal history: each Take has the sender and message of the Post with its number,
-/// which stands before it, and each Done names a Take before it that no Done before names. Takes no memory;
+/// which comes before it, and each Done names a Take before it that no Done before names. Takes no memory;
 /// its time grows with the square of the length.
 pub fn legal<M: Copy + Eq>(history: &[Event<M>]) -> bool
     requires { (a b : M) → M.eq a b ≡ true → a ≡ b }

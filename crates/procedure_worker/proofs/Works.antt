@@ -475,7 +475,7 @@ module _ {G : Type 0} (b : Start G) where
           has = job_of_pass t job still.pass (job_new FitsIn s t job d m);
         }
 
-    -- The table was given the message, and so answers.
+    -- The table was given the message, with this result.
     given_stands : {P : Type 0} (d : Due) {T : Type 0} (answer : Result T TableFault) (job : ℕ) (s : Sight Due (Graphs G))
         (w : Worker P G A S) (y : Table G A S) →
         IsTaking b members job d s w → TableTakes members d answer w.table y

@@ -1,4 +1,4 @@
--- What a worker knows while it works, and what it gives back.
+-- What a worker knows while it works, and what it returns.
 use Rattle.std.specs.Prelude.{◌≡◌, ◌≢◌, ◌⊎◌, ◌↔◌, ◌<◌, ◌++◌, ◌∷◌, ℕ, true, false, IsSome, List, [], Option}
 use Rattle.std.specs.Prelude.{Some, None, length, map}
 use Rattle.atomic_table.specs.Seated.{TableId}
@@ -221,7 +221,8 @@ module _ {G : Type 0} (b : Start G) where
         pub sent : HasSent s w.table w.takes.items w.posts.items
         pub has : HasJob b.number job s.seen.order
 
-      -- The worker has a job, and all that its table answered is posted but this message, which is due there.
+      -- The worker has a job, and all that its table answered is posted except this message, which is due
+      -- there.
       pub record IsSending (job to : ℕ) (d : Due) (s : Sight Due (Graphs G)) (w : Worker P G A S) : Type 0 where
         pub goes : Goes s w.table w.takes.items w.posts.items
         pub but : mails_of w.posts.items ++ mail to d ∷ [] ≡ answers_of w.table

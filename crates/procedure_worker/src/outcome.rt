@@ -1,4 +1,4 @@
-//! What a worker gives back.
+//! What a worker returns.
 use crate::room::NoRoom;
 use path_sets::PathSet;
 use std::alloc::Allocator;
@@ -16,8 +16,8 @@ pub enum End {
     Failed(Cause),
 }
 
-/// What a worker gives back: its table, how it ended, evidence that memory was refused, and the messages that its
-/// pass took and posted, each in order; a message posted stands with the number of its mailbox.
+/// What a worker returns: its table, how it ended, evidence that memory was refused, and the messages that its
+/// pass took and posted, each in order; a message posted is paired with the number of its mailbox.
 #[derive(Drop)]
 pub struct Outcome<'g, G: Allocator, A: Allocator, S: PathSet<A>> {
     /// None if the worker had no thread.

@@ -115,7 +115,7 @@ impl<R: Wait + Threads + Sync> Trial<'_, R> {
         }
     }
 
-    /// Writes what comes of `number` runs over each board with each set.
+    /// Writes the results of `number` runs over each board with each set.
     fn times(&self, out: &mut String, number: u64) -> Result<(), AllocError> {
         for _ in 0..number {
             self.with_all(out)?;

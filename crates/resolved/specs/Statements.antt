@@ -28,7 +28,7 @@ statements_of_all [] = []
 statements_of_all (procedure ∷ procedures) = statements_of procedure.body ++ statements_of_all procedures
 
 -- the variables of an expression, of a right side, of lists of them, and of an optional right side, each as often
--- as it stands there
+-- as it occurs there
 abbrev pub variables_of : Expression Name → List Name
 variables_of (const truth) = []
 variables_of (var variable) = variable ∷ []

@@ -25,7 +25,7 @@ fn shown<T: Display>(host: Global, value: &T) -> Result<String, AllocError> {
     format!(in host; "{value}")
 }
 
-/// Whether a line stands in a text.
+/// Whether a line occurs in a text.
 fn has_line(text: &str, line: &str) -> bool {
     for each in text.split('\n') {
         if each == line {
@@ -52,7 +52,7 @@ fn printed_again<A: Allocator + Copy>(
     }
 }
 
-/// `rewrite` and `holds`: the rewriting as it is printed, and whether the line stands in it.
+/// `rewrite` and `holds`: the rewriting as it is printed, and whether the line occurs in it.
 fn of_printed<A: Allocator + Copy>(
     host: Global,
     alloc: A,

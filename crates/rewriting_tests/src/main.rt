@@ -15,7 +15,7 @@ use refusals::refused_in_turn;
 use std::alloc::{AllocError, Global};
 use std::io;
 
-/// A text with the same words several times in it: what stands before them, `COUNT WORDS`, and what comes after.
+/// A text with the same words several times in it: what comes before them, `COUNT WORDS`, and what comes after.
 fn repeated(
     alloc: Global,
     before: &str,

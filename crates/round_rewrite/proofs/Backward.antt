@@ -135,13 +135,13 @@ module _ (setting : Setting) (now : Moment setting.p.globals setting.last) (m : 
       (value (const true) ∷ value (const true) ∷ []))
       (one plain leave t)
 
-  -- what is so after a jump is so a step later
+  -- what holds after a jump holds a step later
   at_rest_later : (N k : ℕ) (o : Option Code) (F : Code → State) → N ≡ suc k → AtRest o (λ u. PlainAfter w k (F u) Q)
       → AtRest o (λ u. Later w N (F u) Q)
   at_rest_later N k None F e a = absurd a
   at_rest_later N k (Some u) F e a = later_now w Q (F u) N k e a
 
-  -- what is so after a call is so a step later
+  -- what holds after a call holds a step later
   at_routine_later : (N k : ℕ) (o : Option Routine) (F : Routine → State) → N ≡ suc k → AtRoutine o (λ u. PlainAfter w k (F u) Q)
       → AtRoutine o (λ u. Later w N (F u) Q)
   at_routine_later N k None F e a = absurd a

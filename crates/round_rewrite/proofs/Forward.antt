@@ -178,7 +178,7 @@ module _ (setting : Setting) (now : Moment setting.p.globals setting.last) (m : 
         )
 
     module _ (R : State → Type 0) where
-      -- what has to be shown of the states that the step leads to
+      -- what must be shown of the states that the step leads to
       abbrev pub Next : Type 0
       Next = (g' : List Bool) (bs : List Both) → length g' ≡ p.globals → GoodStack p last bs → R (state g' (map source bs))
           → Leads w (state (turned now g') (stack p last bs m)) Q

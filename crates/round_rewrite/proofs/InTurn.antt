@@ -5,7 +5,7 @@ use Rattle.round_rewrite.proofs.Pushed.{numbers_next}
 
 module _ {K T : Type 0} (parts : List K → T → T) (part : K → T → T) (none : (t : T) → parts [] t ≡ t)
     (more : (k : K) (ks : List K) (t : T) → parts (k ∷ ks) t ≡ part k (parts ks t)) where
-  -- the last part stands right in front of the rest
+  -- the last part comes directly before the rest
   behind : (ks : List K) (k : K) (t : T) → parts (ks ++ k ∷ []) t ≡ parts ks (part k t)
   behind [] k t = more k [] t ∙ (ap (part k) (none t) ∙ sym (none (part k t)))
   behind (j ∷ ks) k t = more j (ks ++ k ∷ []) t ∙ (ap (part j) (behind ks k t) ∙ sym (more j ks (part k t)))

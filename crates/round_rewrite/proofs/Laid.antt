@@ -140,7 +140,7 @@ pub record Moment (n last : ℕ) : Type 0 where
 abbrev pub globals_at : {n last : ℕ} (now : Moment n last) → List Bool
 globals_at {n} {last} now = lay now.C now.S (bits_of last now.q false now.b)
 
--- the same globals, but that the round's row is h
+-- the same globals, except that the round's row is h
 abbrev pub turned : {n last : ℕ} (now : Moment n last) → List Bool → List Bool
 turned {n} {last} now h = lay (with_row now.C now.q h) now.S (bits_of last now.q false now.b)
 

@@ -65,7 +65,7 @@ module _ (t : Tree) (gs ps : List Name) (last : ℕ) (gs_free : AreFree gs) (dis
   abbrev P : Naming Place Place ℕ ℕ
   P = places n last 0
 
-  -- the names' copies and guesses stand at those of the places
+  -- the names' copies and guesses are at those of the places
   abbrev Matches : List Name → List Place → Type 0
   Matches [] [] = Unit {0}
   Matches [] (y ∷ ys) = ⊥

@@ -87,7 +87,7 @@ moment {n} {last} {S} {post} r b = record {
   within = (let c : length r.pre + length post ≡ last = r.zip.count in omega arith);
 }
 
--- Where the rewritten program stands in a thread: every frame at the start of its rest, or a caller after its call,
+-- Where the rewritten program is in a thread: every frame at the start of its rest, or a caller after its call,
 -- whose global has still to get the value, while in the source the frame called is finished.
 pub data Stand : Type 0 where
   level : List Both → Stand
@@ -106,7 +106,7 @@ module _ (setting : Setting) (S : List (List Bool)) (m : Code) (Q : State → Ty
   abbrev Seated : List (List Bool) → Type 0
   Seated post = Seat p.globals last S post
 
-  -- where a run of the rewritten program stands
+  -- where a run of the rewritten program is
   abbrev put_stand : Stand → List Frame
   put_stand (level bs) = stack p last bs m
   put_stand (landing a d i t bs) =
@@ -139,7 +139,7 @@ module _ (setting : Setting) (S : List (List Bool)) (m : Code) (Q : State → Ty
     pub turns : ((bad ≡ b) × ((s' : List Frame) × Turns p (r.g ∷ post) s (g' ∷ post') s'))
         ⊎ ((bad ≡ true) × FailTurns p (r.g ∷ post) s (g' ∷ post'))
 
-  -- what is claimed of runs of fewer than f steps, from where the top frame stands at the start of its rest
+  -- what is claimed of runs of fewer than f steps, from where the top frame is at the start of its rest
   abbrev Rec : ℕ → Type 0
   Rec f = (N : ℕ) → N < f → (post : List (List Bool)) (r : Seated post) (b : Bool) (s : Stand) → GoodStand s
       → PlainAfter w N (state (globals_at (moment r b)) (put_stand s)) Q → Ends N post r b (map source (frames_of s))
@@ -391,7 +391,7 @@ module _ (setting : Setting) (S : List (List Bool)) (m : Code) (Q : State → Ty
       level_back a None t bs e h good run = top_back a t bs h good run
       level_back a (Some x) t bs e h good run = cc
 
-      -- a run from where the thread stands
+      -- a run from where the thread is
       stand_back : (s : Stand) → GoodStand s → PlainAfter w N (state (globals_at now) (put_stand s)) Q
           → Ends N post r b (map source (frames_of s))
       stand_back (level []) good run = ended N post r (length r.pre) false b [] run

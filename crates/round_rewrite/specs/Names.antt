@@ -7,7 +7,7 @@ use Rattle.language.specs.Step.{Program}
 use Rattle.round_rewrite.specs.Limits.{last_of, round_bits}
 use Rattle.round_rewrite.specs.Table.{Naming, numbers, temporaries, rewritten, main, globals}
 
--- a name that stands in no text
+-- a name that occurs in no text
 abbrev pub named : List ℕ → Name
 named text = record { text = text; at = 0 }
 

@@ -1,4 +1,4 @@
--- What callers see of a number of rounds, and of the fault that stands in place of a rewritten program.
+-- What callers see of a number of rounds, and of the fault that is returned instead of a rewritten program.
 use Rattle.std.specs.Prelude.{ℕ, suc, ◌≡◌, ◌⊎◌}
 use Rattle.language.specs.Tree.{Tree}
 use Rattle.round_rewrite.specs.Narrow.{IsNarrowFor}

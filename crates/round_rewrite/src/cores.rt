@@ -22,7 +22,7 @@ pub fn constant<A: Allocator>(bit: bool) -> Rhs<A>
     Rhs::Value(Expr::Const(bit))
 }
 
-/// Appends a name that stands in no text to others.
+/// Appends a name that occurs in no text to others.
 pub fn push_name<A: Allocator + Copy>(
     alloc: &A,
     text: &str,

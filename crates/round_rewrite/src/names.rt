@@ -9,7 +9,7 @@ ghost use Rattle.round_rewrite.specs.Limits.{most_rounds};
 use std::alloc::{AllocError, Allocator};
 use trees::Name;
 
-/// A name that stands in no text.
+/// A name that occurs in no text.
 pub fn fixed<A: Allocator>(alloc: A, text: &str) -> Result<Name<A>, AllocError>
     ensures { IfOk result (λ n. name_of n ≡ named text.now) }
 {

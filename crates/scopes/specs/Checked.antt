@@ -5,7 +5,7 @@ use Rattle.scopes.specs.declared.fault.ScopeFault.{ScopeFault}
 use Rattle.scopes.specs.declared.fault.ScopeFault.TheVariants as fault
 use Rattle.scopes.specs.Faults.{Undeclared, DeclaredTwice, WrongCount, BadThread, BadLabel, Reserved, TooMany}
 
--- the fault stands in the tree at its place; lack of memory is no fault of a tree
+-- the fault stands in the tree at its place; lack of memory is not a fault of a tree
 abbrev pub FaultStands : Tree → ScopeFault → Type 0
 FaultStands tree (fault.Undeclared at) = Undeclared tree at
 FaultStands tree (fault.DeclaredTwice at) = DeclaredTwice tree at

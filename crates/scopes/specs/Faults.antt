@@ -15,11 +15,11 @@ abbrev pub named : List ℕ → List Procedure → Option Procedure
 named text [] = None
 named text (procedure ∷ procedures) = cond (same_text text procedure.name.text) (Some procedure) (named text procedures)
 
--- a name stands at the offset, and none of the lists declares it
+-- a name is at the offset, and none of the lists declares it
 abbrev pub IsUnknown : List Name → ℕ → Name → Type 0
 IsUnknown names offset name = (name.at ≡ offset) × (is_declared name.text names ≡ false)
 
--- some of the names stands at the offset, and none of the first list declares it
+-- some of the names is at the offset, and none of the first list declares it
 abbrev pub AnyUnknown : List Name → List Name → ℕ → Type 0
 AnyUnknown names xs offset = AnyOf (λ x. IsUnknown names offset x) xs
 
@@ -27,7 +27,7 @@ AnyUnknown names xs offset = AnyOf (λ x. IsUnknown names offset x) xs
 abbrev pub known : Tree → Procedure → List Name
 known tree procedure = (procedure.formals ++ procedure.locals) ++ tree.globals
 
--- a called procedure that stands at the offset and has no declaration
+-- a called procedure that is at the offset and has no declaration
 abbrev pub CallsUnknown : List Procedure → ℕ → Head Name Name Name → Type 0
 CallsUnknown procedures offset head = IsThere (callee_of head) (λ callee. (callee.at ≡ offset) × (named callee.text procedures ≡ None))
 
@@ -111,7 +111,7 @@ StartsNowhere ps line offset = (line.name.at ≡ offset) × (CanStart (named lin
 abbrev pub BadThread : Tree → ℕ → Type 0
 BadThread tree offset = AnyOf (λ line. StartsNowhere tree.procedures line offset) tree.threads
 
--- a goto that stands at the offset names none of these labels
+-- a goto that is at the offset names none of these labels
 abbrev pub GoesNowhere : List Name → ℕ → Head Name Name Name → Type 0
 GoesNowhere labels offset head = IsThere (jump_of head) (IsUnknown labels offset)
 
@@ -125,11 +125,11 @@ MislabelledIn offset procedure =
 abbrev pub BadLabel : Tree → ℕ → Type 0
 BadLabel tree offset = AnyOf (MislabelledIn offset) tree.procedures
 
--- two underscores stand side by side in the text
+-- the text has two underscores in a row
 abbrev pub HasTwoUnderscores : List ℕ → Type 0
 HasTwoUnderscores text = (k : ℕ) × (slice_index text k ≡ 95) × (slice_index text (k + 1) ≡ 95)
 
--- one of the names stands at the offset and has two underscores in a row
+-- one of the names is at the offset and has two underscores in a row
 abbrev pub IsReserved : List Name → ℕ → Type 0
 IsReserved xs offset = AnyOf (λ (x : Name). (x.at ≡ offset) × HasTwoUnderscores x.text) xs
 
@@ -145,7 +145,7 @@ Reserved tree offset =
     ⊎ (IsReserved (names tree.procedures) offset
     ⊎ AnyOf (ReservedIn offset) tree.procedures)
 
--- the 32nd procedure has its name at the offset, the 9th thread line stands at the offset, or the 1,001st statement of
+-- the 32nd procedure has its name at the offset, the 9th thread line is at the offset, or the 1,001st statement of
 -- the whole text does
 abbrev pub TooMany : Tree → ℕ → Type 0
 TooMany tree offset =

@@ -12,7 +12,7 @@ abbrev pub begins_low : List ℕ → Bool
 begins_low [] = false
 begins_low (byte ∷ text) = nat_eq byte 95
 
--- two underscores stand in a row in the text
+-- the text has two underscores in a row
 abbrev pub has_double : List ℕ → Bool
 has_double [] = false
 has_double (byte ∷ text) = (nat_eq byte 95 && begins_low text) || has_double text

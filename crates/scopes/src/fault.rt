@@ -20,7 +20,8 @@ pub enum ScopeFault {
     /// The name at this place, in a thread line, is that of no procedure, or of one with formals.
     #[error("9 bad thread at {0}")]
     BadThread(u32),
-    /// The name at this place, in a `goto`, is no label of its procedure, or it is a label that is defined again.
+    /// The name at this place, in a `goto`, is not a label of its procedure, or it is a label that is defined
+    /// again.
     #[error("10 bad label at {0}")]
     BadLabel(u32),
     /// The declared variable, procedure or label at this place has two underscores in a row.

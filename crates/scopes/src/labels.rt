@@ -49,8 +49,8 @@ pub fn mislabelled<A: Allocator + Copy>(alloc: &A, proc: &Proc<A>) -> Answer
     Ok(earlier(first, second))
 }
 
-/// The least offset of the name in a `goto` that is no label of its procedure, or of a label that is defined again;
-/// nothing if there is none. An error is a refused allocation.
+/// The least offset of the name in a `goto` that is not a label of its procedure, or of a label that is defined
+/// again; nothing if there is none. An error is a refused allocation.
 pub(crate) fn first_bad_label<A: Allocator + Copy>(alloc: &A, program: &Program<A>) -> Answer
     ensures { IfOk result (λ r. Finds (λ n. BadLabel (tree_of program.now) n) r) }
 {

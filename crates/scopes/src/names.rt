@@ -56,7 +56,7 @@ pub fn is_same<A: Allocator>(x: &Name<A>, y: &Name<A>) -> bool
     x.text.as_str() == y.text.as_str()
 }
 
-/// Whether two underscores stand side by side in a name.
+/// Whether a name has two underscores in a row.
 pub fn has_two_underscores<A: Allocator>(x: &Name<A>) -> bool
     ensures { IsTrue result ↔ HasTwoUnderscores (name_of x.now).text }
 {

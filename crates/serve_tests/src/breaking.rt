@@ -22,12 +22,12 @@ impl Lot {
     }
 }
 
-/// Whether a byte may stand in a word of the language.
+/// Whether a byte may occur in a word of the language.
 fn is_of_word(byte: u8) -> bool {
     byte.is_ascii_alphanumeric() || byte == b'_'
 }
 
-/// Where the token begins and ends that stands at a place: a word, or one other byte.
+/// Where the token at a place begins and ends: a word, or one other byte.
 fn token_at(text: &[u8], at: usize) -> (usize, usize) {
     let at = at.min(text.len());
     let behind = &text[at..];

@@ -2,10 +2,10 @@
 //!
 //! | Line | What is printed under it |
 //! |---|---|
-//! | `set STEPS` | what each step on an empty set answers |
+//! | `set STEPS` | what each step on an empty set returns |
 //! | `many N WIDTH POINTS` | whether both kinds of sets answer alike to N triples in no order, of WIDTH bits, POINTS points and 8 entries |
 //! | `many N WIDTH POINTS TURN` | the same, if eight other entries follow after TURN triples each |
-//! | `nodes STEPS` | what each step on an empty set of diagrams answers |
+//! | `nodes STEPS` | what each step on an empty set of diagrams returns |
 //! | `each allocation: many N` | whether a set of diagrams takes N triples all the same if each allocation is refused in turn |
 //! | `each allocation: ordered N` | the same for an ordered set |
 //! | `each allocation: set N` | whether an ordered set keeps N triples, and takes none of 20 again, if each allocation is refused in turn: at each refusal it is as it was |

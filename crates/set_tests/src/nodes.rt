@@ -35,7 +35,7 @@ fn insert_even<A: Allocator, S: PathSet<A>>(
     Ok(set.len().saturating_sub(before))
 }
 
-/// Writes what a step answers that only inserts or asks what each set can tell.
+/// Writes what a step returns that only inserts or asks what each set can tell.
 pub fn filling<A: Allocator, S: PathSet<A>>(
     set: &mut S,
     out: &mut String,
@@ -55,7 +55,7 @@ pub fn filling<A: Allocator, S: PathSet<A>>(
     }
 }
 
-/// Writes what a step on a set of diagrams answers.
+/// Writes what a step on a set of diagrams returns.
 fn step_of<A: Allocator + Copy>(
     set: &mut DiagramEdges<A>,
     out: &mut String,
@@ -71,7 +71,7 @@ fn step_of<A: Allocator + Copy>(
     }
 }
 
-/// Writes what each step on a set of diagrams answers.
+/// Writes what each step on a set of diagrams returns.
 fn steps_of<A: Allocator + Copy>(
     set: &mut DiagramEdges<A>,
     out: &mut String,
@@ -83,13 +83,13 @@ fn steps_of<A: Allocator + Copy>(
     Ok(())
 }
 
-/// Writes what each step on an empty set of diagrams in memory of `room` answers.
+/// Writes what each step on an empty set of diagrams in memory of `room` returns.
 fn steps_in<A: Allocator + Copy>(room: A, out: &mut String, words: &str) -> Result<(), AllocError> {
     let mut set: DiagramEdges<A> = PathSet::empty(room);
     steps_of(&mut set, out, words)
 }
 
-/// Writes what each step on an empty set of diagrams answers.
+/// Writes what each step on an empty set of diagrams returns.
 pub fn counts(alloc: Global, out: &mut String, words: &str) -> Result<(), AllocError> {
     steps_in(alloc, out, words)
 }

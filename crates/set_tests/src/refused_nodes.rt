@@ -41,9 +41,9 @@ fn are_alike<A: Allocator, B: Allocator, S: PathSet<A>, T: PathSet<B>>(
 /// The results of counting the nodes at one point, and of counting them again if the first count is refused memory.
 #[derive(Clone, Copy, PartialEq, Eq)]
 enum Came {
-    /// The first count answers this number.
+    /// The first count returns this number.
     First(u64),
-    /// The first count is refused, the set is as it was, and the second one answers this number.
+    /// The first count is refused, the set is as it was, and the second one returns this number.
     Second(u64),
     /// The set is another one, or the second count is refused too.
     Lost,

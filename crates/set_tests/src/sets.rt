@@ -54,7 +54,7 @@ pub fn steps(alloc: Global, out: &mut String, words: &str) -> Result<(), AllocEr
     write!(out, "diagrams: {}", other.as_str())
 }
 
-/// Writes what each step on an empty set of the type `S` answers.
+/// Writes what each step on an empty set of the type `S` returns.
 fn steps_of<A: Allocator, S: PathSet<A>>(
     alloc: A,
     out: &mut String,
@@ -67,7 +67,7 @@ fn steps_of<A: Allocator, S: PathSet<A>>(
     Ok(())
 }
 
-/// Writes what a step on a set answers.
+/// Writes what a step on a set returns.
 pub fn step<A: Allocator, S: PathSet<A>>(
     set: &mut S,
     out: &mut String,

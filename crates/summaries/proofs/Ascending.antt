@@ -20,7 +20,7 @@ use Rattle.summaries.specs.Tabulated.{IsAscending, IsPairBefore, ArePairsAscendi
 use Rattle.summaries.specs.Under.{items_of}
 
 module _ {X : Type 0} where
-  -- a member stands somewhere in the list
+  -- a member is somewhere in the list
   member_contains : (x : X) (xs : List X) → Member x xs → Contains xs x
   member_contains x [] m = absurd m
   member_contains x (y ∷ ys) (inl e) = (0, omega arith, sym e)

@@ -163,7 +163,7 @@ module _ {A G : Type 0} (graph : Graph G) (q : ℕ) (f : Found A) (given : Given
         indexed = indexed;
       }
 
--- a call stands where one stands that is the same
+-- a call is where an equal one is
 pub stands_there : (ds : List Call) (k : Call) (at : ℕ) → (x : Call) × (slice_get ds at ≡ Some x) × (call_eq k x ≡ true)
     → slice_get ds at ≡ Some k
 stands_there ds k at (x, here, same) = here ∙ ap Some (sym (same_call k x same))

@@ -148,7 +148,7 @@ module _ {G : Type 0} (flow : Flow G) (e : Edge) where
   pub all_next : (k : ℕ) → last_of flow ≤ k → k ≤ last_of flow → (t : Triple) → IsNext flow e t → IsNextBefore (k + 1) flow e t
   all_next k least most t (i, less, at) = (i, omega (arith, less, least), at)
 
-  -- what comes of some choice so far comes of one
+  -- what results from some choice so far results from one
   pub some_next : (k : ℕ) → k ≤ last_of flow → (t : Triple) → IsNextBefore k flow e t → IsNext flow e t
   some_next k most t (i, less, at) = (i, omega (arith, less, most), at)
 

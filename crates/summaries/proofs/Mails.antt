@@ -73,7 +73,7 @@ none_twice_with k (x ∷ xs) new (x_once, once) = (
   none_twice_with k xs (λ m. new (inr m)) once,
 )
 
--- what stands among the first stands in the list
+-- what is among the first is in the list
 member_first : {K : Type 0} (x : K) (n : ℕ) (ks : List K) → Member x (take n ks) → Member x ks
 member_first x n ks m = subst (Member x) (take-append-drop n ks) (member_left x (take n ks) (drop n ks) m)
 

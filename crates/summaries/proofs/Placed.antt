@@ -16,7 +16,7 @@ use Rattle.summaries.specs.Grows.{AddsTo}
 use Rattle.summaries.proofs.Dues.{same_entry, same_summary, apart}
 
 module _ {X : Type 0} where
-  -- what stands at a place stands in the list
+  -- what is at a place is in the list
   pub member_at : (xs : List X) (d : X) (i : ℕ) → i < length xs → Member (get_or xs i d) xs
   member_at [] d i near = absurd (omega (arith, near))
   member_at (x ∷ xs) d zero near = inl refl
@@ -27,13 +27,13 @@ module _ {X : Type 0} where
   member_got xs x i is =
       subst (λ y. Member y xs) (get_or_from_slice_get xs i x x is) (member_at xs x i (slice_get_within xs i x is))
 
-  -- what stands in the list stands at a place
+  -- what is in the list is at a place
   pub place_of : (xs : List X) (x : X) → Member x xs → (i : ℕ) × (slice_get xs i ≡ Some x)
   place_of [] x m = absurd m
   place_of (y ∷ xs) x (inl e) = (0, ap Some (sym e))
   place_of (y ∷ xs) x (inr m) = let (i, is) = place_of xs x m in (suc i, is)
 
-  -- it stands there with others appended
+  -- it is there with others appended
   pub got_still : (xs ys : List X) (x : X) (i : ℕ) → slice_get xs i ≡ Some x → slice_get (xs ++ ys) i ≡ Some x
   got_still xs ys x i is =
       let near = slice_get_within xs i x is in

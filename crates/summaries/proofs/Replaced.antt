@@ -50,7 +50,7 @@ module _ {A : Type 0} where
         | inr h ↦ each q x h
       ]
 
-  -- a list whose images stand at the places of another one, as long, has that one as its images
+  -- a list whose images are at the places of another one of the same length has that one as its images
   pub map_is : {B : Type 0} (f : A → B) (xs : List A) (ys : List B) → length xs ≡ length ys
       → ((q : ℕ) (x : A) → slice_get xs q ≡ Some x → slice_get ys q ≡ Some (f x)) → map f xs ≡ ys
   map_is f [] [] long each = refl

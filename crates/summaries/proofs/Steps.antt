@@ -278,7 +278,7 @@ pub limit_told : (fault : TableFault) → verdict.EdgeLimit ≡ no_verdict fault
 limit_told Memory e = let no : ⊥ = cc in absurd no
 limit_told EdgeLimit e = refl
 
--- tables that are new have taken nothing but for the opening
+-- tables that are new have taken nothing except the opening
 pub new_tables : {G A S : Type 0} (members : S → List Triple) (p : Program) (ts : List (Table G A S)) → AreDrawnFrom p (map graph_of ts)
     → AreNew members ts → AreTables members p (λ x. x ≡ opening) ts
 new_tables members p ts drawn new = record {

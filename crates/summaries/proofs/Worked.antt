@@ -49,7 +49,7 @@ module _ {G A S : Type 0} (members : S → List Triple) where
     pub refused_worked : IsErrAnd r (λ e. e ≡ Memory) → Worked members Aside r old new
     refused_worked told = failed_worked (λ e. e ≡ Memory) told (λ is. absurd (no_limit r told is))
 
-  -- if edges were to be added, and nothing else has changed but what is found
+  -- if edges were to be added, and nothing else has changed except what is found
   pub added_worked : (W Aside : Triple → Type 0) {T : Type 0} (r : Result T TableFault) (old new : Table G A S) (es : List Triple)
       (before after : List Edge) → Adds W r (most_of new.limit) es (members new.edges) before after → NoneTwice (members new.edges) →
       ((x : Triple) → Member x (members new.edges) → IsReached new x) → ((x : Triple) → W x → IsReached new x) →

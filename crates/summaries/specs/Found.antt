@@ -1,4 +1,5 @@
--- What a table holds is reached and sent, and nothing that is reached or sent is left out but by what is pending.
+-- What a table holds is reached and sent, and nothing that is reached or sent is missing, except what pending
+-- edges still lead to.
 use Rattle.std.specs.Bool.{beq}
 use Rattle.std.specs.Prelude.{◌≡◌, ◌≤◌, ◌<◌, ◌⊎◌, ◌↔◌, ◌&&◌, ℕ, Bool, false, List, [], Some, nat_eq}
 use Rattle.std.specs.Prelude.{slice_get, take}
@@ -76,7 +77,7 @@ module _ (calls : List Call) (pairs : List Pair) where
   mail_of procedure (Asked at) = entry_mail procedure (get_or calls at (call 0 0))
   mail_of procedure (Told to at) = summary_mail procedure to (get_or pairs at (pair 0 (left 0 false)))
 
-  -- what the message tells of stands at its place
+  -- what the message tells of is at its place
   abbrev pub IsPlaced : Sent → Type 0
   IsPlaced (Asked at) = at < length calls
   IsPlaced (Told to at) = at < length pairs

@@ -104,14 +104,15 @@ pub record IsAnswer {G A S : Type 0} (old new : Table G A S) (to : ℕ) (message
   pub once : Member (mail to message) (answers_of old) → ⊥
 
 module _ {G A S : Type 0} (members : S → List Triple) where
-  -- All that the table holds is reached and sent, and nothing that is reached or sent is left out but by what is
-  -- pending and by the edges left aside.
+  -- All that the table holds is reached and sent, and nothing that is reached or sent is missing, except what
+  -- pending edges and the edges left aside still lead to.
   abbrev pub Holds : (Triple → Type 0) → Table G A S → Type 0
   Holds Aside table = IsGrounded table.graph.now table.procedure table.found (members table.edges) ×
       IsSaturated table.graph.now table.procedure table.found (members table.edges) Aside
 
   -- The edges kept are reached by the messages taken, and no more than the limit; unless the table has failed,
-  -- nothing is left out but by what is pending; if it has failed for its limit, more edges than that are reached.
+  -- nothing is missing, except what pending edges still lead to; if it has failed for its limit, more edges than
+  -- that are reached.
   pub record IsTable (table : Table G A S) : Type 0 where
     pub edges : (x : Triple) → Member x (members table.edges) → IsReached table x
     pub within : length (members table.edges) ≤ limit_of table
@@ -126,9 +127,9 @@ module _ {G A S : Type 0} (members : S → List Triple) where
     pub fault : fresh.fault ≡ None
 
   -- The table has worked, with this result. It is that of the same procedure; the edges kept are reached by the
-  -- messages taken, and no more than the limit. On Ok nothing is left out but by what is pending and by the edges
-  -- left aside, and no message was answered; if the answer is that the limit is passed, more edges than that are
-  -- reached.
+  -- messages taken, and no more than the limit. On Ok nothing is missing, except what pending edges and the edges
+  -- left aside still lead to, and no message was answered; if the answer is that the limit is passed, more edges
+  -- than that are reached.
   pub record Worked (Aside : Triple → Type 0) {T : Type 0} (answer : Result T TableFault) (old new : Table G A S) : Type 0 where
     pub holds : OnOk answer (Holds Aside new)
     pub edges : (x : Triple) → Member x (members new.edges) → IsReached new x
@@ -140,7 +141,7 @@ module _ {G A S : Type 0} (members : S → List Triple) where
 
   -- The table was given a message to take, with this result. It is that of the same procedure, and has failed if the
   -- answer is a fault. On Ok it has taken the message, and answered none; it has taken no other; once failed, it
-  -- answers that from then on.
+  -- returns that from then on.
   pub record TableTakes (message : Due) {T : Type 0} (answer : Result T TableFault) (old new : Table G A S) : Type 0 where
     pub table : IsTable new
     pub taken : OnOk answer (TookAlso message old.found new.found)

@@ -67,8 +67,8 @@ module _ {G A S : Type 0} (members : S → List Triple) where
     pub number : (q : ℕ) (t : Table G A S) → slice_get ts q ≡ Some t → procedure_of t ≡ q
 
   -- The tables are those of the program's procedures, by number, and none has failed; what each has taken is due for
-  -- its procedure; and the opening and each message that was answered is taken by its receiver, but for those left
-  -- aside.
+  -- its procedure; and the opening and each message that was answered is taken by its receiver, except for those
+  -- left aside.
   pub record AreTables (program : Program) (Aside : Mail → Type 0) (ts : List (Table G A S)) : Type 0 where
     pub drawn : AreDrawnFrom program (map graph_of ts)
     pub table : (q : ℕ) (t : Table G A S) → slice_get ts q ≡ Some t → IsTable members t

@@ -56,7 +56,7 @@ impl<'g, G: Allocator, A: Allocator + Copy, S: PathSet<A>> Table<'g, G, A, S> {
     }
 
     /// Takes a message: a caller enters the procedure with the valuation `a`. If memory is refused, or one edge more
-    /// than the limit is found, the table has failed, and answers that from then on.
+    /// than the limit is found, the table has failed, and returns that from then on.
     pub fn take_entry(&mut self, caller: Caller, a: Word) -> Result<(), TableFault>
         requires { IsTable S.members self.old }
         ensures { TableTakes S.members (Entry caller a) result self.old self.new }

@@ -109,7 +109,7 @@ pub fn collect<G: Allocator, A: Allocator + Copy, S: PathSet<A>>(
 }
 
 /// The summaries of a program by its flow graphs, if no procedure has more path edges than the limit; the path edges
-/// are kept in sets of the type `S`. `EdgeLimit` is answered only if some procedure has more.
+/// are kept in sets of the type `S`. `EdgeLimit` is returned only if some procedure has more.
 pub fn tabulate<G: Allocator, A: Allocator + Copy, S: PathSet<A>>(
     alloc: A,
     graphs: &Graphs<G>,

@@ -23,8 +23,8 @@ pub(crate) fn tell<A: Allocator + Copy>(
     Ok(())
 }
 
-/// Gives the summary of a pair to each of its callers but the starter, none of which has it. After an error some have
-/// it.
+/// Gives the summary of a pair to each of its callers except the starter, none of which has it. After an error some
+/// have it.
 pub(crate) fn tell_all<A: Allocator + Copy>(
     given: &mut Given<A>,
     pair: u32,

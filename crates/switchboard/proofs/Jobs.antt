@@ -59,7 +59,7 @@ module _ {M : Type 0} where
         | inr else ↦ ap dones (part_else n (Taken of s m) [] else)
       ]
 
-  -- a job stays one after one more event of the pass that is no Done
+  -- a job stays one after one more event of the pass that is not a Done
   more_events : (n j : ℕ) (a b : List (Entry M)) (e : Entry M) → own n b ≡ own n a ++ e ∷ [] → dones (part n (e ∷ [])) ≡ [] → HasJob n j a
       → HasJob n j b
   more_events n j a b e longer none has =
@@ -76,7 +76,7 @@ module _ {M W : Type 0} (fits : W → ℕ → M → Type 0) where
   kept_none s t j m has =
       subst (λ n. HasJob n j t.seen.order) (sym m.goes.number) (job_stays s.number j s.seen.order t.seen.order (sym m.own) has)
 
-  -- and so it has after an event of its own that is no Done
+  -- and so it has after an event of its own that is not a Done
   pub kept_added : (s t : Sight M W) (j : ℕ) (e : Entry M) → Added fits e s t → dones (part s.number (e ∷ [])) ≡ []
       → HasJob s.number j s.seen.order → HasJob t.number j t.seen.order
   kept_added s t j e a none has =
@@ -162,7 +162,7 @@ module _ {M W : Type 0} (fits : W → ℕ → M → Type 0) where
   post_same s t job to m (Err (fault.Memory back)) p = (p.1.0.goes.board, p.1.0.goes.number, p.1.0.goes.before.boxes)
   post_same s t job to m (Err (fault.Aborted back)) p = (p.1.0.goes.board, p.1.0.goes.number, p.1.0.goes.before.boxes)
 
-  -- a take, whatever it answers, leaves the jobs
+  -- a take, whatever it returns, leaves the jobs
   pub takes_keep : (s t : Sight M W) (r : Result (answers.Taken M) Spent) (j : ℕ) → Took fits r s t
       → HasJob s.number j s.seen.order → HasJob t.number j t.seen.order
   takes_keep s t (Err e) j k has = subst (λ (z : Sight M W). HasJob z.number j z.seen.order) (sym k.1) has

@@ -33,7 +33,7 @@ use Rattle.switchboard.specs.Proved.Entries.{Allowed, sound_push, job_stays}
 pub moved : {X : Type 0} (R : X → X → Type 0) (s s' t t' : X) → s ≡ s' → t ≡ t' → R s t → R s' t'
 moved R s s' t t' p q r = subst (λ z. R z t') p (subst (λ z. R s z) q r)
 
--- what stands last
+-- what comes last
 pub latest_is : {A B : Type 0} (f : A → B) (d : B) (l : List A) (x : A) → EndsIn l x → latest f d l ≡ f x
 latest_is f d l x ends = ap (latest f d) ends.1 ∙ at_end f d ends.0 x
   where

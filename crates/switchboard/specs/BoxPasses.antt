@@ -50,8 +50,8 @@ module _ {M W : Type 0} where
       pub known : made ≡ true → IsSome seen.aborted
 
     -- The seat is this pass's alone, at a board of this world with a given number of mailboxes. It holds no mailbox,
-    -- waits for none, and has none in the count; it made just its own events of the order that it has seen; it has
-    -- tickets, and Posts to count up, for its calls.
+    -- waits for none, and has none in the count; it made exactly its own events of the order that it has seen; it
+    -- has tickets, and Posts to count up, for its calls.
     pub record IsBoxPass (id : TableId) (number left : ℕ) (made : Bool) (w : W) (boxes : ℕ) (me : Seat M W) : Type 0 where
       pub base : Ground M W
       pub is_base : get_elem? me.0.boards 0 ≡ some base

@@ -97,8 +97,8 @@ module _ {M W : Type 0} where
       pub aborted : (a : Abort) → seen.aborted ≡ Some a → first ≡ Some a
       pub close : seen.knows ≡ true → (low ≡ 0) × (seen.order ≡ order)
 
-    -- What holds for each seat: it has a share of each lock for each of its passes; each of its passes made just its
-    -- own events of the order; without a pass it has none in the count.
+    -- What holds for each seat: it has a share of each lock for each of its passes; each of its passes made exactly
+    -- its own events of the order; without a pass it has none in the count.
     pub record KnowsBoard (basis : Ground M W) (order : List (Entry M)) (first : Option Abort) (low : ℕ) (view : View M W) : Type 0 where
       pub board : (i : ℕ) (k : Ground M W) → get_elem? view.boards i ≡ some k → k ≡ basis
       pub saw : Saw basis order first low view.seen
@@ -134,7 +134,7 @@ module _ {M W : Type 0} where
       pub sound : 0 < length seen.order → (g : Ground M W) → get_elem? view.boards 0 ≡ some g → IsSound fits (state_of g seen)
       pub close : seen.knows ≡ true → IsClosed seen.order
 
-    -- each pass of the seat has just its own events in the order
+    -- each pass of the seat has exactly its own events in the order
     abbrev pub HasOwn : View M W → List (Entry M) → Type 0
     HasOwn view order = (k : ℕ) (o : Own M) → get_elem? view.lanes k ≡ some o → own o.number order ≡ o.events
 

@@ -106,7 +106,7 @@ module _ {M W : Type 0} (fits : W → ℕ → M → Type 0) where
     pub fit : fits before.seen.world before.number message
     pub alive : after.seen.aborted ≡ None
 
-  -- what a take answers: closed, if the pass knows the close; aborted, if it does not and the board is; else the
+  -- what a take returns: closed, if the pass knows the close; aborted, if it does not and the board is; else the
   -- oldest message, or that every one is taken
   abbrev pub Took : Result (answers.Taken M) Spent → Sight M W → Sight M W → Type 0
   Took (Err spent) before after = WasSpent before after

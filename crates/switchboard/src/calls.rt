@@ -1,7 +1,7 @@
 //! What the calls of a board take and return.
 use std::marker::Model;
 
-/// The right to post, which comes from taking a message. It has to be spent, by `done` or by `abort`. Contracts see
+/// The right to post, which comes from taking a message. It must be spent, by `done` or by `abort`. Contracts see
 /// it as the number of its take.
 pub struct Job {
     pub(crate) take: u64,

@@ -1,4 +1,4 @@
--- What stands before a closing token is seen as before.
+-- What comes before a closing token is seen as before.
 use Rattle.std.specs.Prelude.{Result, Ok, Err, option_and_then}
 use Rattle.std.proofs.Common.{◌≡◌, List, Option, Some, None, refl, ◌∙◌}
 use denote.Ref.{Bor}

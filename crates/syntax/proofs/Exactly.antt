@@ -1,4 +1,4 @@
--- Functions that read just what a relation of the grammar says, part by part.
+-- Functions that read exactly what a relation of the grammar says, part by part.
 use Rattle.std.proofs.Common.{◌≡◌, ℕ, suc, ◌<◌, ◌≤◌, Bool, true, false, cond, List, [], ◌∷◌, length, Option, Some, refl, ◌∙◌, ap, arith}
 use Rattle.std.proofs.Common.{◌⊎◌, inl, inr}
 use Rattle.tokens.specs.declared.vocabulary.Kind.{Kind}

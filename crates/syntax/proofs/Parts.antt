@@ -1,4 +1,4 @@
--- The parts of statements, read just as the grammar says.
+-- The parts of statements, read exactly as the grammar says.
 use Rattle.std.proofs.Common.{◌≡◌, ℕ, ◌<◌, Bool, true, false, ◌||◌, List, [], ◌∷◌, length, Some, refl, ap, ◌⊎◌, inl, inr}
 use Rattle.language.specs.Tree.{Name, Operator, Expression, RightSide, any, value}
 use Rattle.tokens.specs.declared.vocabulary.Kind.{Kind}

@@ -23,7 +23,7 @@ pub record Tail (more : List Part) : Type 0 where
   pub free : IsApart kind.Id more
   pub apart : AreApart more
 
--- Parts that stand apart whatever is after them, but a word.
+-- Parts that stand apart whatever comes after them, except a word.
 abbrev pub Fits : List Part → Type 0
 Fits parts = (more : List Part) → Tail more → AreApart (parts ++ more)
 

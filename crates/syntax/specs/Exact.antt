@@ -253,7 +253,7 @@ declaration = take kind.Decl >>= λ _. names >>= λ ns. take kind.Semicolon >>= 
 unfoldable pub all_declarations : Parser (List Name)
 all_declarations = many (begins kind.Decl) declaration >>= λ nss. give (joined nss)
 
--- what stands in a procedure: begin, its locals, its statements, end
+-- what is in a procedure: begin, its locals, its statements, end
 unfoldable pub insides : Parser (List Name × Block Name Name Name)
 insides = take kind.Begin >>= λ _. all_declarations >>= λ ls. section >>= λ b. take kind.End >>= λ _. give (ls, b)
 

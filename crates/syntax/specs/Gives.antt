@@ -1,4 +1,4 @@
--- What a reader answers, and what the grammar's function gives.
+-- What a reader returns, and what the grammar's function gives.
 use Rattle.std.specs.Prelude.{◌≡◌, ◌<◌, List, length, Option, None, Some, Result, Ok, Err, IfOk}
 use denote.Ref.{Bor}
 use Rattle.tokens.specs.declared.vocabulary.Token.{Token}
@@ -15,7 +15,7 @@ RefusesTokens fault.TooLong given = ⊥
 RefusesTokens fault.NotAscii given = ⊥
 RefusesTokens fault.TooDeep given = ⊥
 
--- What was answered, seen by view, is what is given.
+-- What was returned, seen by view, is what is given.
 abbrev pub Gives : {X Y : Type 0} → (X → Y) → Result X ReadFault → Option Y → Type 0
 Gives view (Ok x) given = given ≡ Some (view x)
 Gives view (Err answer) given = RefusesTokens answer given

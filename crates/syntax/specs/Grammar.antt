@@ -34,12 +34,13 @@ level and = 3
 level equal = 4
 level differs = 4
 
--- Left of => stands what binds more strongly; left of each other operator also what binds as it does.
+-- On the left of => is what binds more strongly; on the left of each other operator also what binds as it
+-- does.
 abbrev pub left_level : Operator → ℕ
 left_level implies = 1
 left_level operator = level operator
 
--- Right of => stands also another =>; right of each other operator what binds more strongly.
+-- On the right of => may also be another =>; on the right of each other operator is what binds more strongly.
 abbrev pub right_level : Operator → ℕ
 right_level implies = 0
 right_level operator = suc (level operator)

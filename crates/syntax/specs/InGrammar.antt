@@ -9,7 +9,7 @@ use Rattle.syntax.specs.Grammar.{IsSome}
 use Rattle.syntax.specs.Text.{Text, DeepTokens}
 use Rattle.syntax.specs.Offsets.{SameButOffsets}
 
--- A name is made of word bytes, begins with no digit, and is no keyword.
+-- A name is made of word bytes, begins with no digit, and is not a keyword.
 abbrev pub IsId : Name → Type 0
 IsId name = IsNameWord name.text
 

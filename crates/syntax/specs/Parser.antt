@@ -1,4 +1,4 @@
--- Functions from token lists to what stands at their front.
+-- Functions from token lists to what is at their front.
 use Rattle.std.specs.Prelude.{◌≡◌, ◌<◌, ℕ, zero, suc, Bool, false, List, [], ◌∷◌, length, cond, Option, Some}
 use Rattle.std.specs.Prelude.{None, option_and_then}
 use Rattle.tokens.specs.declared.vocabulary.Kind.{Kind}

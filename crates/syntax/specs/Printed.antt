@@ -18,7 +18,7 @@ Prints result old new parts = IfOk result (λ _. string_bytes new ≡ string_byt
 abbrev pub name_parts : Name → List Part
 name_parts name = shown kind.Id name.text ∷ []
 
--- What stands in parentheses.
+-- What is in parentheses.
 abbrev pub in_parens : List Part → List Part
 in_parens inside = fixed kind.Open ∷ (inside ++ (fixed kind.Close ∷ []))
 
@@ -52,7 +52,7 @@ operand_parts (var variable) = name_parts variable
 operand_parts (negation expression) = fixed kind.Not ∷ operand_parts expression
 operand_parts (two operator left right) = in_parens (operation operator (operand_parts left) (operand_parts right))
 
--- An expression is printed as an operand is, but a two-sided operation without parentheses around it.
+-- An expression is printed as an operand is, except that a two-sided operation has no parentheses around it.
 abbrev pub expression_parts : Expression Name → List Part
 expression_parts (const truth) = operand_parts (const truth)
 expression_parts (var variable) = operand_parts (var variable)
@@ -102,7 +102,7 @@ line_of level parts = margin level ++ (parts ++ (line ∷ []))
 abbrev pub test_parts : Kind → RightSide Name → Kind → List Part
 test_parts first side last = fixed first ∷ space ∷ (in_parens (side_parts side) ++ (space ∷ fixed last ∷ []))
 
--- The statements of a block, each on a line of its own; `if (r) then`, `else`, `fi`, `while (r) do` and `od` stand on
+-- The statements of a block, each on a line of its own; `if (r) then`, `else`, `fi`, `while (r) do` and `od` are on
 -- lines of their own, and what they enclose is one level further in.
 abbrev pub block_parts : ℕ → Block Name Name Name → List Part
 block_parts level done = []

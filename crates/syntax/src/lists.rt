@@ -1,4 +1,4 @@
-//! What lists have: names, right sides and expressions; and what stands in parentheses.
+//! What lists have: names, right sides and expressions; and what is in parentheses.
 
 ghost use Rattle.std.specs.Prelude.{map};
 ghost use Rattle.syntax.specs.Gives.{Parses, Shorter};

@@ -13,7 +13,7 @@ use tokens::{MOST_BYTES, as_ascii, cut, is_too_deep};
 use trees::Program;
 
 /// Reads a text: its tree, with the offset of each name and statement. The faults are tested in the order of their
-/// numbers, but `Syntax`, which comes before `TooDeep` if the text is not a list of tokens, and after it if the
+/// numbers, except `Syntax`, which comes before `TooDeep` if the text is not a list of tokens, and after it if the
 /// tokens are not a program; `Memory` may come at any point after `TooLong` and `NotAscii`, whose tests take none.
 pub fn read<A: Allocator + Clone>(alloc: A, bytes: &[u8]) -> Result<Program<A>, ReadFault>
     // What is read is a text with that tree.

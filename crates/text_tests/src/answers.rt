@@ -1,4 +1,4 @@
-//! What each command answers.
+//! The answer to each command.
 ghost use Rattle.std.specs.Prelude.{ℕ, ◌<◌, ◌≤◌, length};
 ghost use Rattle.std.specs.List.{slice_index};
 
@@ -41,7 +41,7 @@ fn is_refused_by<A: Allocator>(alloc: A, text: &str, fault: &CutFault) -> bool
     }
 }
 
-// Asks the command of the text's tokens, or answers why it has none. `faults`: whether the text is refused twice by
+// Asks the command of the text's tokens, or returns why it has none. `faults`: whether the text is refused twice by
 // equal faults.
 fn ask_text<A: Allocator + Copy>(alloc: A, page: &mut Page<A>, command: &str, bytes: &[u8]) {
     let Some(text) = as_ascii(bytes) else {

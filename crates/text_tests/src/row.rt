@@ -1,7 +1,7 @@
 //! The spelling of a case's text in one line.
 //!
-//! `\n`, `\t`, `\r` and `\v` are a line feed, a tab, a carriage return and a vertical tab, `\e` is the two bytes of `é`
-//! and `\o` one byte of 200; `\64{..}` is 64 times what stands between the braces. Any other byte stands for itself.
+//! `\n`, `\t`, `\r` and `\v` are a line feed, a tab, a carriage return and a vertical tab, `\e` is the two bytes of
+//! `é` and `\o` one byte of 200; `\64{..}` is 64 times what is between the braces. Any other byte stands for itself.
 
 use std::alloc::{AllocError, Allocator};
 

@@ -39,7 +39,7 @@ module _ {T : Type 0} where
       pub rises : IsRising before after.seen
       pub outside : earlier.inside ≡ []
 
-    -- the lane is inside with one of its tickets; nothing else of it changes but what it has seen
+    -- the lane is inside with one of its tickets; nothing else of it changes except what it has seen
     abbrev pub Served : ℕ → Held T → Standing T → Standing T → Type 0
     Served ticket guard earlier later = GuardStands ticket guard earlier later
         × (later ≡ record earlier { seen = later.seen; tickets = without ticket earlier.tickets; inside = ticket ∷ [] })

@@ -1,4 +1,4 @@
-//! The calls of a lock that stands at a place of a table, under any rule that allows it there.
+//! The calls of a lock at a place of a table, under any rule that allows it there.
 ghost use Rattle.std.specs.Prelude.{◌≡◌, ℕ, ◌*◌, ◌^◌, ◌<◌, [], ◌∷◌, length, None};
 ghost use Rattle.atomic_table.specs.Table.{rest};
 ghost use Rattle.ticket_lock.specs.Count.{times};

@@ -147,7 +147,7 @@ runs_complete n (t ∷ before) stretch after low on long =
     by_end true anew more = anew
     by_end false anew more = more
 
--- What is found is so: tokens nest too deep,
+-- What is found is true: tokens nest too deep,
 pub nests_deep : (ts : List Tok) → nests 0 0 ts ≡ true → NestsTooDeep ts
 nests_deep ts e = let (front, rest, cut, deep) = nests_sound 0 0 ts e in (front, rest, cut, omega (arith, deep))
 
@@ -158,7 +158,7 @@ runs_long ts e = elim (runs_sound 0 ts e) [
   | inr is ↦ is
 ]
 
--- What is so is found.
+-- What is true is found.
 pub deep_nests : (ts : List Tok) → NestsTooDeep ts → nests 0 0 ts ≡ true
 deep_nests ts is =
     let (front, rest, cut, deep) = is in

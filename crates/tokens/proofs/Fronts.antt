@@ -77,7 +77,7 @@ token_no_gap k v r w s e (sign_of is longest) gap =
     (subst (λ bs. begins is_gap_byte bs ≡ true) (sym e) (begins-append _ w s (gap_begins w s gap)))
     (begins-append _ v r (sign_begins k v is))
 
--- One gap at most stands at the front.
+-- There is at most one gap at the front.
 pub one_gap : (v r w s : List ℕ) → v ++ r ≡ w ++ s → IsGap v r → IsGap w s → v ≡ w
 one_gap v r w s e (blank p) (blank q) = cc
 one_gap v r w s e (blank {b} p) (comment pass stop) =
@@ -96,7 +96,7 @@ one_kind j k w (reserved e) (name is) = absurd (is.no_keyword j e)
 one_kind j k w (name is) (reserved f) = absurd (is.no_keyword k f)
 one_kind j k w (name is) (name also) = refl
 
--- One token at most stands at the front.
+-- There is at most one token at the front.
 pub one_token : (j k : Kind) (v r w s : List ℕ) → v ++ r ≡ w ++ s → IsToken j v r → IsToken k w s → (j ≡ k) × (v ≡ w)
 one_token j k v r w s e (word is stop) (word also end) =
     let same : v ≡ w = one_run is_word_byte v w r s (word_bytes j v is) (word_bytes k w also) stop end e in

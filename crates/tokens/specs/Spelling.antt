@@ -58,7 +58,7 @@ abbrev pub BeginsName : List ℕ → Type 0
 BeginsName [] = ⊥
 BeginsName (b ∷ bytes) = is_ascii_digit b ≡ false
 
--- A name is made of word bytes, begins with no digit, and is no keyword.
+-- A name is made of word bytes, begins with no digit, and is not a keyword.
 pub record IsNameWord (word : List ℕ) : Type 0 where
   pub begins : BeginsName word
   pub bytes : AreWordBytes word

@@ -1,8 +1,8 @@
 //! A door before the lock of each mailbox: a flag that keeps most passes from drawing a ticket while another is inside.
 //!
 //! A lock serves its tickets in turn, so a ticket whose thread has no processor holds up all tickets behind it. A
-//! pass that waits at a door has no ticket, so nobody waits for it. A door is no lock: no promise rests on it, and
-//! after a bounded number of tries a pass draws its ticket, whether the door is shut or not.
+//! pass that waits at a door has no ticket, so nobody waits for it. A door is not a lock: no promise rests on it,
+//! and after a bounded number of tries a pass draws its ticket, whether the door is shut or not.
 ghost use Rattle.std.specs.Prelude.{◌<◌};
 
 use std::sync::atomic::{AtomicBool, Ordering};
