@@ -15,7 +15,7 @@ use switchboard::{Board, Job, LockPerBox, OneLock, Taken};
 // How many messages each thread posts.
 const MESSAGES: u32 = 10_000;
 
-// How many times a thread looks for a message, at most after its own posts.
+// How many times, at most, a thread looks for a message after its own posts.
 const LOOKS: u32 = 10_000_000;
 
 // The result of a look for a message.

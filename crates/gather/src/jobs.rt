@@ -250,7 +250,7 @@ where
 }
 
 /// Runs all jobs, each in a thread of its own, until all have ended. If a start is refused, that job and those
-/// after it are declined, and `hire` is not asked for them.
+/// after it are declined, and `hire` is not asked again.
 pub(crate) fn run_all<R: Wait + Threads + Sync, J: Job + Send, H: Hire, A: Allocator + Copy>(
     rt: &R,
     alloc: A,
