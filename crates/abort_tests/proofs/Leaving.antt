@@ -1,4 +1,4 @@
--- What each call leaves of the jobs of its pass.
+-- Which jobs of its pass each call leaves.
 use Rattle.std.proofs.Common.{◌≡◌, ◌≢◌, ℕ, Some, None, sym, ap, ◌∙◌, subst}
 use Rattle.std.specs.Prelude.{Option}
 use Rattle.std.proofs.lemmas.Option.{same_Some}
@@ -31,7 +31,7 @@ module _ {M W : Type 0} where
         others = λ j h other at. other (cc);
       }
 
-  -- the call has to do with the first place
+  -- the call concerns the first place
   pub side_first : (id : TableId) (n : ℕ) (s t : Sight M W) (a b new : Option ℕ) → IsSide id n s a b → LeavesJob s t a new
       → IsSide id n t new b
   side_first id n s t a b new side leaves =
@@ -44,7 +44,7 @@ module _ {M W : Type 0} where
         apart = λ j there at. leaves.others j (side.second j at) (other j at) there;
       }
 
-  -- the call has to do with the second place
+  -- the call concerns the second place
   pub side_second : (id : TableId) (n : ℕ) (s t : Sight M W) (a b new : Option ℕ) → IsSide id n s a b → LeavesJob s t b new
       → IsSide id n t a new
   side_second id n s t a b new side leaves = record {
@@ -57,7 +57,7 @@ module _ {M W : Type 0} where
   }
 
 module _ {M W : Type 0} (fits : W → ℕ → M → Type 0) where
-  -- the pass goes on
+  -- the pass continues
   same_of : (s t : Sight M W) → GoesOn fits s t → IsSame s t
   same_of s t g = (g.board, g.number, g.before.boxes)
 

@@ -1,9 +1,9 @@
-//! The calls of a row, and what they answer.
+//! The calls of a row, and what they return.
 use crate::boards::Letter;
 use std::fmt;
 use switchboard::PostFault;
 
-/// A job of the row, which is called after its message. The first is one of pass 0, the others are of pass 1.
+/// A job of the row, which is named after its message. The first is one of pass 0, the others are of pass 1.
 #[derive(Clone, Copy)]
 pub(crate) enum Name {
     J0,
@@ -14,9 +14,9 @@ pub(crate) enum Name {
 /// A call of the pass whose job is named.
 #[derive(Clone, Copy)]
 pub(crate) enum Act {
-    /// Takes a message, whose job has the name then.
+    /// Takes a message; its job gets the name.
     Take,
-    /// Posts a message of this number to mailbox 1, under the job.
+    /// Posts a message with this number to mailbox 1, under the job.
     Post(u8),
     /// Completes the message of the job.
     Done,
@@ -36,10 +36,10 @@ pub(crate) enum Step {
     Learn,
 }
 
-/// What a step answers.
+/// What a step returns.
 #[derive(Clone, Copy)]
 pub(crate) enum Answer {
-    /// The step has no answer, or was not made since its job is not there.
+    /// The step returns nothing, or was not made since there is no such job.
     Nothing,
     Ok,
     Message(Letter),

@@ -9,7 +9,7 @@ use std::alloc::{AllocError, Global};
 use std::sync::Wait;
 use switchboard::{LockPerBox, OneLock};
 
-/// Which abort is put in.
+/// Which abort is inserted.
 #[derive(Clone, Copy)]
 pub(crate) struct Case {
     /// Each pass has one call fewer.
@@ -17,13 +17,13 @@ pub(crate) struct Case {
     /// The job that the pass has, or would have.
     pub(crate) name: Name,
     pub(crate) act: Act,
-    /// The call that it comes behind.
+    /// The call that it comes after.
     pub(crate) after: usize,
     pub(crate) twice: bool,
     ghost in_range: { (2 ≤ budget) × (budget ≤ 1000) },
 }
 
-/// Writes what comes of a line.
+/// Writes the result of a line.
 pub fn answer<R: Wait>(
     rt: &R,
     alloc: Global,
@@ -43,7 +43,7 @@ pub fn answer<R: Wait>(
     }
 }
 
-/// The abort that words tell: `pass 1, job 2, after 7`.
+/// The abort that the words describe: `pass 1, job 2, after 7`.
 fn case_of(words: &str) -> Option<Case> {
     let (budget, words) = match words.strip_prefix("budget ") {
         Some(rest) => {
@@ -83,7 +83,7 @@ fn abort_of(words: &str) -> Option<(Name, Act)> {
     }
 }
 
-/// Writes what comes of a row over a board.
+/// Writes the result of a row over a board.
 fn write_row<R: Wait, B: Letters + Drop>(
     rt: &R,
     alloc: B::Heap,

@@ -1,5 +1,5 @@
-//! Rows of boards with an abort put in: each line of the standard input is a case, and is printed again with what comes
-//! of it.
+//! Rows of boards with an inserted abort: each line of the standard input is a case, and is printed again with its
+//! result.
 //!
 //! A row has two passes. After the opening, which posts m0 to mailbox 0, come the calls of this table; after them both
 //! passes take once more. A job is that of the message with its number.
@@ -15,13 +15,13 @@
 //! | 7 | it takes m2 | 14 | pass 1 takes: `Closed` |
 //!
 //! A case is `one lock, pass 1, no job, after 6`, or `lock for each, pass 1, job 2, after 7`: over which board, which
-//! pass aborts it, with which of its jobs, and behind which call, where 0 is the opening. The other calls are made all
-//! the same, but those whose job was never had or is spent. Each pass has calls enough, or one fewer than B where
-//! `budget B, ` comes before the pass; and where `, twice` comes last, the pass aborts the board a second time at once,
+//! pass aborts it, with which of its jobs, and after which call, where 0 is the opening. The other calls are made all
+//! the same, except those whose job was never taken or is spent. Each pass has enough calls, or one fewer than B if
+//! `budget B, ` comes before the pass; and if `, twice` comes last, the pass aborts the board a second time at once,
 //! without a job.
 //!
-//! What is printed are the answers of the calls behind the abort, and how many of each event the histories have then. A
-//! line that begins with `#` is a heading.
+//! Printed are the results of the calls after the abort, and how many of each event the histories then have. A line
+//! that begins with `#` is a heading.
 #![tactic(auto)]
 
 mod boards;

@@ -10,7 +10,7 @@ use std::sync::Wait;
 use switchboard::{Board, Cause, Job, Taken};
 use ticket_lock::Spent;
 
-/// Completes the message of the job, if it is there; where the calls are used up, an abort spends it.
+/// Completes the message of the job, if it is there; if the calls are used up, an abort spends it.
 pub(crate) fn spend<R: Wait, B: Letters>(rt: &R, board: &B, pass: &mut B::Pass, job: Option<Job>)
     requires board { (B.sight pass.old).board ≡ B.identity board.now }
     requires job { Has (B.sight pass.old) job }
@@ -25,7 +25,7 @@ pub(crate) fn spend<R: Wait, B: Letters>(rt: &R, board: &B, pass: &mut B::Pass, 
     }
 }
 
-/// Puts a job in the place of another, whose message is completed then.
+/// Puts a job in the place of another, whose message is then completed.
 fn put<R: Wait, B: Letters>(
     rt: &R,
     board: &B,

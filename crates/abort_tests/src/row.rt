@@ -20,7 +20,7 @@ pub(crate) struct Row<P, T> {
     pub(crate) j2: Option<Job>,
 }
 
-/// The steps behind the opening: those of the worked row, and one more take of each pass.
+/// The steps after the opening: those of the worked row, and one more take of each pass.
 static STEPS: [Step; 16] = [
     Step::Call(Name::J0, Act::Take),
     Step::Call(Name::J0, Act::Post(1)),
@@ -135,7 +135,7 @@ fn abort<R: Wait, B: Letters>(
     }
 }
 
-/// Writes an answer behind the others.
+/// Appends an answer to the others.
 fn write_answer(out: &mut String, step: Step, answer: Answer) -> Result<(), AllocError> {
     if matches!(answer, Answer::Nothing) {
         return Ok(());
@@ -144,7 +144,7 @@ fn write_answer(out: &mut String, step: Step, answer: Answer) -> Result<(), Allo
     write!(out, "{lead}{step}: {answer}")
 }
 
-/// Makes all steps, and the abort of the case where it says; writes the answers behind that.
+/// Makes all steps, and the abort of the case where it says; writes the answers after that.
 pub(crate) fn play<R: Wait, B: Letters>(
     rt: &R,
     board: &B,

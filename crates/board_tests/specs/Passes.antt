@@ -8,7 +8,7 @@ module _ {M W : Type 0} where
   abbrev pub IsSame : Sight M W → Sight M W → Type 0
   IsSame s t = (t.board ≡ s.board) × (t.number ≡ s.number) × (t.seen.boxes ≡ s.seen.boxes)
 
-  -- the pass of this number, of a board with a given number of mailboxes
+  -- the pass with this number, of a board with a given number of mailboxes
   abbrev pub IsPassNumbered : ℕ → ℕ → Sight M W → Type 0
   IsPassNumbered n boxes s = (s.number ≡ n) × (s.seen.boxes ≡ boxes)
 

@@ -38,7 +38,7 @@ impl<A: Allocator> Letters for LockPerBox<Letter, (), A> {
     type Heap = A;
 }
 
-// Takes a message, which has to be there.
+// Takes a message, which must be there.
 pub(crate) fn message<R: Wait + Abort, B: Letters>(
     rt: &R,
     board: &B,
@@ -59,7 +59,7 @@ pub(crate) fn message<R: Wait + Abort, B: Letters>(
     }
 }
 
-// Takes a message, which has to be this one.
+// Takes a message, which must be this one.
 pub(crate) fn takes<R: Wait + Abort, B: Letters>(
     rt: &R,
     board: &B,
@@ -78,7 +78,7 @@ pub(crate) fn takes<R: Wait + Abort, B: Letters>(
     job
 }
 
-// What a take answers that gives no message.
+// What a take that gives no message returns.
 #[derive(Clone, Copy, Debug, PartialEq, Eq)]
 pub(crate) enum Answer {
     Empty,
@@ -101,7 +101,7 @@ fn found<R: Wait + Abort, B: Letters>(rt: &R, board: &B, pass: &mut B::Pass) -> 
     }
 }
 
-// Takes no message: this has to be the answer.
+// Takes no message: this must be the result.
 pub(crate) fn finds<R: Wait + Abort, B: Letters>(
     rt: &R,
     board: &B,
@@ -147,7 +147,7 @@ pub(crate) fn post<R: Wait, B: Letters>(
     Board::post(board, rt, pass, job, to, Letter(message))
 }
 
-// Posts to mailbox 1: this has to be the answer.
+// Posts to mailbox 1: this must be the result.
 fn posts<R: Wait + Abort, B: Letters>(
     rt: &R,
     board: &B,
@@ -176,7 +176,7 @@ fn tells<B: Letters>(board: &B, first: &mut B::Pass, second: &mut B::Pass)
     Board::learn(board, second, told);
 }
 
-// Puts a pass behind those of the lower numbers.
+// Appends a pass to those with lower numbers.
 pub(crate) fn gather<R: Abort, B: Letters>(
     rt: &R,
     board: &B,
@@ -374,7 +374,7 @@ where
     finds(rt, &board, &mut zero, Answer::Spent);
 }
 
-// An abort stops posts and not dones.
+// An abort stops posts, but not dones.
 fn stops_posts<R: Wait + Abort, B: Letters + Drop>(rt: &R, alloc: B::Heap)
 where
     B::Heap: Clone,

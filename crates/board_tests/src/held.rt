@@ -19,7 +19,7 @@ type Pass = BoxPass<Letter, (), Global>;
 // How many turns a thread waits for the other, at most.
 const TURNS: u32 = 10_000_000;
 
-// Waits until the flag is raised, and yields between two turns. It says whether it was.
+// Waits until the flag is raised, and yields between two turns. Returns whether it was.
 fn raised(flag: &AtomicBool) -> bool {
     for _turn in 0..TURNS {
         if flag.load(SeqCst) {
@@ -30,7 +30,7 @@ fn raised(flag: &AtomicBool) -> bool {
     false
 }
 
-// What the two threads tell each other: that the first is inside, and that the second's post has answered.
+// What the two threads tell each other: that the first is inside, and that the second's post has returned.
 #[derive(Drop)]
 struct Flags {
     begun: AtomicBool,

@@ -91,7 +91,7 @@ fn finish<A: Allocator>(lock: Lock<A>, lanes: Vec<MarkLane<A>, A>) -> Marks<A>
     lock.close(lanes.into_iter())
 }
 
-// Draws a ticket, which has to have this number.
+// Draws a ticket, which must have this number.
 fn draw<R: Abort, A: Allocator>(
     rt: &R,
     lock: &Lock<A>,
@@ -124,7 +124,7 @@ fn look_early<R: Abort, A: Allocator>(
     }
 }
 
-// Looks in turn, adds a mark and leaves. So many marks have to be there before.
+// Looks in turn, adds a mark and leaves. A given number of marks must be there before.
 fn serve<R: Abort, A: Allocator>(
     rt: &R,
     lock: &Lock<A>,
@@ -148,7 +148,7 @@ fn serve<R: Abort, A: Allocator>(
     assert!(rt; found == wanted);
 }
 
-// Draws a ticket of this number, and is served at the first look, with as many marks before.
+// Draws a ticket with this number, and is served at the first look, with as many marks before.
 fn draw_and_serve<R: Abort, A: Allocator>(
     rt: &R,
     lock: &Lock<A>,
@@ -229,7 +229,7 @@ fn a_lane_that_learned_is_served_at_its_first_look(rt: HostRuntime) {
     learns(&rt, &lock, &mut first, &mut second);
 }
 
-// How many lanes a lock of three has. Its value comes back where it finds no memory.
+// How many lanes a lock of three has. Its value comes back if it gets no memory.
 fn lanes_of<R: Abort, H: Allocator + Clone, A: Allocator>(
     rt: &R,
     heap: H,
@@ -244,7 +244,7 @@ fn lanes_of<R: Abort, H: Allocator + Clone, A: Allocator>(
     }
 }
 
-// Whether the allocation of this number was refused to the lock.
+// Whether the allocation with this number was refused to the lock.
 fn was_refused<R: Abort, A: Allocator>(rt: &R, host: A, first: Marks<A>, nth: u64) -> bool {
     let scarce = Scarce::refusing(host, nth);
     let lanes = lanes_of(rt, &scarce, first);

@@ -28,7 +28,7 @@ fn posts<R: Abort, A: Allocator>(rt: &R, mailbox: &mut Mailbox<u8, A>, sender: u
     assert_eq!(rt; answer, Ok(()));
 }
 
-// Takes the message, which has to be this one of this number.
+// Takes the message, which must be this one with this number.
 fn takes<R: Abort, A: Allocator>(rt: &R, mailbox: &mut Mailbox<u8, A>, number: u64, message: u8)
     ensures { TakesOldest mailbox.old mailbox.new message }
 {
@@ -36,7 +36,7 @@ fn takes<R: Abort, A: Allocator>(rt: &R, mailbox: &mut Mailbox<u8, A>, number: u
     assert!(rt; answer == Some((number, message)));
 }
 
-// The whole history has to be this, and legal.
+// The whole history must be this, and legal.
 fn has<R: Abort, A: Allocator>(rt: &R, mailbox: &Mailbox<u8, A>, wanted: &[Event<u8>]) {
     let history = mailbox.history();
     assert!(rt; history == wanted && legal(history));
@@ -101,7 +101,7 @@ fn each_sender_has_its_messages_in_order(rt: HostRuntime) {
     assert!(rt; has_at_side(rt.alloc(), history, Side::Takes, &[5]));
 }
 
-// Posts a message as the one of this number, again where it was refused: it comes back then, and nothing is recorded.
+// Posts the message with this number, and again if it was refused: it then comes back, and nothing is recorded.
 fn posts_again<R: Abort, A: Allocator>(rt: &R, mailbox: &mut Mailbox<u8, A>, number: u8) {
     if let Err(back) = mailbox.post(0, number) {
         assert!(rt; back == number && mailbox.history().len() == usize::from(number));
@@ -109,7 +109,7 @@ fn posts_again<R: Abort, A: Allocator>(rt: &R, mailbox: &mut Mailbox<u8, A>, num
     }
 }
 
-// Posts the messages below ten, and takes them, for which no allocation is asked.
+// Posts the messages below ten, and takes them, which requests no allocation.
 fn serves_ten<R: Abort, H: Allocator, A: Allocator>(
     rt: &R,
     scarce: &Scarce<H>,
@@ -133,7 +133,7 @@ fn count_taken<A: Allocator>(alloc: A, history: &[Event<u8>]) -> Option<usize> {
     }
 }
 
-// Whether the allocation of this number was refused to the list of the messages taken.
+// Whether the allocation with this number was refused to the list of the messages taken.
 fn list_was_refused<R: Abort, A: Allocator>(
     rt: &R,
     host: A,
@@ -147,7 +147,7 @@ fn list_was_refused<R: Abort, A: Allocator>(
     few.refused()
 }
 
-// Whether the allocation of this number was refused to a mailbox of ten messages, or to their list.
+// Whether the allocation with this number was refused to a mailbox of ten messages, or to their list.
 fn was_refused<R: Abort, A: Allocator>(rt: &R, host: A, other: A, nth: u64) -> bool {
     let scarce = Scarce::refusing(host, nth);
     let mut mailbox = Mailbox::new(&scarce);

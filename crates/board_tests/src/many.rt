@@ -15,10 +15,10 @@ use switchboard::{Board, Job, LockPerBox, OneLock, Taken};
 // How many messages each thread posts.
 const MESSAGES: u32 = 10_000;
 
-// How many times a thread looks for a message, at most, after its own posts.
+// How many times, at most, a thread looks for a message after its own posts.
 const LOOKS: u32 = 10_000_000;
 
-// How a look for a message went.
+// The result of a look for a message.
 #[derive(Clone, Copy, Debug, PartialEq, Eq)]
 enum Look {
     Served,
@@ -61,7 +61,7 @@ fn posts<R: Wait + Abort, B: Letters>(rt: &R, board: &B, pass: &mut B::Pass, job
     }
 }
 
-// Looks for messages until the board is closed. It says whether it found the close.
+// Looks for messages until the board is closed. Returns whether it found the close.
 fn drain<R: Wait + Abort, B: Letters>(rt: &R, board: &B, pass: &mut B::Pass) -> bool
     requires { (B.sight pass.old).board ≡ B.identity board.now }
     ensures { IsSame (B.sight pass.old) (B.sight pass.new) }
@@ -287,7 +287,7 @@ where
 {
     let ledger = worked::<R, B>(rt, alloc, more);
     assert!(rt; ledger.closed && ledger.histories.len() == 4);
-    // The first pass began the work of each by one message more.
+    // The first pass began the work of each by one more message.
     let wanted = [(0, 2_501), (1, 2_500), (2, 2_500), (3, 2_500)];
     came_in_order(rt, lists, ledger.histories.as_slice(), wanted.as_slice());
 }

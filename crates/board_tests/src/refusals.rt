@@ -10,7 +10,7 @@ use std::process::Abort;
 use std::sync::Wait;
 use switchboard::{Job, LockPerBox, OneLock, PostFault};
 
-// Posts a message. Where it is refused memory it comes back, and its second post is Ok. It says whether it was refused.
+// Posts a message. If it is refused memory, it comes back, and its second post is Ok. Returns whether it was refused.
 fn post_twice<R: Wait + Abort, B: Letters>(
     rt: &R,
     board: &B,
@@ -37,7 +37,7 @@ fn post_twice<R: Wait + Abort, B: Letters>(
     true
 }
 
-// Posts 20 messages, to mailboxes 0 and 2 in turn. It says how many were refused.
+// Posts 20 messages, to mailboxes 0 and 2 in turn. Returns how many were refused.
 fn posts<R: Wait + Abort, B: Letters>(rt: &R, board: &B, pass: &mut B::Pass, job: &Job) -> u32
     requires board { ((B.sight pass.old).board ≡ B.identity board.now)
         × (2 < (B.sight pass.old).seen.boxes) }
@@ -70,8 +70,8 @@ fn takes<R: Wait + Abort, B: Letters>(rt: &R, board: &B, pass: &mut B::Pass, fir
     }
 }
 
-// Posts 20 messages and takes them, and the board is closed then. One post is refused where an allocation is refused to
-// the posts; takes and completions ask for none.
+// Posts 20 messages and takes them, and the board is closed then. One post is refused if an allocation is refused to
+// the posts; takes and completions request none.
 fn serves<R: Wait + Abort, A: Allocator, B: Letters>(
     rt: &R,
     scarce: &Scarce<A>,
@@ -95,7 +95,7 @@ fn serves<R: Wait + Abort, A: Allocator, B: Letters>(
     assert!(rt; scarce.asked() == asked);
 }
 
-// A board of three mailboxes, each of whose allocations is that of `heap`, serves 20 messages, unless it finds no
+// A board of three mailboxes, each of whose allocations is that of `heap`, serves 20 messages, unless it gets no
 // memory for itself.
 fn tries<R: Wait + Abort, A: Allocator, B: Letters + Drop>(
     rt: &R,
@@ -122,7 +122,7 @@ where
     serves(rt, scarce, &board, &mut pass, &mut other);
 }
 
-// Whether the allocation of this number was refused to a board behind one lock.
+// Whether the allocation with this number was refused to a board behind one lock.
 fn one_lock<R: Wait + Abort, A: Allocator>(rt: &R, host: A, nth: u64) -> bool {
     let scarce = Scarce::refusing(host, nth);
     tries::<R, A, OneLock<Letter, (), &Scarce<A>>>(rt, &scarce, &scarce);
@@ -130,7 +130,7 @@ fn one_lock<R: Wait + Abort, A: Allocator>(rt: &R, host: A, nth: u64) -> bool {
     scarce.refused()
 }
 
-// The same, of a board with a lock for each mailbox.
+// The same for a board with a lock for each mailbox.
 fn a_lock_for_each<R: Wait + Abort, A: Allocator>(rt: &R, host: A, nth: u64) -> bool {
     let scarce = Scarce::refusing(host, nth);
     tries::<R, A, LockPerBox<Letter, (), &Scarce<A>>>(rt, &scarce, &scarce);

@@ -5,8 +5,8 @@ use std::alloc::{AllocError, Allocator, Global};
 use std::process::Abort;
 use std::thread;
 
-/// Pushes the numbers below 100, each again where it was refused; answers how many were refused, and the growth before
-/// the last refusal.
+/// Pushes the numbers below 100, each one again if it was refused; returns how many were refused, and the growth
+/// before the last refusal.
 fn pushes<A: Allocator>(numbers: &mut Vec<u64, A>) -> Result<(u64, u64), AllocError> {
     let (mut refusals, mut growths, mut at) = (0u64, 0u64, 0u64);
     for n in 0..100u64 {
@@ -23,7 +23,7 @@ fn pushes<A: Allocator>(numbers: &mut Vec<u64, A>) -> Result<(u64, u64), AllocEr
     Ok((refusals, at))
 }
 
-/// The same of an empty list; `None` where a number was refused twice, or the numbers are not there.
+/// The same for an empty list; `None` if a number was refused twice, or the numbers are not there.
 fn pushed<A: Allocator>(mut numbers: Vec<u64, A>) -> Option<(u64, u64)> {
     match pushes(&mut numbers) {
         Ok(counts) if numbers.iter().copied().eq(0..100u64) => Some(counts),
@@ -31,8 +31,8 @@ fn pushed<A: Allocator>(mut numbers: Vec<u64, A>) -> Option<(u64, u64)> {
     }
 }
 
-/// The number of refusals and, before the last one, of growths; the numbers are there, and no block is out once they
-/// are let go.
+/// The number of refusals and, before the last one, of growths; the numbers are there, and no block is left once
+/// they are dropped.
 fn refuses<R: Abort, A: Allocator>(rt: &R, alloc: A, nth: u64, wanted: (u64, u64)) {
     let scarce = Scarce::refusing(alloc, nth);
     let numbers = Vec::new(&scarce);
@@ -113,7 +113,7 @@ fn refuses_from_the_third_on(rt: HostRuntime) {
     refuses_each(&rt, rt.alloc());
 }
 
-/// Code as other crates write it: it allocates by its runtime's own allocator.
+/// Code as other crates write it: it allocates with its runtime's own allocator.
 fn two_texts<R: Alloc>(rt: &R) -> Result<(String<R::A>, String<R::A>), AllocError> {
     Ok((
         String::from_str(rt.alloc(), "first")?,

@@ -1,10 +1,10 @@
-//! For programs of rows: each line of the standard input is a case, and is printed again with what comes of it.
+//! For programs of rows: each line of the standard input is a case, and is printed again with its result.
 #![tactic(auto)]
 
 use std::alloc::{AllocError, Global};
 use std::io::{self, BufRead, BufReader};
 
-/// Prints each line of the standard input, and lets `answer` print what comes of it.
+/// Prints each line of the standard input, and lets `answer` print the result.
 pub fn each_line<F: FnMut(&str) -> io::Result<()>>(
     rt: &HostRuntime,
     mut answer: F,
@@ -20,7 +20,7 @@ pub fn each_line<F: FnMut(&str) -> io::Result<()>>(
     Ok(())
 }
 
-/// Prints each line of the standard input, and what `answer` writes of it; of a heading that is nothing.
+/// Prints each line of the standard input, and what `answer` writes for it, which is nothing for a heading.
 pub fn each_case<F: FnMut(&str, &mut String) -> Result<(), AllocError>>(
     rt: &HostRuntime,
     mut answer: F,
@@ -34,7 +34,7 @@ pub fn each_case<F: FnMut(&str, &mut String) -> Result<(), AllocError>>(
     })
 }
 
-/// Prints what was written of a case, or that memory was wanting.
+/// Prints what was written for a case, or that memory was lacking.
 fn print_answer<R: Print>(rt: &R, answered: Result<(), AllocError>, text: &str) -> io::Result<()> {
     match text {
         _ if answered.is_err() => rt.print("no memory\n"),
@@ -43,7 +43,7 @@ fn print_answer<R: Print>(rt: &R, answered: Result<(), AllocError>, text: &str) 
     }
 }
 
-/// The words of a line behind a first one.
+/// The words of a line after a given first one.
 pub fn words_behind(alloc: Global, first: &str, line: &str) -> Result<Vec<String>, AllocError> {
     let mut words = Vec::new(alloc);
     words.push(String::from_str(alloc, first)?)?;
@@ -53,17 +53,17 @@ pub fn words_behind(alloc: Global, first: &str, line: &str) -> Result<Vec<String
     Ok(words)
 }
 
-/// The first number of some with points between them, and the others; 0 where there is none.
+/// The first of several numbers separated by points, and the rest; 0 if there is none.
 pub fn first(text: &str) -> (u64, &str) {
     number_before('.', text)
 }
 
-/// The first number of some with blanks between them, and what stands behind it; 0 where there is none.
+/// The first of several numbers separated by blanks, and what follows it; 0 if there is none.
 pub fn first_word(text: &str) -> (u64, &str) {
     number_before(' ', text)
 }
 
-/// The number before a separator, and what stands behind it; 0 where there is none.
+/// The number before a separator, and what follows it; 0 if there is none.
 fn number_before(separator: char, text: &str) -> (u64, &str) {
     let (number, others) = text.split_once(separator).unwrap_or((text, ""));
     (number.parse::<u64>().unwrap_or(0), others)

@@ -1,4 +1,4 @@
--- What a report says of the program that it is on, and what is told of it.
+-- What a report says about its program, and what a reply says about the report.
 use Rattle.std.proofs.Common.{◌≡◌, ◌∙◌, ◌↔◌, ◌++◌, ℕ, Bool, true, false, List, ◌∷◌, ◌+◌}
 use Rattle.std.proofs.Common.{cond, count_by, inl, inr, refl, sym, ap, subst, arith, length}
 use Rattle.std.proofs.lemmas.List.{length-map}
@@ -70,7 +70,7 @@ due_many p q h due taken = record {
   many = length-map (posts h) (λ (x : ℕ × Due). x.1) ∙ ap length (sym taken) ∙ takes_counted h;
 }
 
--- a report on a checked program tells of each of its procedures
+-- a report on a checked program covers each of its procedures
 pub has_each : {H A : Type 0} (rounds most : ℕ) (t : Tree) (r : Report H A) → IsChecked t → IsReport t rounds most r
     → HasEach (names_of t) r
 has_each rounds most t r checked h = record {
@@ -82,7 +82,7 @@ has_each rounds most t r checked h = record {
       omega (arith, few, same);
 }
 
--- the lines behind the answer are what is asked for
+-- the lines after the answer are what is asked for
 lines_follow : {H A : Type 0} (rounds most : ℕ) (t : Tree) (r : Report H A) → IsReport t rounds most r → (stats : Bool)
     → ComesBehind stats rounds t (lines_behind stats (names_of t) r)
 lines_follow rounds most t r h false = refl
@@ -90,7 +90,7 @@ lines_follow rounds most t r h true =
     tell_counts t rounds r.summaries r.ledger.histories.items h.found.summaries h.found.through.all
     (λ q history at. due_many _ q history (h.found.due q history at) (h.found.through.each_taken q history at))
 
--- what is told of an answer is what it says
+-- what a reply says about an answer is what the answer says
 answered : (t : Tree) (rounds : ℕ) (stats : Bool) (a : Answer)
     → ((a ≡ Unsafe) ↔ runs.Unsafe (meaning_of t) rounds) → (lines : List ℕ) → ComesBehind stats rounds t lines
     → (bytes : List ℕ) (status : ℕ) → bytes ≡ answer_line a ++ lines → status ≡ answer_status a
@@ -109,7 +109,7 @@ answers text rounds most t r stats of h bytes status e s =
     let follows = lines_follow rounds most t r h stats in
     (t, of.0, of.1, h.found.few, answered t rounds stats r.answer h.answer _ follows bytes status e s)
 
--- where there is a report, the text has a rewriting that is not too wide
+-- if there is a report, the text has a rewriting that is not too wide
 pub reported_rewriting : {H A : Type 0} (text : List ℕ) (rounds most : ℕ) (t : Tree) (r : Report H A)
     → IsProgramOf text t → IsReport t rounds most r
     → HasRewriting text rounds

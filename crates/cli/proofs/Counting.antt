@@ -24,7 +24,7 @@ use Rattle.summaries.specs.Tabulated.{ArePairsAscending, AreSummaries, IsAscendi
 use Rattle.cli.specs.Counts.{AreCountsOf, AreSoMany, Counts, TellCounts, counts_line, counts_lines, names_of}
 use Rattle.cli.specs.Counted.{counted, counted_each, is_take}
 
--- of ascending numbers, the first is less than each other
+-- of ascending numbers, the first is less than each of the others
 above : (x : ℕ) (xs : List ℕ) (y : ℕ) → IsAscending (x ∷ xs) → Member y xs → x < y
 above x [] y up m = absurd m
 above x (z ∷ zs) y up (inl e) = subst (λ k. x < k) (sym e) up.0
@@ -34,13 +34,13 @@ rest_ascends : (x : ℕ) (xs : List ℕ) → IsAscending (x ∷ xs) → IsAscend
 rest_ascends x [] up = tt
 rest_ascends x (y ∷ ys) up = up.1
 
--- ascending numbers stand once
+-- ascending numbers occur once
 numbers_once : (xs : List ℕ) → IsAscending xs → NoneTwice xs
 numbers_once [] up = tt
 numbers_once (x ∷ xs) up =
     (λ m. let less = above x xs x up m in omega (arith, less), numbers_once xs (rest_ascends x xs up))
 
--- one pair is before another, of those with one entry valuation
+-- one pair comes before another, among those with one entry valuation
 abbrev LeavesBefore : Pair → Pair → Type 0
 LeavesBefore x y = (x.b < y.b) ⊎ ((x.b ≡ y.b) × (x.r ≡ false) × (y.r ≡ true))
 
@@ -70,7 +70,7 @@ rest_pairs : (x : Pair) (xs : List Pair) → ArePairsAscending (x ∷ xs) → Ar
 rest_pairs x [] up = tt
 rest_pairs x (y ∷ ys) up = up.1
 
--- ascending pairs stand once
+-- ascending pairs occur once
 pairs_once : (xs : List Pair) → ArePairsAscending xs → NoneTwice xs
 pairs_once [] up = tt
 pairs_once (x ∷ xs) up = (λ m. before_itself x (before x xs x up m), pairs_once xs (rest_pairs x xs up))
@@ -90,7 +90,7 @@ counts_of p q s history is due = record {
   taken = due;
 }
 
--- what stands at a number of what is counted of each
+-- what is at an index of the counts
 at_number : (ss : List Effect) (hs : List (List (Event Due))) (q : ℕ) (c : Counts)
     → slice_get (counted_each ss hs) q ≡ Some c
     → (s : Effect) × (h : List (Event Due)) × (slice_get ss q ≡ Some s) × (slice_get hs q ≡ Some h) × (c ≡ counted s h)
@@ -99,7 +99,7 @@ at_number (s ∷ ss) [] q c e = cc
 at_number (s ∷ ss) (h ∷ hs) zero c e = (s, h, refl, refl, cc)
 at_number (s ∷ ss) (h ∷ hs) (suc q) c e = at_number ss hs q c e
 
--- so it is of each procedure
+-- the same for each procedure
 pub counts_of_each : (p : Program) (ss : List Effect) (hs : List (List (Event Due)))
     → ((q : ℕ) (s : Effect) → slice_get ss q ≡ Some s → IsSummary p q s)
     → ((q : ℕ) (h : List (Event Due)) → slice_get hs q ≡ Some h → AreSoMany (IsDueFor p q) (count_by is_take h))
@@ -125,7 +125,7 @@ at_each (x ∷ ss) [] k s h e f = cc
 at_each (x ∷ ss) (y ∷ hs) zero s h e f = cc
 at_each (x ∷ ss) (y ∷ hs) (suc k) s h e f = at_each ss hs k s h e f
 
--- one line more
+-- one more line
 pub one_line_more : (names : List (List ℕ)) (cs : List Counts) (k : ℕ) (name : List ℕ) (c : Counts)
     → slice_get names k ≡ Some name
     → slice_get cs k ≡ Some c → counts_lines (take (suc k) names) (take (suc k) cs)
@@ -149,7 +149,7 @@ as_many_names rounds t =
     ∙ ap suc (length-map t.procedures (rewritten_procedure (last_of rounds))
     ∙ sym (length-map t.procedures (λ (p : Procedure). p.name.text))))
 
--- by the summaries of the rewriting and the histories of its mailboxes, the lines tell what is counted
+-- by the summaries of the rewriting and the histories of its mailboxes, the lines give what is counted
 pub tell_counts : (t : Tree) (rounds : ℕ) (s : Effects) (hs : List (List (Event Due)))
     → AreSummaries (sequential_for rounds t) s
     → length hs ≡ length (sequential_for rounds t).routines
@@ -163,7 +163,7 @@ tell_counts t rounds s hs summaries boxes due = record {
   same = refl;
 }
 
--- the line of the procedure of a number is written behind those before it
+-- the line of the procedure of a number is written after those before it
 pub line_pushed : (names : List (List ℕ)) (ss : List Effect) (hs : List (List (Event Due))) (k : ℕ)
     (first old new name : List ℕ) (s : Effect)
     (h : List (Event Due)) (entries : List ℕ) (pairs : List Pair) (taken : ℕ) → slice_get names k ≡ Some name
@@ -186,7 +186,7 @@ line_pushed names ss hs k first old new name s h entries pairs taken named at th
     ∙ ap (λ l. first ++ l) (ap (λ l. lines ++ l) line ∙ sym more
     ∙ ap (λ n. counts_lines (take n names) (take n cs)) (sym (add-one k)))
 
--- where there are no more, all lines are written
+-- if there are no more, all lines are written
 pub all_written : (names : List (List ℕ)) (ss : List Effect) (hs : List (List (Event Due))) (k : ℕ)
     (first lines : List ℕ) → length names ≤ k
     → length ss ≤ k → length hs ≡ length ss → lines ≡ first ++ counts_lines (take k names) (take k (counted_each ss hs))

@@ -1,4 +1,4 @@
--- What is said of a text by its answer.
+-- What its answer says about a text.
 use Rattle.std.proofs.Common.{◌≡◌, ◌≤◌, List, ℕ, Option, None, arith, inl, inr, subst}
 use Rattle.std.proofs.lemmas.Bool.{cases_lt}
 use Rattle.refusals.specs.declared.refusal.Refusal.{Refusal}

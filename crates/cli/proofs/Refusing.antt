@@ -1,4 +1,4 @@
--- Which refusal a reply tells, by the one that stands.
+-- Which refusal a reply reports: one that stands.
 use Rattle.std.proofs.Common.{◌≡◌, ◌∙◌, ◌⊎◌, ◌≤◌, ℕ, Bool, List, Option, None, inl, inr}
 use Rattle.std.proofs.Common.{ap, refl, sym, arith, codes, get_or}
 use Rattle.language.specs.Tree.{Tree}
@@ -22,7 +22,7 @@ pub has_rewriting : (text : List ℕ) (rounds : ℕ) (sequential : Tree) → IsR
     → HasRewriting text rounds
 has_rewriting text rounds sequential h = (h.tree, h.of, h.checked, h.narrow)
 
--- a fault of scopes that is not want of memory has its place
+-- a fault of scopes that is not lack of memory has its place
 fault_place : (text : List ℕ) (fault : ScopeFault) → NamesOffset (Unchecked fault)
     → (t : Tree) × Text text t × ((fault ≡ scope.Memory) ⊎ IsFirstFault t fault) → HasPlace text
 fault_place text scope.Memory names stands = absurd names
@@ -47,7 +47,7 @@ has_place text rounds limit Memory names stands = absurd names
 has_place text rounds limit NoWorker names stands = absurd names
 has_place text rounds limit Spent names stands = absurd names
 
--- what is told where a refusal stands is a refusal that stands
+-- what is reported if a refusal stands is a refusal that stands
 pub refuses : {A : Type 0} (text : List ℕ) (rounds : ℕ) (limit : Option ℕ) (why : Refusal) (reply : Reply A)
     → RefusalStands text rounds limit why → TellsOrLacks why reply → RefusesFor text rounds limit reply
 refuses text rounds limit why reply stands (inl told) = (why, stands, told)
@@ -67,7 +67,7 @@ pub rewriting_few : (text : List ℕ) (rounds : ℕ) (bytes : List ℕ) (status 
     → (status ≡ 0) × IsSequential text rounds bytes → status ≤ 1
 rewriting_few text rounds bytes status (e, is) = omega (arith, e)
 
--- a reply with a greater status tells why
+-- a reply with a greater status gives the reason
 pub tells_many : {A : Type 0} (text : List ℕ) (rounds : ℕ) (limit : Option ℕ) (reply : Reply A) (V : Type 0)
     → (V → reply.status ≤ 1) → V × (reply.refusal ≡ None) ⊎ RefusesFor text rounds limit reply → 2 ≤ reply.status
     → RefusesFor text rounds limit reply
@@ -86,7 +86,7 @@ status_many Memory = omega arith
 status_many NoWorker = omega arith
 status_many Spent = omega arith
 
--- a reply with a smaller status tells nothing
+-- a reply with a smaller status gives no reason
 pub tells_none : {A : Type 0} (text : List ℕ) (rounds : ℕ) (limit : Option ℕ) (reply : Reply A) (V : Type 0)
     → V × (reply.refusal ≡ None) ⊎ RefusesFor text rounds limit reply → reply.status ≤ 1 → reply.refusal ≡ None
 tells_none text rounds limit reply V (inl v) few = v.1
@@ -106,7 +106,7 @@ refused xs is e = let same : 114 ≡ 110 = sym is ∙ ap (λ l. get_or l 0 0) e 
 other : (xs : List ℕ) (x : ℕ) → get_or xs 12 0 ≡ x → (x ≡ 101 → ⊥) → xs ≡ edge_line → ⊥
 other xs x is not_e e = not_e (sym is ∙ ap (λ l. get_or l 12 0) e)
 
--- where the line is that of the edge limit, it is passed
+-- if the line is that of the edge limit, it is passed
 past_by : (text : List ℕ) (rounds : ℕ) (limit : Option ℕ) (why : Refusal) → RefusalStands text rounds limit why
     → line_of why ≡ edge_line → IsPast text rounds limit
 past_by text rounds limit (Unread read.TooLong) stands e = absurd (refused _ refl e)

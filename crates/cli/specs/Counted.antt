@@ -1,4 +1,4 @@
--- What is told of a report: its answer, and the lengths of its lists.
+-- What a reply says about a report: its answer, and the lengths of its lists.
 use Rattle.std.specs.Prelude.{◌≡◌, ◌≤◌, ℕ, Bool, true, false, List, [], ◌∷◌, codes, count_by, length}
 use Rattle.post_ledger.specs.declared.event.Event.{Event}
 use Rattle.post_ledger.specs.declared.event.Event.TheVariants.{Post, Take, Done}
@@ -36,7 +36,7 @@ answer_status Safe = 0
 answer_status Unsafe = 1
 
 module _ {H A : Type 0} where
-  -- what comes behind the answer of a report, of procedures with these names: nothing, or, where it is asked for,
+  -- what comes after the answer of a report, of procedures with these names: nothing, or, if it is asked for,
   -- their lines
   abbrev pub lines_behind : Bool → List (List ℕ) → Report H A → List ℕ
   lines_behind false names report = []

@@ -1,4 +1,4 @@
--- What is counted of the procedures of a program's rewriting, and the lines that tell it.
+-- What is counted of the procedures of a program's rewriting, and the lines that give it.
 use Rattle.std.specs.Prelude.{◌≡◌, ◌↔◌, ℕ, List, [], ◌∷◌, ◌++◌, Some, codes, length, map, slice_get}
 use Rattle.std.specs.Fmt.{decimal}
 use Rattle.language.specs.Tree.{Procedure, Tree}
@@ -10,7 +10,7 @@ use Rattle.summaries.specs.Fitting.{IsDueFor}
 use Rattle.summaries.specs.declared.pair.Pair.{Pair}
 use Rattle.summaries.specs.Found.{left}
 
--- There are `n` items of which P holds: a list of them, in which none stands twice, has this length.
+-- There are `n` items for which P holds: a list of them, in which none occurs twice, has this length.
 pub record AreSoMany {A : Type 0} (P : A → Type 0) (n : ℕ) : Type 0 where
   pub all : List A
   pub once : NoneTwice all
@@ -50,7 +50,7 @@ counts_lines (name ∷ names) (counts ∷ cs) = counts_line name counts.entries 
 abbrev pub names_of : Tree → List (List ℕ)
 names_of tree = codes "main__" ∷ map (λ (p : Procedure). p.name.text) tree.procedures
 
--- The lines tell, for each procedure of the program's rewriting for K rounds, in the order of their numbers, its
+-- The lines give, for each procedure of the program's rewriting for K rounds, in the order of their numbers, its
 -- name and what is counted of it.
 pub record TellCounts (rounds : ℕ) (tree : Tree) (lines : List ℕ) : Type 0 where
   pub counts : List Counts

@@ -11,29 +11,29 @@ use Rattle.cli.specs.Streams.{Streams}
 use Rattle.command_line.specs.declared.asked.LineFault.{LineFault}
 use Rattle.command_line.specs.declared.asked.LineFault.TheVariants.{Help, Memory, Refused}
 
--- what is told of a word that is no text
+-- what is written about a word that is not a text
 abbrev pub no_utf8 : Text
 no_utf8 = codes "error: a word of the command line is no UTF-8\n"
 
--- Words that the system does not hand over, with an error of this kind, have this fault: one is no text, or memory gave
--- out. Help is never the fault.
+-- Words that the system does not pass on, with an error of this kind, have this fault: one is not a text, or memory
+-- ran out. Help is never the fault.
 abbrev pub AreUnread : ErrorKind → LineFault → Type 0
 AreUnread kind (Help text) = ⊥
 AreUnread kind (Refused why) = (kind ≡ InvalidData) × (string_bytes why ≡ no_utf8)
 AreUnread kind Memory = ⊤
 
--- `gives` says which words the system may hand over, and `text_of` what they are; `opens` what the opening of a file by
+-- `gives` says which words the system may pass on, and `text_of` what they are; `opens` what the opening of a file by
 -- its name may give, and `remaining` what a file has left.
 module _ {V F : Type 0} (gives : Result V Error → Type 0) (text_of : V → List Text)
     (opens : Text → Result F Error → Type 0) (remaining : F → Option (List ℕ)) where
-  -- What the words that were handed over ask for was done; or none were, and that was said.
+  -- What the words that were passed on ask for was done; or none were passed on, and that was reported.
   abbrev pub ProgramEnds : Streams → Streams → ℕ → Type 0
   ProgramEnds old new result =
       ((words : V) × gives (Ok words) × RunsWords opens remaining (text_of words) old new result)
       ⊎ ((error : Error) × gives (Err error)
       × ((fault : LineFault) × AreUnread (error_kind error) fault × Declines fault old new result))
 
-  -- Words were handed over, and what they ask for was answered.
+  -- Words were passed on, and what they ask for was answered.
   abbrev pub EndsAnswered : Streams → Streams → ℕ → Type 0
   EndsAnswered old new result =
       (words : V) × gives (Ok words) × AnswersWords opens remaining (text_of words) old new result

@@ -27,27 +27,28 @@ pub record IsWide (bytes : List ℕ) (rounds : ℕ) (tree : Tree) (wide : Option
 abbrev pub HasRewriting : List ℕ → ℕ → Type 0
 HasRewriting bytes rounds = (t : Tree) × Text bytes t × IsChecked t × IsNarrowFor rounds t
 
--- The text is no program by the grammar, or a fault of scopes stands in it: there is a place at which it is refused.
+-- The text is not a program of the grammar, or a fault of scopes stands in it: there is a place at which it is
+-- refused.
 abbrev pub HasPlace : List ℕ → Type 0
 HasPlace bytes =
     ((at : ℕ) × text.ReadFaultStands (read.Syntax at) bytes)
     ⊎ ((t : Tree) × (fault : ScopeFault) × Text bytes t × IsFirstFault t fault)
 
--- Some procedure of the text's rewriting has more path edges than the limit, where there is one.
+-- Some procedure of the text's rewriting has more path edges than the limit, if there is one.
 abbrev pub IsPast : List ℕ → ℕ → Option ℕ → Type 0
 IsPast bytes rounds None = ⊥
 IsPast bytes rounds (Some edges) = IsOver bytes rounds edges
 
--- A check has workers: where there is a limit, for a text with a rewriting that is not too wide.
+-- A check has workers: there is a limit, and the text has a rewriting that is not too wide.
 abbrev pub HasWorkers : List ℕ → ℕ → Option ℕ → Type 0
 HasWorkers bytes rounds None = ⊥
 HasWorkers bytes rounds (Some edges) = HasRewriting bytes rounds
 
 -- The refusal stands: the text is not read for this fault; or it is the text of a program in which this is the first
 -- fault of scopes; or of a checked program whose rewriting for K rounds is too wide, or has a procedure with more
--- path edges than the limit. While a text is read, memory may give out at any point, and so it may while scopes are
--- checked. Later it gives out only where the program is rewritten and what follows, or over the line of a refusal that
--- names an offset. The workers of a check may get no thread, or use up their calls.
+-- path edges than the limit. While a text is read, memory may run out at any point, and so it may while scopes are
+-- checked. Later it runs out only while the program is rewritten and in what follows, or for the line of a refusal
+-- that names an offset. The workers of a check may get no thread, or use up their calls.
 abbrev pub RefusalStands : List ℕ → ℕ → Option ℕ → Refusal → Type 0
 RefusalStands bytes rounds limit (Unread fault) = text.ReadFaultStands fault bytes
 RefusalStands bytes rounds limit (Unchecked fault) =
@@ -58,8 +59,8 @@ RefusalStands bytes rounds limit Memory = HasRewriting bytes rounds ⊎ HasPlace
 RefusalStands bytes rounds limit NoWorker = HasWorkers bytes rounds limit
 RefusalStands bytes rounds limit Spent = HasWorkers bytes rounds limit
 
--- A cause for which a program with this tree gets no verdict is told as this refusal: as the one of its name, and where
--- the rewriting for K rounds is too wide with the first procedure that is.
+-- A cause for which a program with this tree gets no verdict is reported as this refusal: as the one with its name
+-- and, if the rewriting for K rounds is too wide, with the first procedure that is.
 abbrev pub IsToldAs : Tree → ℕ → NoVerdict → Refusal → Type 0
 IsToldAs tree rounds cause.TooWide why = (wide : Option Wide) × IsFirstWideFor rounds tree wide × (why ≡ TooWide wide)
 IsToldAs tree rounds cause.Memory why = why ≡ Memory

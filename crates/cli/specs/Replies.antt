@@ -1,4 +1,4 @@
--- What a reply says of a text, by what was asked.
+-- What a reply says about a text, by what was asked.
 use Rattle.std.specs.Prelude.{◌≡◌, ◌⊎◌, ℕ, List, Option, Some, None}
 use Rattle.language.specs.Tree.{Tree}
 use Rattle.syntax.specs.InGrammar.{WithinLimits, IsTextOf}
@@ -37,18 +37,18 @@ Replies text (Sequential rounds) bytes status = (status ≡ 0) × IsSequential t
 abbrev pub IsPastLimit : List ℕ → Order → Type 0
 IsPastLimit text order = IsPast text (rounds_of order) (edges_of order)
 
--- The reply tells this refusal, and is its line with its status.
+-- The reply reports this refusal, and is its line with its status.
 abbrev pub TellsRefusal : {A : Type 0} → Refusal → Reply A → Type 0
 TellsRefusal why reply = (bytes_of reply ≡ line_of why) × (reply.status ≡ status_of why) × (reply.refusal ≡ Some why)
 
--- The reply tells this refusal; or its line names an offset, and the reply tells that memory gave out over that.
+-- The reply reports this refusal; or its line names an offset, and the reply says that memory ran out for it.
 abbrev pub TellsOrLacks : {A : Type 0} → Refusal → Reply A → Type 0
 TellsOrLacks why reply = TellsRefusal why reply ⊎ (NamesOffset why × TellsRefusal Memory reply)
 
--- Some refusal stands for K rounds and this limit, and the reply tells it, and is its line with its status.
+-- Some refusal stands for K rounds and this limit, and the reply reports it, and is its line with its status.
 abbrev pub RefusesFor : {A : Type 0} → List ℕ → ℕ → Option ℕ → Reply A → Type 0
 RefusesFor text rounds limit reply = (why : Refusal) × RefusalStands text rounds limit why × TellsRefusal why reply
 
--- Some refusal stands for what was asked, and the reply tells it, and is its line with its status.
+-- Some refusal stands for what was asked, and the reply reports it, and is its line with its status.
 abbrev pub Refuses : {A : Type 0} → List ℕ → Order → Reply A → Type 0
 Refuses text order reply = RefusesFor text (rounds_of order) (edges_of order) reply

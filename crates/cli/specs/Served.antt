@@ -1,4 +1,4 @@
--- What is read of a reader, and what is said of it.
+-- What is read from a reader, and what is written about it.
 use Rattle.std.specs.Prelude.{◌≡◌, ◌≢◌, ◌⊎◌, ◌+◌, ◌<◌, ◌≤◌, ℕ, true, List, [], Option, codes, length}
 use Rattle.std.specs.Io.KnownBytes.{Consumes, IsAtEnd}
 use Rattle.std.specs.declared.io.ErrorKind.{ErrorKind}
@@ -18,7 +18,7 @@ use Rattle.refusals.specs.declared.refusal.Refusal.{Refusal}
 abbrev pub most_read : ℕ
 most_read = most_bytes + 1
 
--- The reader gave these bytes, at most `most`, and all that it had where they are fewer.
+-- The reader gave these bytes, at most `most`, and all that it had if they are fewer.
 pub record Gave (most : ℕ) (old new : Option (List ℕ)) (bytes : List ℕ) : Type 0 where
   pub gave : Consumes old new bytes
   pub few : length bytes ≤ most
@@ -32,30 +32,30 @@ GavePart most old new = (bytes : List ℕ) × Consumes old new bytes × (length 
 abbrev pub GaveAll : Option (List ℕ) → Option (List ℕ) → List ℕ → Type 0
 GaveAll old new bytes = Consumes old new bytes × IsAtEnd new
 
--- the line where the file can't be read
+-- the line if the file can't be read
 abbrev pub file_line : List ℕ
 file_line = codes "refused: file\n"
 
--- what is said where memory gave out
+-- what is written if memory ran out
 abbrev pub without_memory : Said
 without_memory = record { reply = memory_line; status = 3; message = no_memory }
 
--- This is said of a text in the file of this name: what was asked for, and no message; or the line of a refusal that
--- stands, with its status, and why.
+-- This is written about a text in the file with this name: what was asked for, and no message; or the line of a
+-- refusal that stands, with its status, and the reason.
 abbrev pub IsReply : List ℕ → List ℕ → Order → Said → Type 0
 IsReply path text order said =
     ((said.status ≤ 1) × Replies text order said.reply said.status × (said.message ≡ []))
     ⊎ ((why : Refusal) × RefusalStands text (rounds_of order) (edges_of order) why × (said.reply ≡ line_of why)
     × (said.status ≡ status_of why) × IsExplanation path text order why said.message)
 
--- This is said of a file that the system, with an error of this kind, does not open or read: that it can't be read, and
--- why; or that memory gave out, where the error tells that.
+-- This is written about a file that the system, with an error of this kind, does not open or read: that it can't be
+-- read, and why; or that memory ran out, if the error says so.
 abbrev pub IsUnread : List ℕ → ErrorKind → Said → Type 0
 IsUnread path kind said =
     ((kind ≢ OutOfMemory) × (said.reply ≡ file_line) × (said.status ≡ 2) × IsReason path said.message)
     ⊎ ((kind ≡ OutOfMemory) × (said ≡ without_memory))
 
--- What is due to a file that is not opened or read was said.
+-- What is due for a file that is not opened or read was written.
 pub record TellsUnread (path : List ℕ) (kind : ErrorKind) (old new : Streams) (result : ℕ) : Type 0 where
   pub said : Said
   pub unread : IsUnread path kind said
@@ -67,14 +67,15 @@ ReplyIsDue path order given left said =
     ((text : List ℕ) × Gave most_read given left text × IsReply path text order said)
     ⊎ (GavePart most_read given left × ((kind : ErrorKind) × IsUnread path kind said))
 
--- What is due to what the reader gave was said.
+-- What is due for what the reader gave was written.
 pub record Serves (path : List ℕ) (order : Order) (given left : Option (List ℕ)) (old new : Streams)
     (result : ℕ) : Type 0 where
   pub said : Said
   pub due : ReplyIsDue path order given left said
   pub says : Says old new said result
 
--- The reader gave all its bytes, and the standard output took just the reply to them, and the standard error nothing.
+-- The reader gave all its bytes, and the standard output took exactly the reply to them, and the standard error
+-- nothing.
 pub record Answered (order : Order) (given left : Option (List ℕ)) (old new : Streams) (result : ℕ) : Type 0 where
   pub text : List ℕ
   pub bytes : List ℕ

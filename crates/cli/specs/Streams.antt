@@ -2,7 +2,7 @@
 use Rattle.std.specs.Prelude.{◌≡◌, ◌⊎◌, ◌<◌, ℕ, Bool, true, false, IsTrue, List, [], Option, length, take}
 use Rattle.std.specs.Io.KnownBytes.{Appends}
 
--- what is known of a stream: the bytes that it holds, where they are known, and whether a write to it may have failed
+-- what is known of a stream: the bytes that it holds, if they are known, and whether a write to it may have failed
 pub record KnownStream : Type 0 where
   pub bytes : Option (List ℕ)
   pub may_have_failed : Bool
@@ -14,7 +14,7 @@ StreamTakes old new bytes true = Appends old.bytes new.bytes bytes
 StreamTakes old new bytes false =
     IsTrue new.may_have_failed × ((n : ℕ) × (n < length bytes) × Appends old.bytes new.bytes (take n bytes))
 
--- The stream took all of these bytes, or, where a write to it failed, a part, and no others.
+-- The stream took all of these bytes, or, if a write to it failed, a part, and no others.
 abbrev pub Logs : KnownStream → KnownStream → List ℕ → Type 0
 Logs old new bytes = (all : Bool) × StreamTakes old new bytes all
 
@@ -22,7 +22,7 @@ Logs old new bytes = (all : Bool) × StreamTakes old new bytes all
 abbrev pub Stays : KnownStream → KnownStream → Type 0
 Stays old new = StreamTakes old new [] true
 
--- The stream took all of these bytes, and the result is their status; or, where a write to it failed, a part, and the
+-- The stream took all of these bytes, and the result is their status; or, if a write to it failed, a part, and the
 -- result is 3.
 abbrev pub Writes : KnownStream → KnownStream → List ℕ → ℕ → ℕ → Type 0
 Writes old new bytes status result =
@@ -37,13 +37,13 @@ pub record Streams : Type 0 where
 abbrev pub streams : KnownStream → KnownStream → Streams
 streams output log = record { output = output; log = log }
 
--- what is to be said: the reply, its status, and the message about it
+-- what is to be written: the reply, its status, and the message about it
 pub record Said : Type 0 where
   pub reply : List ℕ
   pub status : ℕ
   pub message : List ℕ
 
--- The standard output took the reply and the standard error the message, each once and as a whole, or a part where a
--- write failed; the result is the status, or 3 where a write of the reply failed.
+-- The standard output took the reply and the standard error the message, each once and as a whole, or a part if a
+-- write failed; the result is the status, or 3 if a write of the reply failed.
 abbrev pub Says : Streams → Streams → Said → ℕ → Type 0
 Says old new said result = Writes old.output new.output said.reply said.status result × Logs old.log new.log said.message

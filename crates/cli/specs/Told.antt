@@ -1,19 +1,19 @@
--- What standard error tells.
+-- What standard error says.
 use Rattle.std.specs.Prelude.{◌≡◌, ◌⊎◌, ℕ, List, [], ◌++◌, Option, None, Some, codes}
 use Rattle.orders.specs.declared.order.Order.{Order}
 use Rattle.refusals.specs.Explained.{Explains, no_memory}
 use Rattle.refusals.specs.declared.refusal.Refusal.{Refusal}
 
--- The message explains why this text gets no verdict, or tells that memory gave out over that.
+-- The message explains why this text gets no verdict, or says that memory ran out for it.
 abbrev pub IsExplanation : List ℕ → List ℕ → Order → Refusal → List ℕ → Type 0
 IsExplanation path text order why message = Explains path text order why [] message ⊎ (message ≡ no_memory)
 
--- The message explains why this text gets no verdict, if it gets none, and else it is empty.
+-- The message explains why this text gets no verdict, if it gets none, and otherwise it is empty.
 abbrev pub IsMessage : List ℕ → List ℕ → Order → Option Refusal → List ℕ → Type 0
 IsMessage path text order None message = message ≡ []
 IsMessage path text order (Some why) message = IsExplanation path text order why message
 
--- The message is the file with the system's words behind it, or tells that memory gave out over that.
+-- The message is the file with the system's words after it, or says that memory ran out for it.
 abbrev pub IsReason : List ℕ → List ℕ → Type 0
 IsReason path message =
     ((words : List ℕ) × (message ≡ path ++ (codes ": " ++ (words ++ codes "\n")))) ⊎ (message ≡ no_memory)

@@ -1,4 +1,4 @@
--- What a verdict says of a text.
+-- What a verdict says about a text.
 use Rattle.std.specs.Prelude.{◌≡◌, ℕ, Bool, true, false, List, [], ◌++◌, ◌⊎◌, codes}
 use Rattle.language.specs.Tree.{Tree}
 use Rattle.language.specs.Resolve.{meaning_of}
@@ -25,13 +25,13 @@ IsOver text rounds edges = (t : Tree) × Text text t × IsChecked t × IsOverLim
 abbrev pub IsProgramOf : List ℕ → Tree → Type 0
 IsProgramOf text tree = Text text tree × IsChecked tree
 
--- what comes behind a verdict: nothing, or, where it is asked for, what is counted of each procedure
+-- what comes after a verdict: nothing, or, if it is asked for, what is counted of each procedure
 abbrev pub ComesBehind : Bool → ℕ → Tree → List ℕ → Type 0
 ComesBehind false rounds tree lines = lines ≡ []
 ComesBehind true rounds tree lines = TellCounts rounds tree lines
 
--- The reply is `unsafe` with status 1 where some run of at most K rounds fails an assert, `safe` with status 0
--- where none does, and behind it comes what is asked for.
+-- The reply is `unsafe` with status 1 if some run of at most K rounds fails an assert, `safe` with status 0 if
+-- none does, and then comes what is asked for.
 abbrev pub AnswersOn : Tree → ℕ → Bool → List ℕ → ℕ → Type 0
 AnswersOn tree rounds stats bytes status =
     (lines : List ℕ) × ComesBehind stats rounds tree lines

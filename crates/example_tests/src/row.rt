@@ -24,7 +24,7 @@ pub fn taken<R: Print + AllocGlobal + Wait + Threads + Sync>(
     Ok(put(text, line)?)
 }
 
-/// Puts a line behind a text.
+/// Appends a line to a text.
 fn put(text: &mut Vec<u8>, line: &str) -> Result<(), AllocError> {
     text.extend_from_slice(line.as_bytes())?;
     Ok(text.push(b'\n')?)

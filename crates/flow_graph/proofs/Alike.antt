@@ -1,4 +1,4 @@
--- Where choice 0 of an assignment leads two valuations alike, each choice does.
+-- If choice 0 of an assignment leads two valuations alike, each choice does.
 use Rattle.std.proofs.Common.{◌≡◌, ◌≤◌, ◌⊎◌, ℕ, ◌/◌, not, Bool, true, false, cond, Some, List, [], ◌∷◌}
 use Rattle.std.proofs.Common.{inl, inr, refl, sym, ap, ◌∙◌, arith}
 use Rattle.std.specs.Int.RustNames.{bit_or}
@@ -100,7 +100,7 @@ assigned_alike a u v i same = same_from_bits (assigned a u i) (assigned a v i) (
       | inr is ↦ is u u ∙ ap (λ n. bit_of n k) same ∙ sym (is v v)
     ]
 
--- where a flow has more than two choices, and choice 0 leads two valuations alike, each choice does
+-- if a flow has more than two choices, and choice 0 leads two valuations alike, each choice does
 pub next_alike : {A : Type 0} (flow : Flow A) (u v i m n w : ℕ) → 2 ≤ last_of flow → next_of flow u 0 ≡ Some (m, w)
     → next_of flow v 0 ≡ Some (n, w) → next_of flow u i ≡ next_of flow v i
 next_alike (Assign a to) u v i m n w more from_u from_v =

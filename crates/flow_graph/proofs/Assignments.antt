@@ -88,7 +88,7 @@ paired [] rs = []
 paired (t ∷ ts) [] = []
 paired (t ∷ ts) (r ∷ rs) = t ∷ paired ts rs
 
--- a write more, where the target's value lasts
+-- one more write, if the target's value lasts
 abbrev pub kept_one : {R : Type 0} → Option ℕ → R → List (ℕ × R) → List (ℕ × R)
 kept_one None r ks = ks
 kept_one (Some b) r ks = (b, r) ∷ ks
@@ -301,7 +301,7 @@ module _ (s : Scope) (gs ls : List Bool) where
   abbrev Given : List (Option ℕ) → List (RightSide Name) → ℕ → Type 0
   Given ts rs i = (vs : List Bool) × AreValues gs ls (map (resolve_side s) rs) vs × Fits ts rs vs i
 
-  -- values of the right sides that fit, where the first target is this
+  -- values of the right sides that fit, if the first target is this
   abbrev GivenOne : Option ℕ → RightSide Name → List (Option ℕ) → List (RightSide Name) → ℕ → Type 0
   GivenOne o r ts rs i = (v : Bool) × (vs : List Bool) × AreValues gs ls (resolve_side s r ∷ map (resolve_side s) rs) (v ∷ vs)
       × (FitsOne o r v i × Fits ts rs vs (behind o r i))
@@ -560,7 +560,7 @@ pub anys_step : {A : Type 0} (ws : List (Write A)) (i : ℕ) (w : Write A) → i
     → anys (drop i ws) ≡ any_of w.side + anys (drop (i + 1) ws)
 anys_step ws i w h e = ap anys (drop_more ws i w h) ∙ ap (λ x. any_of x.side + anys (drop (i + 1) ws)) (sym e)
 
--- where some write is still a `?`, the choices so far can be doubled
+-- if some write is still a `?`, the choices so far can be doubled
 pub one_more_fits : {A : Type 0} (ws : List (Write A)) (i last : ℕ) (w : Write A) →
     (n : ℕ) × (last + 1 ≡ 2 ^ n) × (n + anys (drop i ws) ≡ anys ws) → i < length ws → w ≡ get_or ws i w →
     any_of w.side ≡ 1 → anys ws ≤ most_places → last * 2 + 1 < 2 ^ word_bits
@@ -597,7 +597,7 @@ kept_step f g h xs ys at n x y inside within is there count =
 abbrev pub kept_from : {N : Type 0} → Scope → List (syntax.Name N) → List (Rhs N) → ℕ → List (ℕ × RightSide Name)
 kept_from s xs ys at = kept (map (bit_of_name s) (names_of (drop at xs))) (rhss_of (drop at ys))
 
--- writes for what is left, behind those so far, are writes for all
+-- writes for what is left, after those so far, are writes for all
 abbrev pub Leads : {A : Type 0} → Scope → List (Write A) → List (ℕ × RightSide Name) → List (ℕ × RightSide Name) → Type 0
 Leads {A} s old ks all = (ws : List (Write A)) → Compiled s ws ks → Compiled s (old ++ ws) all
 
@@ -645,7 +645,7 @@ kept_none f g h (x ∷ xs) [] (suc n) e = absurd (omega (arith, e))
 kept_none f g h (x ∷ xs) (y ∷ ys) zero e = absurd (omega (arith, e))
 kept_none f g h (x ∷ xs) (y ∷ ys) (suc n) e = kept_none f g h xs ys n (omega (arith, e))
 
--- where no target is left, the writes are all
+-- if no target is left, the writes are all
 pub all_written : {N A : Type 0} (s : Scope) (xs : List (syntax.Name N)) (ys : List (Rhs N)) (n : ℕ) (ws : List (Write A))
     → n ≡ min (length xs) (length ys)
     → Leads s ws (kept_from s xs ys n) (kept_from s xs ys 0) → Compiled s ws (kept_from s xs ys 0)

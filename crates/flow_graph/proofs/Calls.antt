@@ -13,7 +13,7 @@ use Rattle.resolved.specs.Limits.{most_places}
 doubled : (bit : ℕ) → 2 ^ (bit + 1) ≡ 2 ^ bit * 2
 doubled bit = ap (λ n. 2 ^ n) (add-one bit) ∙ omega (arith, pow-suc 2 bit)
 
--- one argument more of an entry
+-- one more argument of an entry
 pub argument_step : {A : Type 0} (f : A → Bool) (xs rest : List A) (x : A) (entry bit worth whole : ℕ)
     → entry + 2 ^ bit * coded (map f xs) ≡ whole → xs ≡ x ∷ rest
     → worth ≡ worth_of (f x) → entry < 2 ^ bit → bit < most_places
@@ -28,7 +28,7 @@ argument_step f xs rest x entry bit worth whole h e is small within =
     let rest_same : 2 ^ (bit + 1) * coded (map f rest) ≡ 2 ^ bit * 2 * coded (map f rest) = ap (λ n. n * coded (map f rest)) twice in
     (omega (arith, exact, all, rest_same), omega (arith, exact, below, twice))
 
--- an entry of fewer places than there are has room for one argument more
+-- an entry of fewer places than there are has room for one more argument
 pub entry_fits : (b : Bool) (entry bit worth : ℕ) → worth ≡ worth_of b → entry < 2 ^ bit → bit < most_places →
     entry + worth * 2 ^ bit % 2 ^ word_bits < 2 ^ word_bits
 entry_fits b entry bit worth is small within =

@@ -43,7 +43,7 @@ together n m = go (n == m) refl
         larger false is = let same : 2 ^ max n m ≡ 2 ^ n = ap (λ j. 2 ^ j) (let least = ltb-false n m is in omega (arith, least)) in
             omega (arith, same)
 
--- steps behind steps, and one more behind them
+-- steps appended to steps, and one more
 joined : (x y rest : List Step) (last : Step) → (x ++ (y ++ (last ∷ []))) ++ rest ≡ x ++ (y ++ (last ∷ rest))
 joined x y rest last = append_assoc x (y ++ (last ∷ [])) rest ∙ ap (λ l. x ++ l) (append_assoc y (last ∷ []) rest)
 
@@ -55,7 +55,7 @@ behind old left right new x y last e f h =
 length_joined : (x y : List Step) (last : Step) → length (x ++ (y ++ (last ∷ []))) ≡ length x + (length y + 1)
 length_joined x y last = length-append x (y ++ (last ∷ [])) ∙ ap (λ n. length x + n) (length-append y (last ∷ []))
 
--- After two operands, the second on top, the step leaves the worth of the whole, and the whole needs what they need.
+-- After two operands, the second on top, the step leaves the value of the whole, and the whole needs what they need.
 record Joins (first second whole : Expression ℕ) (last : Step) : Type 0 where
   pub gives : (f : ℕ → Bool) (rest : List Step) (stack : List Bool) →
       after_steps f (last ∷ rest) (worth f second ∷ worth f first ∷ stack) ≡ after_steps f rest (worth f whole ∷ stack)
@@ -142,7 +142,8 @@ pub need_read : (o : Option ℕ) → need (read_of o) ≡ 1
 need_read None = refl
 need_read (Some b) = refl
 
--- operands that need as much need one more together, and others as much as the one that needs more
+-- two operands that need as much as each other together need one more, others as much as the one that needs
+-- more
 module _ (o : Operator) (a b : Expression ℕ) (n m whole : ℕ) (left : n ≡ need a) (right : m ≡ need b) where
   pub need_same : n ≡ m → whole ≡ min (n + 1) 4294967295 → whole ≡ need (two o a b)
   need_same same is =
@@ -157,7 +158,7 @@ module _ (o : Operator) (a b : Expression ℕ) (n m whole : ℕ) (left : n ≡ n
       ∙ ap (max (need a)) right
       ∙ ap (λ f. cond f (min (need a + 1) 4294967295) (max (need a) (need b))) (sym (ne_eqb _ _ (λ same. other (left ∙ same ∙ sym right))))
 
--- a bit that is read, and a constant, are the worth of an expression by themselves
+-- a bit that is read, and a constant, are by themselves the value of an expression
 pub bit_read : (b : ℕ) → b < most_places → Evaluates (var b) (Read b ∷ [])
 bit_read b small = record {
   puts = λ f rest stack. refl;
@@ -172,7 +173,7 @@ constant_read b = record {
   long = omega arith;
 }
 
--- one step behind others, and the step that turns the top
+-- one step after others, and the step that negates the top
 pub one_put : (e : Expression ℕ) (old new : List Step) (step : Step) → Evaluates e (step ∷ []) → new ≡ old ++ (step ∷ []) →
     PutsSteps old new e
 one_put e old new step evaluates is = (step ∷ [], is, evaluates)

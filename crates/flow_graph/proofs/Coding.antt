@@ -9,7 +9,7 @@ use Rattle.flow_graph.specs.Bits.{coded}
 use Rattle.flow_graph.specs.Flows.{code}
 use Rattle.flow_graph.proofs.Stacks.{coded_small}
 
--- a number tells its values, where it is known how many there are
+-- a number determines its values, if it is known how many there are
 pub coded_tells : (xs ys : List Bool) → length xs ≡ length ys → coded xs ≡ coded ys → xs ≡ ys
 coded_tells [] [] h e = refl
 coded_tells [] (y ∷ ys) h e = absurd (omega (arith, h))
@@ -44,7 +44,7 @@ split_back (x ∷ xs) [] ys ys' h e = absurd (omega (arith, h))
 split_back (x ∷ xs) (x' ∷ xs') ys ys' h e =
     split_back xs xs' ys ys' (omega (arith, h)) (ap (λ l. elim l as (λ z. List Bool) [ [] ↦ [] | y ∷ more ↦ more ]) e)
 
--- a number tells its valuation, where it is known how many globals and places there are
+-- a number determines its valuation, if it is known how many globals and places there are
 pub code_tells : (v w : Valuation) → length v.globals ≡ length w.globals → length v.places ≡ length w.places → code v ≡ code w → v ≡ w
 code_tells v w globals places e =
     let whole : v.globals ++ v.places ≡ w.globals ++ w.places = coded_tells (v.globals ++ v.places) (w.globals ++ w.places)

@@ -22,6 +22,6 @@ next_counts {A} l i s lt is =
     ap (λ x. statements (block_of x)) (drop_more l i s lt ∙ ap (λ (y : Stmt A). y ∷ drop (i + 1) l) (sym is))
     ∙ split_counts s (drop (i + 1) l)
 
--- behind the last there is none
+-- after the last there is none
 pub end_counts : {A : Type 0} (l : List (Stmt A)) (i : ℕ) → length l ≤ i → statements (block_of (drop i l)) ≡ 0
 end_counts l i le = ap (λ x. statements (block_of x)) (drop_all i l le)

@@ -43,7 +43,7 @@ same_first a b c d e = ap (λ (z : ℕ × ℕ). z.0) (same_Some (a, b) (c, d) e)
 same_second : (a b c d : ℕ) → ◌≡◌ {A = Option (ℕ × ℕ)} (Some (a, b)) (Some (c, d)) → b ≡ d
 same_second a b c d e = ap (λ (z : ℕ × ℕ). z.1) (same_Some (a, b) (c, d) e)
 
--- a flow on without a write does a test whose two points are one
+-- a flow that continues without a write does a test whose two points are the same
 pub does_same : {A : Type 0} (f : Flow A) (r : RightSide Place) (j k : ℕ) (w : Widths) → j ≡ k → Does f (goes j) w →
     Does f (tests r j k) w
 does_same {A} f r j k w e d = record {
@@ -67,7 +67,7 @@ does_same {A} f r j k w e d = record {
         let b = value_of v.globals v.places x in
         (b, refl, to ∙ sym (at_j b), same)
 
--- an assignment that writes nothing goes on
+-- an assignment that writes nothing continues
 pub does_goes : {A : Type 0} (a : Assignment A) (to : ℕ) (w : Widths) → a.writes.items ≡ [] → a.last ≡ 0 →
     Does (Assign a to) (goes to) w
 does_goes {A} a to w none last = record {
@@ -217,7 +217,7 @@ does_tests (side.Value f) (value e) s gives j k ne d = record {
   resumes = λ v x s e n wide count h. absurd (none-some _ h);
 }
 
--- a flow on which no run goes on does a call that no run makes
+-- a flow on which no run continues does a call that no run makes
 pub does_no_call : {A : Type 0} (f : Flow A) (x : Option Place) (p : ℕ) (es : List (Expression Place)) (k : ℕ) (w : Widths) →
     ((p < w.procedures → ⊥) ⊎ (w.globals + length es ≤ most_places → ⊥)) → Does f stops w →
     Does f (calls x p es k) w
@@ -239,7 +239,7 @@ does_no_call f x p es k w ne d = record {
     refused a b (inl h) = h a
     refused a b (inr h) = h b
 
--- each formula says what its expression is worth, for valuations with a given number of globals
+-- each formula gives the value of its expression, for valuations with a given number of globals
 abbrev pub AllSay : {A : Type 0} → List (Formula A) → Scope → List (Expression Place) → Type 0
 AllSay fs s es = (gs ls : List Bool) → length gs ≡ length s.globals → map (λ f. says f (coded (gs ++ ls))) fs ≡ values_of gs ls es
 
@@ -255,7 +255,7 @@ entry_code fs s es v all e =
     mul_comm (2 ^ length s.globals) (coded (map (λ f. says f (code v)) fs)) ∙ λ t. said t * 2 ^ sym e t in
     omega (arith, low, whole, above)
 
--- a target has a place where there are more
+-- a target has a place if there are more
 target_within : (n k : ℕ) (x : Option Place) → n ≤ k → HasTarget n x → HasTarget k x
 target_within n k None le has = tt
 target_within n k (Some (global i)) le has = tt
@@ -314,7 +314,7 @@ does_return w = record {
   resumes = λ v x s e n wide count h. absurd (none-some _ h);
 }
 
--- one formula more says one value more
+-- one more formula gives one more value
 pub more_said : {A : Type 0} (f : A → Bool) (fs : List A) (x : A) (b : Bool) (bs : List Bool) → f x ≡ b
     → map f (fs ++ (x ∷ [])) ++ bs ≡ map f fs ++ (b ∷ bs)
 more_said f [] x b bs e = ap (λ v. v ∷ bs) e

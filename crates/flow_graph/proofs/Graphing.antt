@@ -77,7 +77,7 @@ coded_fresh g n args = ap coded (sym (append_assoc g args (zeros (n - length arg
     above [] (suc n) = let e : coded (zeros n) ≡ 0 = above [] n in omega (arith, e)
     above (x ∷ xs) n = ap (λ k. worth_of x + 2 * k) (above xs n)
 
--- only a node of a call calls, and that calls what the statement calls
+-- only a node of a call calls, and it calls what the statement calls
 module _ (routine : Routine) (v : Valuation) (s n : ℕ) (args : List Bool) where
   no_jump : (o : Option Code) → NodeCalls (goes_to o) v s args n → ⊥
   no_jump None h = h
@@ -213,7 +213,7 @@ module _ (p : Program) (q : ℕ) (routine : Routine) (there : slice_get p.routin
         d.resumes v x s e n (wide v w) count h ∙ ap (λ t. code (resumed_with t v x)) (called_for routine r);
   }
 
--- a drawn graph is that of the procedure of its number
+-- a drawn graph is that of the procedure with its number
 pub drawn_graph : {N A : Type 0} (t : tree.Program N) (q : ℕ) (proc : Proc N) (graph : Graph A) → Resolves (tree_of t)
     → AllNarrow (tree_of t) → slice_get t.procs.items q ≡ Some proc → Draws t proc graph →
     IsGraph (sequential_of (tree_of t)) q graph
@@ -286,7 +286,7 @@ abbrev nodes_in : {N : Type 0} → List (Name N) → List (Name N) → List (Nam
 nodes_in gs fs ls ps b n =
     map (node_of (routine_in gs fs ls ps b)) (rests (numbered n (resolve_block (scope_in gs fs ls ps) (block_of b))) done)
 
--- behind the exit's flow, those of the body
+-- after the exit's flow, those of the body
 pub drawn_flows : {N A : Type 0} (gs gs' fs fs' ls ls' : List (Name N)) (ps ps' : List (Proc N)) (b b' : List (Stmt N))
     (old new : List (Flow A)) → gs ≡ gs' → fs ≡ fs' → ls ≡ ls' → ps ≡ ps' → b ≡ b' → old ≡ flow.Return ∷ [] →
     Lowered old new (nodes_in gs fs ls ps b (length old)) (widths_of (scope_in gs fs ls ps) (gives_value (block_of b))) →
@@ -303,7 +303,7 @@ drawn_flows {N} {A} gs gs' fs fs' ls ls' ps ps' b b' old new eg ef el ep eb star
           all,
     ))))))
 
--- each graph is drawn of the procedure of its number
+-- each graph is drawn from the procedure with its number
 abbrev pub AllDrawn : {N A : Type 0} → tree.Program N → List (Proc N) → List (Graph A) → Type 0
 AllDrawn {N} {A} t ps graphs = (q : ℕ) (graph : Graph A) → slice_get graphs q ≡ Some graph
     → (proc : Proc N) × (slice_get ps q ≡ Some proc) × Draws t proc graph

@@ -95,7 +95,7 @@ module _ {A : Type 0} (graph : Graph A) (ms : List NumberedMessage) (ts : List (
     λ a v s k held. (each s (numbered_summary q a (left_by graph v))).1 (tells a v s k ((all a 0 v).0 held)),
   )
 
--- what a procedure owes by messages of its widths has the widths of who it is for
+-- what a procedure owes by messages of its widths has the widths of its receiver
 owed_message : (p : Program) → ArgumentsFit p → (q : ℕ) (M : Message → Type 0) → ((m : Message) → M m → IsMessageTo p q m)
     → (s : ℕ) (m : Message) → Owes p q M s m → IsMessageTo p s m
 owed_message p fit q M right _ _ (by_messages.asks a v e r s reached calls) =

@@ -38,7 +38,7 @@ pub goes_lost : (o : Option Code) → option_map point_at o ≡ None → goes_to
 goes_lost None e = refl
 goes_lost (Some r) e = absurd (none-some _ (sym e))
 
--- what can be left to run from a statement and those inside of it on, and then from those behind it on
+-- what can be left to run from a statement and those inside of it on, and then from those after it on
 rests_led : (n : ℕ) (s : Scope) (m : Mark tree.Name) (d : Deed) (t : Names) (k : Code)
     → rests (led n s m d t) k ≡ rests (led n s m d done) (join (tail n s m d t) k) ++ rests (tail n s m d t) k
 rests_led n s m (simple c) t k =
@@ -76,7 +76,7 @@ nodes_split routine n j s x l k e =
     map (node_of routine) (rests (numbered n (resolve_block s (block_of (x ∷ [])))) (join (numbered i (resolve_block s (block_of l))) k))
     ++ map (node_of routine) (rests (numbered i (resolve_block s (block_of l))) k)) (sym e)
 
--- flows behind flows
+-- flows appended to flows
 all_do : {A : Type 0} (fs gs : List (Flow A)) (ns ms : List Node) (w : Widths) → AllDo fs ns w → AllDo gs ms w →
     AllDo (fs ++ gs) (ns ++ ms) w
 all_do [] gs [] ms w a b = b

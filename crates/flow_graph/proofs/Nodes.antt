@@ -67,7 +67,7 @@ module _ (p : Program) (q : ℕ) (routine : Routine) (there : slice_get p.routin
   flow_leads v v' (loop m r a t) r' (true, is, h) = (true, is, sym (ap (λ s. point_at (rest_in s)) h), sym (ap values_in h))
   flow_leads v v' (loop m r a t) r' (false, is, h) = (false, is, sym (ap (λ s. point_at (rest_in s)) h), sym (ap values_in h))
 
-  -- a node that goes on with unchanged values follows a step that does
+  -- a node that continues with unchanged values follows a step that does
   went : (v v' : Valuation) (r : Code) (n : ℕ) → n ≡ point_at r → v' ≡ v →
       (r' : Code) × (alone v r ≡ alone v' r') × (n ≡ point_at r')
   went v v' r n to same = (r, ap (λ u. alone u r) (sym same), to)

@@ -26,14 +26,14 @@ led n s m d t = numbered n (resolve_block s (marked_before m d t))
 abbrev pub tail : ℕ → Scope → Mark tree.Name → Deed → Names → Code
 tail n s m d t = numbered (n + statements (marked_before m d done)) (resolve_block s t)
 
--- the first block inside of the statement that has number n, and a second one behind it
+-- the first block inside of the statement that has number n, and a second one after it
 abbrev pub inner : ℕ → Scope → Names → Code
 inner n s a = numbered (suc n) (resolve_block s a)
 
 abbrev pub inner_second : ℕ → Scope → Names → Names → Code
 inner_second n s a b = numbered (suc n + statements (resolve_block s a)) (resolve_block s b)
 
--- what is behind a statement with two blocks
+-- what is after a statement with two blocks
 abbrev pub behind_two : ℕ → Scope → Names → Names → Names → Code
 behind_two n s a b t =
     numbered (suc n + (statements (resolve_block s a) + statements (resolve_block s b))) (resolve_block s t)

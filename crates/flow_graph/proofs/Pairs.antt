@@ -53,7 +53,7 @@ module _ (p : Program) (fit : ArgumentsFit p) where
   edge_stands : (q : ℕ) (x y : Valuation) (r : Code) → EdgeTo p q x y r → IsRestOf (body_of (slice_get p.routines q)) r
   edge_stands q x y r edge = reached_stands p q (IsDue p q) x y r (edge_by_due q x y r edge)
 
-  -- the numbers of a message and of a path edge tell them
+  -- the numbers of a message and of a path edge determine them
   pub due_told : (q : ℕ) (m : Message) → IsMessageTo p q m → IsNumberOf (IsDue p q) (by_numbers m) ↔ IsDue p q m
   due_told q m wide = (
     λ h. subst (IsDue p q) (sym (message_told p q m h.0 wide (due_message p fit q h.0 h.1) h.2)) h.1,
@@ -104,7 +104,7 @@ module _ {A : Type 0} (p : Program) (graphs : List (Graph A)) (T : ℕ → Numbe
             eb ∙ (λ i. exit_code (record { globals = g.globals; result = given i })) ∙ sym ((are.1 q graph here).left y wide),
           )
 
-  -- some pair of the first procedure has `bad` where its graph is left with that bit
+  -- some pair of the first procedure has `bad` if its graph is left with that bit
   pub bad_left : IsInTextOrder p → (graph : Graph A) → slice_get graphs 0 ≡ Some graph → (bad : ℕ)
       → SomeBad p bad ↔ ((a : ℕ) × (b : Left) × Leaves graph (T 0) a b × (bit_of b.globals bad ≡ true))
   bad_left order graph here bad = (

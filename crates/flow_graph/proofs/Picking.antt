@@ -19,7 +19,7 @@ three_have_eight f bits three =
     omega (arith, most, coded_small (map f bits))
 
 module _ {A : Type 0} (bits : List ℕ) (e : Expression ℕ) where
-  -- the tables are the expression's where the bits have the rows from this one on
+  -- the tables are the expression's if the bits have the rows from this one on
   abbrev pub AreCases : ℕ → List (Table A) → Type 0
   AreCases row [] = Unit {0}
   AreCases row (t ∷ ts) = IsTruthTableIn t bits row e × AreCases (suc row) ts

@@ -59,7 +59,7 @@ module _ {N : Type 0} (me : Scope N) (x : declared.Name N) (t : List ℕ) (numbe
   abbrev ls : List Name
   ls = names_of me.locals.now
 
-  -- a name that is declared behind a given number of variables has a number that is a place
+  -- a name that is declared after a given number of variables has a number that is a place
   within : (xs : List (declared.Name N)) (before : ℕ) → is_declared t (names_of xs) ≡ true →
       number ≡ number_of t (names_of xs) → before + length xs ≤ most_places → before + number < most_places
   within xs before h is few =

@@ -53,7 +53,7 @@ abbrev kind_of : NumberedMessage → ℕ
 kind_of (numbered_entry from a) = 0
 kind_of (numbered_summary s a b) = 1
 
--- an entry is no summary
+-- an entry is not a summary
 pub entry_is : (from : Caller) (a s x : ℕ) (b : Left) → numbered_entry from a ≡ numbered_summary s x b → ⊥
 entry_is from a s x b e = let z : 0 ≡ 1 = ap kind_of e in omega (arith, z)
 
@@ -65,11 +65,11 @@ same_widths p q v w (g, l) (g', l') =
     let few' : length w.places ≡ frame_size routine = subst (λ o. AtRoutine o (λ r. length w.places ≡ frame_size r)) is l' in
     (g ∙ sym g', few ∙ sym few')
 
--- a number tells the valuation of a procedure
+-- a number determines the valuation of a procedure
 pub valuation_told : (p : Program) (q : ℕ) (v w : Valuation) → IsValuationOf p q v → IsValuationOf p q w → code v ≡ code w → v ≡ w
 valuation_told p q v w is is' e = let (g, l) = same_widths p q v w is is' in code_tells v w g l e
 
--- numbers tell the message to a procedure
+-- numbers determine the message to a procedure
 pub message_told : (p : Program) (q : ℕ) (m n : Message) → IsMessageTo p q m → IsMessageTo p q n → by_numbers m ≡ by_numbers n → m ≡ n
 message_told p q (entry from v) (entry from' w) is is' e =
     ap₂ entry (ap caller_of e) (valuation_told p q v w is is' (ap entry_of e))
@@ -144,7 +144,7 @@ pointed (one m s t) = inr refl
 pointed (choose m c a b t) = inr refl
 pointed (loop m c a t) = inr refl
 
--- the number of a point tells what is left to run
+-- the number of a point determines what is left to run
 pub rest_told : (b r r' : Code) → IsRestOf (numbered 1 b) r → IsRestOf (numbered 1 b) r' → point_at r ≡ point_at r' → r ≡ r'
 rest_told b r r' is is' e = go (pointed r) (pointed r')
   where
@@ -181,7 +181,7 @@ module _ {A : Type 0} (p : Program) (q : ℕ) (graph : Graph A) (is : IsGraph p 
       let (flow', here', steps) = flow_at r rest in
       subst (HasSteps p q r) (same_Some flow' flow (sym here' ∙ ap (slice_get graph.flows.items) (sym e) ∙ here)) steps
 
-  -- a caller at the point goes on as its flow does
+  -- a caller at the point continues as its flow does
   goes_on : (n : ℕ) (flow : Flow A) → slice_get graph.flows.items n ≡ Some flow → (v : ℕ) (b : Left)
       → resumed_at graph n v b ≡ resumed_by flow v b
   goes_on n flow here v b = ap (λ o. behind o v b) here

@@ -1,4 +1,4 @@
--- What a procedure leaves at its exit, and what a caller goes on with behind a call, by numbers.
+-- What a procedure leaves at its exit, and what a caller continues with after a call, by numbers.
 use Rattle.std.proofs.Common.{◌≡◌, ◌<◌, ℕ, ◌+◌, ◌*◌, ◌^◌, ◌==◌, Bool, true, false, not, cond, nat_lt, Option}
 use Rattle.std.proofs.Common.{Some, None, List, [], ◌∷◌, ◌++◌, length, refl, sym, ◌∙◌, ap, arith, length-append}
 use Rattle.std.specs.Int.Bits.{bit_or, and_zero_r, or_zero_r, xor_zero_r}
@@ -58,7 +58,7 @@ masked_place gs ls x v has =
     at_bit None inside = masked_none (coded (gs ++ ls)) v
     at_bit (Some b) inside = masked_coded (gs ++ ls) b v (inside b refl)
 
--- behind a call the caller has the globals left, its own places, and the result in the variable that it called for
+-- after a call the caller has the globals left, its own places, and the result in the variable that it called for
 pub resumed_code : (g : ℕ) (target : Option Place) (v : Valuation) (e : Exit) → length v.globals ≡ g → length e.globals ≡ g →
     HasTarget (length v.places) target →
     resumed g (target_mask g target) (code v) (exit_code e) ≡ code (resumed_with target v e)
@@ -70,7 +70,7 @@ resumed_code g (Some x) v e wide count has =
 
 -- ---- the result
 
--- some bit of a mask of one bit is 1 where that bit is
+-- some bit of a mask of one bit is 1 if that bit is
 has_bit : (n b : ℕ) → has_any n (2 ^ b) ≡ bit_of n b
 has_bit n b = ap (λ k. not (k == 0)) (and_pow n b ∙ ap (λ k. k * 2 ^ b) (bit_worth n b)) ∙ whole (bit_of n b)
   where

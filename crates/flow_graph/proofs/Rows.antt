@@ -22,7 +22,7 @@ use Rattle.resolved.specs.Limits.{most_places}
 
 -- ---- operators on words
 
--- what holds of 0 and 1 holds of two bits
+-- what holds for 0 and 1 holds for two bits
 two_bits : (P : ℕ → ℕ → Type 0) → P 0 0 → P 0 1 → P 1 0 → P 1 1 → (x y : ℕ) → x < 2 → y < 2 → P x y
 two_bits P a b c d zero zero h k = a
 two_bits P a b c d zero (suc zero) h k = b
@@ -152,7 +152,7 @@ slot_outside b (x ∷ xs) h = go (b == x) h (slot_outside b xs)
     go true k rest = absurd (omega (arith, k))
     go false k rest = rest (omega (arith, k))
 
--- inputs behind others change no slot of these
+-- inputs after others change no slot of these
 pub slot_kept : (b : ℕ) (xs ys : List ℕ) → is_input b xs ≡ true
     → (slot b (xs ++ ys) ≡ slot b xs) × (is_input b (xs ++ ys) ≡ true)
 slot_kept b [] ys h = absurd (false≢true h)
@@ -208,7 +208,7 @@ pub constant : (words : List ℕ) (c : Bool) → all_below most_rows (λ j. same
     → output words j ≡ c
 constant words c h j less = same_is (output words j) c (below most_rows (λ k. same (output words k) c) h j less)
 
--- where the left operand is the same in each row, and decides, so is the whole
+-- if the left operand is the same in each row, and decides, so is the whole
 pub decided_rows : (ones l w : List ℕ) (o : Operator) (a c : Bool) → all_below most_rows (λ j. same (output ones j) a) ≡ true
     → all_below most_rows (λ j. same (output w j) c) ≡ true → l ≡ ones → ((b : Bool) → c ≡ operate o a b)
     → (j : ℕ) (right : Bool) → j < most_rows → output w j ≡ operate o (output l j) right
@@ -225,7 +225,7 @@ known_read known row b c f is have = go (is_input b known) refl is
     go true e some = sym (same_Some _ _ some) ∙ sym (have b e)
     go false e none = absurd (none-some _ none)
 
--- the values have the row of the inputs without those behind them
+-- the values have the row of the inputs without those after them
 have_first : (xs ys : List ℕ) (j : ℕ) (f : ℕ → Bool) → HaveRow (xs ++ ys) j f → HaveRow xs j f
 have_first xs ys j f have b h = let kept = slot_kept b xs ys h in have b kept.1 ∙ ap (bit_of j) kept.0
 
@@ -291,7 +291,7 @@ output_taken n j words h = ap (λ w. bit_of w (j % word_rows)) (get_or-take n wo
 pub have_own : (f : ℕ → Bool) (xs : List ℕ) → HaveRow xs (coded (map f xs)) f
 have_own f xs b h = sym (row_bit f xs b h)
 
--- the output in the row of a valuation is what the expression is worth there
+-- the output in the row of a valuation is the value of the expression there
 pub looked_up : (f : ℕ → Bool) (known : List ℕ) (row : ℕ) (xs words : List ℕ) (n : ℕ) (e : Expression ℕ)
     → length xs ≤ most_inputs
     → 2 ^ length xs ≤ word_rows * n → Tabulates known row xs words e → HaveRow known row f →
@@ -304,7 +304,7 @@ looked_up f known row xs words n e few enough t have =
     output_taken n (coded (map f xs)) words (omega (arith, small, enough))
     ∙ t f (coded (map f xs)) (omega (arith, most, small)) have (have_own f xs)
 
--- one value more of a row: its place counts what it is worth
+-- one more value of a row: it counts with the weight of its place
 split : (p : ℕ) (b : Bool) (n : ℕ) → p * (worth_of b + 2 * n) ≡ worth_of b * p + p * 2 * n
 split p true n = mul-add p 1 (2 * n) ∙ (let a : p * 2 * n ≡ p * (2 * n) = mul_assoc p 2 n in omega (arith, a))
 split p false n = let a : p * 2 * n ≡ p * (2 * n) = mul_assoc p 2 n in let z : 0 + 2 * n ≡ 2 * n = omega arith in

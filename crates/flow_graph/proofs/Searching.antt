@@ -41,7 +41,7 @@ of_two : (a c : Option Code) →
 of_two None c = refl
 of_two (Some r) c = refl
 
--- a label stands at the first statement, or inside of it, or behind it
+-- a label stands at the first statement, or inside of it, or after it
 pub place_split : (x : Label) (n : ℕ) (s : Scope) (m : Mark tree.Name) (d : Deed) (t : Names) (k : Code) →
     place x (led n s m d t) k ≡ first_of_two (place x (led n s m d done) (join (tail n s m d t) k)) (place x (tail n s m d t) k)
 place_split x n s m (simple c) t k = go (tail n s m (simple c) t) (behind_simple n s m t c) (has_label x (resolve_mark m))
@@ -117,7 +117,7 @@ place_here x n s m (repeat r a) k e =
     (rest_from x (numbered (suc n) (resolve_block s a))
     (loop (marked n (resolve_mark m)) (resolve_side s r) (numbered (suc n) (resolve_block s a)) k)) None))) e
 
--- what is left to run behind the first block inside of a statement: behind the body of a loop the loop again
+-- what is left to run after the first block inside of a statement: after the body of a loop the loop again
 abbrev behind_first : ℕ → Scope → Mark tree.Name → Deed → Code → Code
 behind_first n s m (simple c) k = k
 behind_first n s m (branch r a b) k = k
@@ -166,14 +166,14 @@ place_nowhere x n s l i k le = ap (λ z. place x (numbered n (resolve_block s (b
 
 module _ {A : Type 0} (x : Label) (stmt : Stmt A) (n at : ℕ)
     (without : has_label x (resolve_mark (item_of stmt).mark) ≡ false) where
-  -- the first statement inside has the next number, where that is one of 64 bits
+  -- the first statement inside has the next number, if that is one of 64 bits
   abbrev pub Inside : Type 0
   Inside = n + statements (block_of (stmt ∷ [])) ≤ 18446744073709551615 → at ≡ suc n
 
   -- the label is found in the first branch, or not there and in the second as it is, or in a loop's body
   module _ (first second : List (Stmt A)) (is_first : block_of first ≡ first_inside (deed_of stmt.core))
       (is_second : block_of second ≡ second_inside (deed_of stmt.core)) (inside : Inside) where
-    -- where the two blocks are those inside of the statement as its item has it
+    -- if the two blocks are those inside of the statement as its item has it
     parts : (block_of first ≡ first_inside (item_of stmt).deed) × (block_of second ≡ second_inside (item_of stmt).deed)
     parts = (is_first ∙ sym (ap first_inside (item_deed stmt)), is_second ∙ sym (ap second_inside (item_deed stmt)))
 

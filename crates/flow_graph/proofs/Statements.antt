@@ -30,7 +30,7 @@ moved xs ys i j after to same at begin =
     subst (λ z. BeginAt z j after to) same (subst (λ m. BeginAt xs m after to) at begin)
 
 module _ {N A : Type 0} (l : Lowering N A) (stmt : Stmt N) (after : ℕ) where
-  -- the flow of the statement is put behind others, of which there are as many as its number says
+  -- the flow of the statement is appended to others, of which there are as many as its number says
   pub put_first : {E : Type 0} (n : ℕ) (old new : List (Flow A)) (made : Result (Flow A) E) →
       IfOk made (λ f. DoesFirst l f stmt n after) → (f : Flow A) × (made ≡ Ok f) × (new ≡ old ++ f ∷ []) →
       n ≡ length old → LoweredFirst l old new stmt after
@@ -38,7 +38,7 @@ module _ {N A : Type 0} (l : Lowering N A) (stmt : Stmt N) (after : ℕ) where
       let here = subst (λ r. IfOk r (λ x. DoesFirst l x stmt n after)) is does in
       (f, pushed, subst (λ m. DoesFirst l f stmt m after) at here)
 
-  -- a statement with none inside of it, whose node depends on the point behind it
+  -- a statement with none inside of it, whose node depends on the point after it
   pub does_simple : (n : ℕ) (c : tree.Simple tree.Name tree.Name tree.Name) (node : ℕ → Node) →
       deed_of stmt.core ≡ simple c →
       ((k : Code) → node_of (lowered_routine l)
@@ -49,7 +49,7 @@ module _ {N A : Type 0} (l : Lowering N A) (stmt : Stmt N) (after : ℕ) where
       let here = node_simple (lowered_routine l) n (lowering_scope l) i.mark i.deed c k (item_deed stmt ∙ is) in
       subst (DoesIn l f) (sym (here ∙ same k ∙ ap node at_k)) does
 
-  -- a statement with two blocks, where the flow tests between the points at which they begin
+  -- a statement with two blocks, if the flow tests between the points at which they begin
   pub does_branch : (n to other : ℕ) (r : Rhs N) (a b : List (Stmt N)) →
       deed_of stmt.core ≡ branch (rhs_of r) (block_of a) (block_of b) →
       (IsCounted l n (stmt ∷ []) →
@@ -64,7 +64,7 @@ module _ {N A : Type 0} (l : Lowering N A) (stmt : Stmt N) (after : ℕ) where
       (sym (node (item_deed stmt ∙ is) ∙ λ t. tests (side_in l r) (sym (at_to s k at_k) t) (sym (at_other s k at_k) t)))
       does
 
-  -- a statement with one block, behind which it runs again
+  -- a statement with one block, after which it runs again
   pub does_repeat : (n to : ℕ) (r : Rhs N) (a : List (Stmt N)) → deed_of stmt.core ≡ repeat (rhs_of r) (block_of a) →
       (IsCounted l n (stmt ∷ []) → BeginAt a (suc n) n to) → (f : Flow A) →
       DoesIn l f (tests (side_in l r) to after) → DoesFirst l f stmt n after
@@ -89,7 +89,7 @@ module _ {N A : Type 0} (l : Lowering N A) (stmt : Stmt N) (after : ℕ) where
             (lowered_one old new f _ _ pushed (does k at_k few)),
       )
 
-  -- behind the flow of the statement come those of the blocks inside of it
+  -- after the flow of the statement come those of the blocks inside of it
   pub lowered_branch : (r : tree.RightSide tree.Name) (a b : List (Stmt N)) (old first mid new : List (Flow A)) →
       deed_of stmt.core ≡ branch r (block_of a) (block_of b) → LoweredFirst l old first stmt after →
       LoweredIn l first mid a after → LoweredIn l mid new b after → LoweredIn l old new (stmt ∷ []) after

@@ -1,4 +1,4 @@
--- Where what graphs send is taken, and no more than is due, what is taken is what is due.
+-- If what graphs send is taken, and nothing that is not due, what is taken is what is due.
 use Rattle.std.proofs.Common.{◌≡◌, ◌↔◌, ℕ, zero, suc, List, [], ◌∷◌, length, Some, slice_get, refl, sym, ◌∙◌, ap, subst, arith}
 use Rattle.std.proofs.lemmas.Option.{none-some}
 use Rattle.language.specs.Rest.{Code}
@@ -22,7 +22,7 @@ use Rattle.flow_graph.specs.declared.graph.Graph.{Graph}
 use Rattle.flow_graph.proofs.Coding.{coded_zeros}
 use Rattle.flow_graph.proofs.Reaching.{reaches_reached, reached_reaches, sends_owed, owed_sends}
 
--- as many in one list as in another: there is a second item where there is a first
+-- two lists of the same length: there is a second item if there is a first
 pub there_too : {X Y : Type 0} (xs : List X) (ys : List Y) (q : ℕ) (x : X) → length xs ≡ length ys → slice_get xs q ≡ Some x
     → (y : Y) × (slice_get ys q ≡ Some y)
 there_too [] ys q x h e = absurd (none-some x e)
@@ -54,7 +54,7 @@ module _ {A : Type 0} (p : Program) (fit : ArgumentsFit p) (q : ℕ) (graph : Gr
       let (m, owed, e) = owed_sends p q graph is M K right fit tells_of order s k h in
       (m, owed_due p q M (λ m d. d.0) s m owed, e)
 
--- who owes a message has an entry
+-- whoever owes a message has an entry
 owes_entry : (p : Program) (q : ℕ) (M : Message → Type 0) (s : ℕ) (m : Message) → Owes p q M s m → (k : Message) × M k
 owes_entry p q M _ _ (by_messages.asks a v e r s reached calls) = let (from, is) = reached_entry p q M a v r reached in (entry from a, is)
 owes_entry p q M _ _ (by_messages.tells a v s is reached) = (entry (caller s) a, is)

@@ -1,4 +1,4 @@
--- What an expression over bits is worth is its value.
+-- The value of an expression over bits is that of the expression.
 use Rattle.std.proofs.Common.{◌≡◌, ◌≤◌, ℕ, zero, suc, ◌+◌, Bool, true, false, cond, not, nat_lt, ◌==◌, Some, None, List, [], ◌∷◌, ◌++◌}
 use Rattle.std.proofs.Common.{length, refl, sym, ◌∙◌, ap, arith}
 use Rattle.std.proofs.lemmas.Bool.{ltb-true, ltb-false}

@@ -17,13 +17,13 @@ after_values scope xs vs valuation = record {
   places = written_locals (map (place_of scope) xs) vs valuation.places;
 }
 
--- the right sides have values in the valuation that, written to the targets, make the one of this number
+-- the right sides have values in the valuation that, written to the targets, make the one with this number
 abbrev pub AssignedTo : Scope → List Name → List (RightSide Name) → Valuation → ℕ → Type 0
 AssignedTo scope xs rs valuation number =
     (vs : List Bool) × AreValues valuation.globals valuation.places (map (resolve_side scope) rs) vs
     × (number ≡ code (after_values scope xs vs valuation))
 
--- a value for each global of the scope, and for each formal and local, perhaps for a result behind them
+-- a value for each global of the scope, and for each formal and local, perhaps for a result after them
 abbrev pub HasPlaces : Scope → Valuation → Type 0
 HasPlaces scope valuation = (length valuation.globals ≡ length scope.globals) × (length scope.locals ≤ length valuation.places)
 

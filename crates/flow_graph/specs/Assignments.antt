@@ -15,7 +15,7 @@ abbrev pub masked : ℕ → ℕ → Bool → ℕ
 masked values mask true = bit_or values mask
 masked values mask false = bit_xor (bit_or values mask) mask
 
--- the choice for the right sides behind this one
+-- the choice for the right sides after this one
 abbrev pub choice_left : {A : Type 0} → Side A → ℕ → ℕ
 choice_left side.Any choice = choice / 2
 choice_left (side.Value formula) choice = choice
@@ -50,11 +50,11 @@ abbrev pub is_among : ℕ → List (Option ℕ) → Bool
 is_among bit [] = false
 is_among bit (t ∷ ts) = cond (is_bit bit t) true (is_among bit ts)
 
--- the bit whose value lasts: it is none of the later ones
+-- the bit whose value lasts: it is not one of the later ones
 abbrev pub lasting : Option ℕ → List (Option ℕ) → Option ℕ
 lasting None ts = None
 lasting (Some bit) ts = cond (is_among bit ts) None (Some bit)
 
--- the bit of a target, where none of the later targets has it
+-- the bit of a target, if none of the later targets has it
 abbrev pub lasting_bit : Scope → Name → List Name → Option ℕ
 lasting_bit scope name later = lasting (bit_of_name scope name) (map (bit_of_name scope) later)

@@ -1,4 +1,4 @@
--- What a compiled call enters its procedure with, and what the caller goes on with.
+-- What a compiled call enters its procedure with, and what the caller continues with.
 use Rattle.std.specs.Prelude.{ℕ, ◌+◌, ◌-◌, ◌*◌, ◌^◌, ◌%◌, List, map}
 use Rattle.flow_graph.specs.Bits.{coded}
 use Rattle.flow_graph.specs.Assignments.{masked}

@@ -19,7 +19,7 @@ start_of graph = graph.start
 abbrev pub globals_of : {A : Type 0} → Graph A → ℕ
 globals_of graph = graph.globals
 
--- the bit of the result, alone; 0 where the procedure gives none
+-- the bit of the result, alone; 0 if the procedure gives none
 abbrev pub result_mask : {A : Type 0} → Graph A → ℕ
 result_mask graph = graph.result
 
@@ -35,7 +35,7 @@ bad_of graphs = graphs.bad
 abbrev pub callee_of : {A : Type 0} → Call A → ℕ
 callee_of call = call.callee
 
--- the point behind the call
+-- the point after the call
 abbrev pub back_of : {A : Type 0} → Call A → ℕ
 back_of call = call.back
 
@@ -43,6 +43,6 @@ back_of call = call.back
 abbrev pub entered_from : {A : Type 0} → Call A → ℕ → ℕ
 entered_from call values = entry_of call.globals call.arguments.items values
 
--- the valuation with which the caller goes on from its own after a call that has left this
+-- the valuation with which the caller continues from its own after a call that has left this
 abbrev pub resumed_from : {A : Type 0} → Call A → ℕ → Left → ℕ
 resumed_from call values left = resumed call.globals call.target values left

@@ -45,18 +45,18 @@ abbrev pub entered_by : {A : Type 0} → Flow A → ℕ → Option (ℕ × ℕ �
 entered_by (Call call) values = Some (call.callee, entry_of call.globals call.arguments.items values, call.back)
 entered_by _ values = None
 
--- the valuation with which the caller goes on from its own behind a flow that calls, where the call has left this
+-- the valuation with which the caller continues from its own after a flow that calls, if the call has left this
 abbrev pub resumed_by : {A : Type 0} → Flow A → ℕ → Left → ℕ
 resumed_by (Call call) values left = resumed call.globals call.target values left
 resumed_by _ values left = values
 
--- by choice i the flow leads from the valuation to the point and the valuation of this number
+-- by choice i the flow leads from the valuation to the point and the valuation with this number
 abbrev pub LeadsBy : {A : Type 0} → Flow A → ℕ → Valuation → ℕ → ℕ → Type 0
 LeadsBy flow i valuation point number = (i ≤ last_of flow) × (next_of flow (code valuation) i ≡ Some (point, number))
 
--- Behaviour of a flow, for the valuations of which W holds: it leads exactly where L says, to a point and the number of
--- a valuation, by one choice each; it enters exactly what E says, a procedure, the number of a valuation, and the point
--- after the return; and behind what it enters the caller goes on as one that called for the target.
+-- Behaviour of a flow, for the valuations for which W holds: it leads exactly where L says, to a point and the number
+-- of a valuation, by one choice each; it enters exactly what E says, a procedure, the number of a valuation, and the
+-- point after the return; and after what it enters the caller continues as one that called for the target.
 pub record Behaves {A : Type 0} (flow : Flow A) (W : Valuation → Type 0) (L : Valuation → ℕ → ℕ → Type 0)
     (E : Valuation → ℕ → ℕ → ℕ → Type 0) (target : Option Place) : Type 0 where
   pub leads : (v : Valuation) (n w : ℕ) → W v → ((i : ℕ) × LeadsBy flow i v n w) ↔ L v n w
@@ -83,7 +83,7 @@ widths_of scope gives = record {
 abbrev pub HasWidths : Widths → Valuation → Type 0
 HasWidths widths valuation = (length valuation.globals ≡ widths.globals) × (length valuation.places ≡ widths.places)
 
--- the node leads to the point and the valuation of this number
+-- the node leads to the point and the valuation with this number
 abbrev pub LeadsTo : Node → Valuation → ℕ → ℕ → Type 0
 LeadsTo node valuation point number = (v' : Valuation) × Leads node valuation point v' × (number ≡ code v')
 
@@ -95,7 +95,7 @@ NodeEnters node procedures valuation callee entered point =
     × (length valuation.globals + length args ≤ most_places) × (entered ≡ coded (valuation.globals ++ args))
 
 -- The flow does what happens at the node, for valuations of these widths: it leads where the node leads, enters what
--- the node calls, and goes on behind the call as one that called for the node's target.
+-- the node calls, and continues after the call as one that called for the node's target.
 abbrev pub Does : {A : Type 0} → Flow A → Node → Widths → Type 0
 Does flow node widths = Behaves flow (HasWidths widths) (LeadsTo node) (NodeEnters node widths.procedures) (target_in node)
 
@@ -106,6 +106,6 @@ AllDo [] (n ∷ ns) widths = ⊥
 AllDo (f ∷ fs) [] widths = ⊥
 AllDo (f ∷ fs) (n ∷ ns) widths = Does f n widths × AllDo fs ns widths
 
--- flows that do these nodes have been put behind others
+-- flows that do these nodes have been appended to others
 abbrev pub Lowered : {A : Type 0} → List (Flow A) → List (Flow A) → List Node → Widths → Type 0
 Lowered {A} old new nodes widths = (flows : List (Flow A)) × (new ≡ old ++ flows) × AllDo flows nodes widths

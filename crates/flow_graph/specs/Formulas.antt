@@ -26,12 +26,12 @@ words_of (More words) = words.items
 abbrev pub table_worth : {A : Type 0} → Table A → ℕ → Bool
 table_worth table values = table_says (seen table.inputs.items.items) (words_of table.outputs) values
 
--- for all values by which the known bits have this row, the output in their row is what the expression is worth
+-- for all values by which the known bits have this row, the output in their row is the value of the expression
 abbrev pub IsTruthTableIn : {A : Type 0} → Table A → List ℕ → ℕ → Expression ℕ → Type 0
 IsTruthTableIn table known row expression =
     (values : ℕ) → HaveRow known row (bit_of values) → table_worth table values ≡ worth (bit_of values) expression
 
--- the output of a table, where there is one
+-- the output of a table, if there is one
 abbrev pub case_worth : {A : Type 0} → Option (Table A) → ℕ → Bool
 case_worth None values = false
 case_worth (Some table) values = table_worth table values
@@ -40,18 +40,18 @@ case_worth (Some table) values = table_worth table values
 abbrev pub picks_worth : {A : Type 0} → Picks A → ℕ → Bool
 picks_worth picks values = case_worth (slice_get picks.cases.items (coded (map (bit_of values) (seen picks.bits.items.items)))) values
 
--- for all values, the table for the row of the picked bits says what the expression is worth
+-- for all values, the table for the row of the picked bits says the value of the expression
 abbrev pub AreTruthTablesOf : {A : Type 0} → Picks A → Expression ℕ → Type 0
 AreTruthTablesOf picks expression = (values : ℕ) → picks_worth picks values ≡ worth (bit_of values) expression
 
--- what the formula answers for these values: the table's output in their row, that of the table for the picked bits'
+-- the value of the formula for these values: the table's output in their row, that of the table for the picked bits'
 -- row, or what its steps leave on the stack
 abbrev pub says : {A : Type 0} → Formula A → ℕ → Bool
 says (Tabled table) values = table_worth table values
 says (Picked picks) values = picks_worth picks values
 says (Code p) values = top (after_steps (bit_of values) p.steps.items [])
 
--- For every valuation of as many globals as the scope has, the formula answers the value of the expression.
+-- For every valuation of as many globals as the scope has, the formula has the value of the expression.
 abbrev pub FormulaSays : {A : Type 0} → Formula A → Scope → Expression Name → Type 0
 FormulaSays formula scope expression =
     (globals places : List Bool) → length globals ≡ length scope.globals →

@@ -13,7 +13,7 @@ use Rattle.flow_graph.specs.declared.flow.Flow.{Flow}
 use Rattle.flow_graph.specs.declared.graph.Graph.{Graph}
 use Rattle.flow_graph.specs.Drawn.{flows_of, start_of, globals_of}
 
--- a step inside the call, with this left to run, leads to the point and the valuation of this number
+-- a step inside the call, with this left to run, leads to the point and the valuation with this number
 abbrev pub StepsToNumber : Program → ℕ → Code → Valuation → ℕ → ℕ → Type 0
 StepsToNumber program procedure rest valuation point number =
     (v' : Valuation) × (r' : Code) × steps.Flow program procedure valuation rest v' r' × (point ≡ point_at r') × (number ≡ code v')
@@ -24,8 +24,8 @@ StepEnters program rest valuation callee entered point =
     (a : Valuation) × Calls program valuation.globals valuation.places rest callee a × (entered ≡ code a)
     × (point ≡ point_at (after_first rest))
 
--- The flow has the steps of the procedure where this is left to run: it leads where a step inside the call leads,
--- enters what a step enters, and goes on behind a call as the caller does.
+-- The flow has the steps of the procedure when this is left to run: it leads where a step inside the call leads,
+-- enters what a step enters, and continues after a call as the caller does.
 abbrev pub HasSteps : {A : Type 0} → Program → ℕ → Code → Flow A → Type 0
 HasSteps program procedure rest flow =
     Behaves flow (IsValuationOf program procedure) (StepsToNumber program procedure rest) (StepEnters program rest) (target_of rest)

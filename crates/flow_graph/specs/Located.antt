@@ -1,5 +1,5 @@
 -- Expressions whose variables are bits of a valuation's number: the globals from bit 0, then the formals and locals,
--- behind which comes the result.
+-- after which comes the result.
 use Rattle.std.specs.Prelude.{ℕ, ◌+◌, ◌^◌, Bool, false, not, cond, nat_lt, Option, Some, None, length}
 use Rattle.language.specs.Tree.{Name, Expression, const, var, negation, two}
 use Rattle.language.specs.Value.{Place, global, local, operate}
@@ -11,7 +11,7 @@ abbrev pub bit_of_place : ℕ → Place → Option ℕ
 bit_of_place globals (global i) = cond (nat_lt i globals) (Some i) None
 bit_of_place globals (local i) = Some (globals + i)
 
--- the bit of a variable, where it is declared
+-- the bit of a variable, if it is declared
 abbrev pub bit_of_name : Scope → Name → Option ℕ
 bit_of_name scope name = bit_of_place (length scope.globals) (place_of scope name)
 
@@ -25,7 +25,7 @@ abbrev pub target_mask : ℕ → Option Place → ℕ
 target_mask globals None = 0
 target_mask globals (Some place) = mask_of (bit_of_place globals place)
 
--- the bit alone of the result of a procedure, for this number of globals; 0 where it gives none
+-- the bit alone of the result of a procedure, for this number of globals; 0 if it gives none
 abbrev pub given_mask : ℕ → Routine → ℕ
 given_mask globals routine = cond routine.gives (2 ^ (globals + routine.places)) 0
 
@@ -41,7 +41,7 @@ located scope (var variable) = read_of (bit_of_name scope variable)
 located scope (negation expression) = negation (located scope expression)
 located scope (two operator left right) = two operator (located scope left) (located scope right)
 
--- what an expression over bits is worth, where each bit has a value
+-- the value of an expression over bits, if each bit has a value
 abbrev pub worth : (ℕ → Bool) → Expression ℕ → Bool
 worth f (const truth) = truth
 worth f (var i) = f i

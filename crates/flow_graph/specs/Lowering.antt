@@ -45,20 +45,22 @@ IsLowerable lowering = IsSmall lowering.scope × (length lowering.scope.procedur
 abbrev pub side_in : {N A : Type 0} → Lowering N A → Rhs N → RightSide Place
 side_in lowering side = resolve_side (lowering_scope lowering) (rhs_of side)
 
--- the node of an assignment: the right sides are written to the places of the targets, and the run goes on at the point
+-- the node of an assignment: the right sides are written to the places of the targets, and the run continues at the
+-- point
 abbrev pub assignment_in : {N A : Type 0} → Lowering N A → List (Name N) → List (Rhs N) → ℕ → Node
 assignment_in lowering xs rs to =
     let s = lowering_scope lowering in
     assigns (map (place_of s) (names_of xs)) (map (resolve_side s) (rhss_of rs)) to
 
--- the node of a return of a value: the value is written to the place of the result, and the run goes on at the exit
+-- the node of a return of a value: the value is written to the place of the result, and the run continues at the
+-- exit
 abbrev pub return_in : {N A : Type 0} → Lowering N A → Expr N → Node
 return_in lowering e =
     let s = lowering_scope lowering in
     assigns (local (length s.locals) ∷ []) (value (resolve_expression s (expr_of e)) ∷ []) 0
 
--- the node of a call for the target, if any: the procedure with the name is called with the arguments, and the run goes
--- on at the point
+-- the node of a call for the target, if any: the procedure with the name is called with the arguments, and the run
+-- continues at the point
 abbrev pub call_in : {N A : Type 0} → Lowering N A → Option Place → Name N → List (Expr N) → ℕ → Node
 call_in lowering target callee es back =
     let s = lowering_scope lowering in
@@ -75,7 +77,7 @@ DoesCall lowering flow mask callee es back =
     (target : Option Place) → mask ≡ target_mask (length s.globals) target → HasTarget (length s.locals) target →
     DoesIn lowering flow (call_in lowering target callee es back)
 
--- where all points of the procedure are numbers of 64 bits, the flow goes on at the statement with the label
+-- if all points of the procedure are numbers of 64 bits, the flow continues at the statement with the label
 abbrev pub DoesJump : {N A : Type 0} → Lowering N A → Flow A → Name N → Type 0
 DoesJump lowering flow label = statements (block_of lowering.body.now) < 18446744073709551615 →
     DoesIn lowering flow (goes_to (rest_from (name_of label).text (lowered_routine lowering).body done))
@@ -90,17 +92,17 @@ IsCounted lowering number stmts =
     (statements (block_of lowering.body.now) < 18446744073709551615)
     × (number + statements (block_of stmts) ≤ 18446744073709551615)
 
--- where a run goes on at the point behind the statement, the flow does what happens at it
+-- if a run continues at the point after the statement, the flow does what happens at it
 abbrev pub DoesFirst : {N A : Type 0} → Lowering N A → Flow A → Stmt N → ℕ → ℕ → Type 0
 DoesFirst lowering flow stmt number after = (k : Code) → point_at k ≡ after → IsCounted lowering number (stmt ∷ []) →
     DoesIn lowering flow (node_of (lowered_routine lowering) (join (code_from lowering number (stmt ∷ [])) k))
 
--- a flow has been put behind others that does what happens at the statement
+-- a flow has been appended to others that does what happens at the statement
 abbrev pub LoweredFirst : {N A : Type 0} → Lowering N A → List (Flow A) → List (Flow A) → Stmt N → ℕ → Type 0
 LoweredFirst {N} {A} lowering old new stmt after =
     (f : Flow A) × (new ≡ old ++ f ∷ []) × DoesFirst lowering f stmt (length old) after
 
--- as many flows as there are statements have been put behind others; where a run goes on at the point behind the
+-- as many flows as there are statements have been appended to others; if a run continues at the point after the
 -- statements, they do what happens at their points
 abbrev pub LoweredIn : {N A : Type 0} → Lowering N A → List (Flow A) → List (Flow A) → List (Stmt N) → ℕ → Type 0
 LoweredIn lowering old new stmts after =

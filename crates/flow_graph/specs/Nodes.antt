@@ -26,15 +26,15 @@ pub data Node : Type 0 where
   calls : Option Place → ℕ → List (Expression Place) → ℕ → Node
   returns : Node
 
--- nothing is written, and the run goes on at the point
+-- nothing is written, and the run continues at the point
 abbrev pub goes : ℕ → Node
 goes point = assigns [] [] point
 
--- no run goes on
+-- no run continues
 abbrev pub stops : Node
 stops = assumes (value (const false)) 0
 
--- the run goes on with what is left from a label on; where there is none, no run goes on
+-- the run continues with what is left from a label on; if there is none, no run continues
 abbrev pub goes_to : Option Code → Node
 goes_to None = stops
 goes_to (Some rest) = goes (point_at rest)
@@ -70,13 +70,13 @@ Leads (assumes side target) before point after = IsValue before.globals before.p
 Leads (calls target callee es back) before point after = ⊥
 Leads returns before point after = ⊥
 
--- the node calls a procedure with these arguments, and the run goes on at the point when it returns
+-- the node calls a procedure with these arguments, and the run continues at the point when it returns
 abbrev pub NodeCalls : Node → Valuation → ℕ → List Bool → ℕ → Type 0
 NodeCalls (calls target callee es back) valuation procedure args point = (procedure ≡ callee)
     × (args ≡ values_of valuation.globals valuation.places es) × (point ≡ back)
 NodeCalls _ valuation procedure args point = ⊥
 
--- the variable that the node calls for, where it calls for a value
+-- the variable that the node calls for, if it calls for a value
 abbrev pub target_in : Node → Option Place
 target_in (calls target callee es back) = target
 target_in _ = None

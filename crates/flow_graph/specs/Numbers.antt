@@ -24,7 +24,7 @@ pub data NumberedMessage : Type 0 where
 abbrev pub Among : {X : Type 0} → List X → X → Type 0
 Among xs x = Member x xs
 
--- P holds of each of these
+-- P holds for each of these
 abbrev pub AllAre : {X : Type 0} → (X → Type 0) → List X → Type 0
 AllAre {X} P xs = (x : X) → Member x xs → P x
 
@@ -33,9 +33,9 @@ abbrev pub by_numbers : Message → NumberedMessage
 by_numbers (entry from entered) = numbered_entry from (code entered)
 by_numbers (summary callee entered exit) = numbered_summary callee (code entered) (exit_code exit)
 
--- By the messages of which M holds, the graph reaches from the number of an entry a point with the number of a
--- valuation: its start from each entry, what a flow leads to for one of its choices, and, behind a call, what a summary
--- of it leads to.
+-- By the messages for which M holds, the graph reaches from the number of an entry a point with the number of a
+-- valuation: its start from each entry, what a flow leads to for one of its choices, and, after a call, what a
+-- summary of it leads to.
 pub data GraphReaches {A : Type 0} (graph : Graph A) (M : NumberedMessage → Type 0) : ℕ → ℕ → ℕ → Type 0 where
   starts : (from : Caller) (a : ℕ) → M (numbered_entry from a) → GraphReaches graph M a (start_of graph) a
   flows : (a n v n' v' i : ℕ) (flow : Flow A) → GraphReaches graph M a n v →
@@ -45,8 +45,8 @@ pub data GraphReaches {A : Type 0} (graph : Graph A) (M : NumberedMessage → Ty
       slice_get (flows_of graph) n ≡ Some flow → entered_by flow v ≡ Some (s, e, n') → M (numbered_summary s e b) →
       GraphReaches graph M a n' (resumed_at graph n v b)
 
--- By the messages of which M holds, the graph of a procedure sends another: the entry of each call of it that is
--- reached, and for each of its entries the summary of each valuation that is reached at the exit.
+-- By the messages for which M holds, the graph of a procedure sends another: the entry of each call of it that
+-- is reached, and for each of its entries the summary of each valuation that is reached at the exit.
 pub data Sends {A : Type 0} (graph : Graph A) (procedure : ℕ) (M : NumberedMessage → Type 0) :
     ℕ → NumberedMessage → Type 0 where
   asks : (a n v s e n' : ℕ) (flow : Flow A) → GraphReaches graph M a n v → slice_get (flows_of graph) n ≡ Some flow →
@@ -54,16 +54,16 @@ pub data Sends {A : Type 0} (graph : Graph A) (procedure : ℕ) (M : NumberedMes
   tells : (a v s : ℕ) → M (numbered_entry (caller s) a) → GraphReaches graph M a 0 v →
       Sends graph procedure M s (numbered_summary procedure a (left_by graph v))
 
--- By the messages of which M holds, what the graph leaves has the numbers `exit` where it was entered with that of
+-- By the messages for which M holds, what the graph leaves has the numbers `exit` if it was entered with that of
 -- `entered`.
 abbrev pub Leaves : {A : Type 0} → Graph A → (NumberedMessage → Type 0) → ℕ → Left → Type 0
 Leaves graph M entered exit = (v : ℕ) × GraphReaches graph M entered 0 v × (exit ≡ left_by graph v)
 
--- the message is, by numbers, one of which P holds
+-- the message is, by numbers, one for which P holds
 abbrev pub IsNumberOf : (Message → Type 0) → NumberedMessage → Type 0
 IsNumberOf P message = (m : Message) × P m × (message ≡ by_numbers m)
 
--- the numbers are those of two valuations, and of the point of a rest, of which P holds
+-- the numbers are those of two valuations, and of the point of a rest, for which P holds
 abbrev pub AreNumbersOf : (Valuation → Valuation → Code → Type 0) → ℕ → ℕ → ℕ → Type 0
 AreNumbersOf P entered point values =
     (x : Valuation) × (y : Valuation) × (r : Code) × P x y r × (entered ≡ code x) × (point ≡ point_at r) × (values ≡ code y)
@@ -105,7 +105,7 @@ TakesSent {A} graphs takes =
 abbrev pub TakesDue : Program → List (List NumberedMessage) → Type 0
 TakesDue program takes = (q : ℕ) (k : NumberedMessage) → HasTaken takes q k → IsNumberOf (IsDue program q) k
 
--- Where these are the graphs of a program whose calls fit, its procedures took, by numbers, the opening message, each
+-- If these are the graphs of a program whose calls fit, its procedures took, by numbers, the opening message, each
 -- message that is sent, and no message that is not due.
 pub record TookAllDue {A : Type 0} (program : Program) (graphs : List (Graph A)) (takes : List (List NumberedMessage)) :
     Type 0 where

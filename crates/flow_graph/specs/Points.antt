@@ -7,11 +7,11 @@ use Rattle.trees.specs.Trees.{block_of}
 use Rattle.trees.specs.declared.tree.Stmt.{Stmt}
 use Rattle.flow_graph.specs.Nodes.{point_at}
 
--- size is how many statements there are, those inside of others included, where this is a number of 64 bits
+-- size is how many statements there are, including those inside others, if this is a number of 64 bits
 abbrev pub IsSize : {N : Type 0} → List (Stmt N) → ℕ → Type 0
 IsSize stmts size = statements (block_of stmts) ≤ 18446744073709551615 → size ≡ statements (block_of stmts)
 
--- where a run goes on at the point `after` behind these statements, the first of which has this number, they begin at
+-- if a run continues at the point `after` after these statements, the first of which has this number, they begin at
 -- `to`
 abbrev pub BeginAt : {N : Type 0} → List (Stmt N) → ℕ → ℕ → ℕ → Type 0
 BeginAt stmts first after to =

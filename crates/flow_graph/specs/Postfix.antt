@@ -12,8 +12,8 @@ use Rattle.flow_graph.specs.declared.postfix.Step.{Step}
 use Rattle.flow_graph.specs.declared.postfix.Step.TheVariants.{Read, Constant, Not, Apply, ApplySwapped}
 use Rattle.resolved.specs.Limits.{most_places}
 
--- what a step makes of the stack, its top first: a bit or a constant is put on it, `Not` turns the top, and an operator
--- takes two values, the right one from the top, or the left one where the operands came in the other order
+-- what a step makes of the stack, its top first: a bit or a constant is put on it, `Not` negates the top, and an
+-- operator takes two values, the right one from the top, or the left one if the operands came in the other order
 abbrev pub after_step : (ℕ → Bool) → Step → List Bool → List Bool
 after_step f (Read bit) stack = f bit ∷ stack
 after_step f (Constant truth) stack = truth ∷ stack
@@ -31,7 +31,7 @@ abbrev pub after_steps : (ℕ → Bool) → List Step → List Bool → List Boo
 after_steps f [] stack = stack
 after_steps f (s ∷ ss) stack = after_steps f ss (after_step f s stack)
 
--- the top of the stack; 0 where there is none
+-- the top of the stack; 0 if there is none
 abbrev pub top : List Bool → Bool
 top [] = false
 top (b ∷ bs) = b
@@ -45,14 +45,14 @@ IsShallow depth (Not ∷ ss) = (1 ≤ depth) × IsShallow depth ss
 IsShallow depth (Apply operator ∷ ss) = (2 ≤ depth) × IsShallow (depth - 1) ss
 IsShallow depth (ApplySwapped operator ∷ ss) = (2 ≤ depth) × IsShallow (depth - 1) ss
 
--- an inequality of numbers has one proof at most
+-- an inequality of numbers has at most one proof
 less_prop : (i n : ℕ) → IsProp (i < n)
 less_prop i n = le_prop
 
 pub few_prop : (i n : ℕ) → IsProp (i ≤ n)
 few_prop i n = le_prop
 
--- this has one proof at most, so a type may carry it
+-- this has at most one proof, so a type may carry it
 pub IsShallow-prop : (depth : ℕ) (steps : List Step) → IsProp (IsShallow depth steps)
 IsShallow-prop depth [] = Unit-prop
 IsShallow-prop depth (Read bit ∷ ss) =
@@ -76,8 +76,8 @@ need (var i) = 1
 need (negation expression) = need expression
 need (two operator left right) = cond (need left == need right) (min (need left + 1) 4294967295) (max (need left) (need right))
 
--- The steps evaluate the expression: they put its worth on the stack, within the expression's need; and they are so
--- many that a need above 64 would take more of them than memory has.
+-- The steps evaluate the expression: they put its value on the stack, within the expression's need; and a need
+-- above 64 would take more of them than memory has room for.
 pub record Evaluates (expression : Expression ℕ) (steps : List Step) : Type 0 where
   pub puts : (f : ℕ → Bool) (rest : List Step) (stack : List Bool) →
       after_steps f (steps ++ rest) stack ≡ after_steps f rest (worth f expression ∷ stack)
@@ -85,10 +85,10 @@ pub record Evaluates (expression : Expression ℕ) (steps : List Step) : Type 0 
       IsShallow depth (steps ++ rest)
   pub long : 2 ^ need expression ≤ 2 * length steps
 
--- from an empty stack, the steps end with the worth of the expression on top, whatever values the bits have
+-- from an empty stack, the steps end with the value of the expression on top, whatever values the bits have
 abbrev pub AreCodeOf : List Step → Expression ℕ → Type 0
 AreCodeOf steps expression = (f : ℕ → Bool) → top (after_steps f steps []) ≡ worth f expression
 
--- such steps have been put behind others
+-- such steps have been appended to others
 abbrev pub PutsSteps : List Step → List Step → Expression ℕ → Type 0
 PutsSteps old new expression = (steps : List Step) × (new ≡ old ++ steps) × Evaluates expression steps

@@ -15,17 +15,18 @@ use Rattle.flow_graph.specs.declared.left.Left.{Left}
 abbrev pub left_by : {A : Type 0} → Graph A → ℕ → Left
 left_by graph values = record { globals = values % 2 ^ globals_of graph; result = has_any values (result_mask graph) }
 
--- where `values` is the number of a valuation with a given number of globals, the other is the number of its globals
+-- if `values` is the number of a valuation with a given number of globals, the other is the number of its globals
 abbrev pub AreGlobalsOf : ℕ → ℕ → ℕ → Type 0
 AreGlobalsOf globals values after =
     (v : Valuation) → length v.globals ≡ globals → values ≡ code v → after ≡ coded v.globals
 
--- the same valuation, where there is no flow
+-- the same valuation, if there is no flow
 abbrev pub behind : {A : Type 0} → Option (Flow A) → ℕ → Left → ℕ
 behind None values left = values
 behind (Some flow) values left = resumed_by flow values left
 
--- the valuation with which a caller goes on behind the call at the point, from its own and what the call has left
+-- the valuation with which a caller continues after the call at the point, from its own and what the call has
+-- left
 abbrev pub resumed_at : {A : Type 0} → Graph A → ℕ → ℕ → Left → ℕ
 resumed_at graph point values left = behind (slice_get (flows_of graph) point) values left
 
@@ -35,8 +36,8 @@ HasTarget places None = Unit {0}
 HasTarget places (Some (global i)) = Unit {0}
 HasTarget places (Some (local i)) = i < places
 
--- Where `values` is the number of a valuation with as many globals as the call has, and `left` are the numbers of what
--- a call leaves, `after` is the number of the valuation with which a caller goes on that called for the target.
+-- If `values` is the number of a valuation with as many globals as the call has, and `left` are the numbers of what a
+-- call leaves, `after` is the number of the valuation with which a caller continues that called for the target.
 abbrev pub IsResumed : {A : Type 0} → Call A → ℕ → Left → ℕ → Type 0
 IsResumed call values left after =
     (v : Valuation) (e : Exit) (target : Option Place) → length v.globals ≡ call.globals → length e.globals ≡ call.globals

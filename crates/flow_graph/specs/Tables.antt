@@ -1,4 +1,4 @@
--- Truth tables: the worth of an expression of a few bits for each of their values.
+-- Truth tables: the value of an expression of a few bits for each of their values.
 use Rattle.std.specs.Prelude.{◌≡◌, ◌<◌, ◌/◌, ◌%◌, ℕ, suc, get_or, Bool, true, false, cond, ◌==◌, Option, Some, None}
 use Rattle.std.specs.Prelude.{List, [], ◌∷◌, ◌++◌, map}
 use Rattle.language.specs.Tree.{Expression}
@@ -16,7 +16,7 @@ abbrev pub is_input : ℕ → List ℕ → Bool
 is_input bit [] = false
 is_input bit (x ∷ xs) = cond (bit == x) true (is_input bit xs)
 
--- the value of a bit, where it is one of those that have this row
+-- the value of a bit, if it is one of those that have this row
 abbrev pub known_bit : List ℕ → ℕ → ℕ → Option Bool
 known_bit bits row bit = cond (is_input bit bits) (Some (bit_of row (slot bit bits))) None
 
@@ -36,7 +36,7 @@ most_rows = 1024
 abbrev pub word_rows : ℕ
 word_rows = 64
 
--- the output in a row, of which each word has 64; behind the words it is 0
+-- the output in a row, of which each word has 64; after the words it is 0
 abbrev pub output : List ℕ → ℕ → Bool
 output words row = bit_of (get_or words (row / word_rows) 0) (row % word_rows)
 
@@ -44,7 +44,7 @@ output words row = bit_of (get_or words (row / word_rows) 0) (row % word_rows)
 abbrev pub ReadsBit : List ℕ → List ℕ → ℕ → Type 0
 ReadsBit inputs words bit = (f : ℕ → Bool) (j : ℕ) → j < most_rows → HaveRow inputs j f → output words j ≡ f bit
 
--- output j is what the expression is worth, by all values by which the known bits have their row and the inputs row j
+-- output j is the value of the expression, by all values by which the known bits have their row and the inputs row j
 abbrev pub Tabulates : List ℕ → ℕ → List ℕ → List ℕ → Expression ℕ → Type 0
 Tabulates known row inputs words expression =
     (f : ℕ → Bool) (j : ℕ) → j < most_rows → HaveRow known row f → HaveRow inputs j f → output words j ≡ worth f expression

@@ -1,5 +1,6 @@
--- Lists of triples that hold all that a graph reaches, and lists of messages that hold all that it sends. A triple has
--- the number of an entry, a point, and the number of a valuation; a message stands with the procedure that it is for.
+-- Lists of triples that hold all that a graph reaches, and lists of messages that hold all that it sends. A triple
+-- has the number of an entry, a point, and the number of a valuation; a message is paired with the procedure that it
+-- is for.
 use Rattle.std.specs.Prelude.{◌≡◌, ◌↔◌, ◌≤◌, ℕ, Some, List, slice_get}
 use Rattle.language.specs.Sequential.{Caller, caller}
 use Rattle.language.specs.Lists.{Member}

@@ -29,7 +29,7 @@ abbrev pub AreWindows : ℕ → List Window → Type 0
 AreWindows front [] = front ≤ most_inputs
 AreWindows front (w ∷ ws) = IsWindow front w × AreWindows (w.count + front) ws
 
--- this has one proof at most, so a type may carry it
+-- this has at most one proof, so a type may carry it
 pub AreWindows-prop : (front : ℕ) (ws : List Window) → IsProp (AreWindows front ws)
 AreWindows-prop front [] = few_prop front most_inputs
 AreWindows-prop front (w ∷ ws) =

@@ -33,7 +33,7 @@ pub(crate) fn masked(values: Word, mask: Word, value: bool) -> Word
 }
 
 impl<A: Allocator> Side<A> {
-    /// The choice for the right sides behind this one.
+    /// The choice for the right sides after this one.
     fn choice_left(&self, choice: Word) -> Word
         ensures { result ≡ choice_left self.now choice }
     {
@@ -84,8 +84,8 @@ impl<A: Allocator> Assignment<A> {
         self.last
     }
 
-    /// The next valuation of this number. All right sides are computed over `values` before a bit is written; the
-    /// values of the `?` are the bits of `choice`, from the lowest, in the order of the targets.
+    /// The next valuation with this number. All right sides are computed over `values` before a bit is written;
+    /// the values of the `?` are the bits of `choice`, from the lowest, in the order of the targets.
     #[inline(always)]
     pub(crate) fn next(&self, values: Word, choice: Word) -> Word
         ensures { result ≡ assigned self.now values choice }
@@ -101,7 +101,7 @@ impl<A: Allocator> Assignment<A> {
 }
 
 impl<'a, N: Allocator> Scope<'a, N> {
-    /// The bit of a target: `None` where it is declared nowhere, or a later target writes it again.
+    /// The bit of a target: `None` if it is declared nowhere, or a later target writes it again.
     fn lasting(&self, target: &Name<N>, later: &[Name<N>]) -> Option<u8>
         requires { IsSmall self.now }
         ensures bit { result

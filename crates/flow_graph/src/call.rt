@@ -43,7 +43,7 @@ impl<A: Allocator> Call<A> {
         self.callee
     }
 
-    /// The point at which the caller goes on after the return.
+    /// The point at which the caller continues after the return.
     pub fn back(&self) -> Point
         ensures { result ≡ back_of self.now }
     {
@@ -64,8 +64,8 @@ impl<A: Allocator> Call<A> {
         entry
     }
 
-    /// The valuation with which the caller goes on from its own after a call that left this: the globals are those
-    /// left, the places are the caller's, and the variable that it called for, if any, gets the result.
+    /// The valuation with which the caller continues from its own after a call that left this: the globals are
+    /// those left, the places are the caller's, and the variable that it called for, if any, gets the result.
     pub fn resumed(&self, values: Word, left: Left) -> Word
         ensures number { result ≡ resumed_from self.now values left }
         ensures valuation { IsResumed self.now values left result }

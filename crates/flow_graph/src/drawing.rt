@@ -19,7 +19,7 @@ use resolved::Sequential;
 use std::alloc::{AllocError, Allocator};
 use trees::{Proc, Program, give_value, number_of_name};
 
-/// The bit of a procedure's result, alone; 0 where it gives none.
+/// The bit of a procedure's result, alone; 0 if it gives none.
 fn mask_of_result<N: Allocator>(program: &Program<N>, proc: &Proc<N>) -> Word
     requires { ScopeHasRoom program.now proc.now }
     ensures { result ≡ given_mask (length (names_in program.now proc.now).globals)
@@ -66,7 +66,7 @@ fn graph<N: Allocator, A: Allocator + Clone>(
     })
 }
 
-/// The flow graphs of the procedures of a sequential program, by number. Answers an error where memory is refused.
+/// The flow graphs of the procedures of a sequential program, by number. Returns an error if memory is refused.
 pub fn graphs<N: Allocator, A: Allocator + Clone>(
     alloc: &A,
     sequential: &Sequential<N>,

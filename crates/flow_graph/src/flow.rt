@@ -13,11 +13,11 @@ use std::alloc::Allocator;
 /// What leads on from a point, inside the call or out of it.
 #[derive(Debug, Drop)]
 pub enum Flow<A: Allocator> {
-    /// Values are written, perhaps none, and the run goes on at the point.
+    /// Values are written, perhaps none, and the run continues at the point.
     Assign(Assignment<A>, Point),
-    /// The run goes on at the first point where the right side is 1, and at the second where it is 0.
+    /// The run continues at the first point if the right side is 1, and at the second if it is 0.
     Test(Side<A>, Point, Point),
-    /// The run goes on at the point where 1 is a value.
+    /// The run continues at the point if 1 is a value.
     Assume(Side<A>, Point),
     /// A procedure is called.
     Call(Call<A>),
@@ -37,15 +37,15 @@ impl<A: Allocator> Flow<A> {
         }
     }
 
-    /// Where the run goes on inside the call for a choice, and with which valuation; `None` where it does not.
+    /// Where the run continues inside the call for a choice, and with which valuation; `None` if it does not.
     pub fn next(&self, values: Word, choice: Word) -> Option<(Point, Word)>
         ensures { result ≡ next_of self.now values choice }
     {
         self.choose(values, choice).0
     }
 
-    /// Where the run goes on for a choice, as `next` tells, and whether there is a choice behind it, as `last` tells.
-    /// So who walks over all choices looks at the flow once for each.
+    /// Where the run continues for a choice, as `next` tells, and whether there is a choice after it, as `last`
+    /// tells. So a loop over all choices looks at the flow once for each.
     #[inline(always)]
     pub fn choose(&self, values: Word, choice: Word) -> (Option<(Point, Word)>, bool)
         ensures next { result.0 ≡ next_of self.now values choice }

@@ -16,15 +16,15 @@ fn has_any(values: Word, mask: Word) -> bool
     values & mask != 0
 }
 
-/// The flow graph of a procedure: a point before each statement and the exit, and what leads on from each. A valuation
-/// is a number of `WORD_BITS` bits: the globals from bit 0 in the order of their declaration, then the formals, locals
-/// and temporaries, and last the result, where the procedure gives one.
+/// The flow graph of a procedure: a point before each statement and the exit, and what leads on from each. A
+/// valuation is a number of `WORD_BITS` bits: the globals from bit 0 in the order of their declaration, then the
+/// formals, locals and temporaries, and last the result, if the procedure gives one.
 #[derive(Debug, Drop)]
 pub struct Graph<A: Allocator> {
     pub(crate) flows: Vec<Flow<A>, A>,
     pub(crate) start: Point,
     pub(crate) globals: u8,
-    /// The bit of the result, alone; 0 where the procedure gives none.
+    /// The bit of the result, alone; 0 if the procedure gives none.
     pub(crate) result: Word,
 }
 
@@ -32,7 +32,7 @@ impl<A: Allocator> Graph<A> {
     ghost use Rattle.flow_graph.specs.Drawn.{flows_of, globals_of, start_of};
     ghost use Rattle.flow_graph.specs.Returns.{left_by, AreGlobalsOf};
 
-    /// The point of the first statement; the exit, where there is none.
+    /// The point of the first statement; the exit, if there is none.
     pub fn start(&self) -> Point
         ensures { result ≡ start_of self.now }
     {
@@ -92,7 +92,7 @@ impl<A: Allocator> Graphs<A> {
         &self.graphs[procedure as usize]
     }
 
-    /// The bit of the global `bad__`, which a rewritten program has; as many as globals, where none has this name.
+    /// The bit of the global `bad__`, which a rewritten program has; as many as globals, if none has this name.
     pub fn bad(&self) -> usize
         ensures { result ≡ bad_of self.now }
     {

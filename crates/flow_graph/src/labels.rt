@@ -8,8 +8,8 @@ use language::Point;
 use std::alloc::Allocator;
 use trees::Stmt;
 
-/// The point of the first statement with this label, those inside of others included, where the first of the statements
-/// has this number; `None` where none has the label.
+/// The point of the first statement with this label, including those inside others, if the first of the statements
+/// has this number; `None` if none has the label.
 #[cycle(finding)]
 pub(crate) fn find<N: Allocator>(label: &str, stmts: &[Stmt<N>], first: Point) -> Option<Point>
     ensures { IsLabelFound label.now stmts.now first result }

@@ -2,12 +2,12 @@
 
 use language::Word;
 
-/// What a procedure leaves at its exit. A caller goes on behind the call with these globals, and with the result in
-/// the variable that it called for, if any.
+/// What a procedure leaves at its exit. A caller continues after the call with these globals, and with the result
+/// in the variable that it called for, if any.
 #[derive(Clone, Copy, Debug, PartialEq, Eq, PartialOrd, Ord, Hash)]
 pub struct Left {
     /// The globals.
     pub globals: Word,
-    /// The result: 0 where the procedure gives none.
+    /// The result: 0 if the procedure gives none.
     pub result: bool,
 }

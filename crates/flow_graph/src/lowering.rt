@@ -24,15 +24,14 @@ use resolved::MOST_PLACES;
 use std::alloc::{AllocError, Allocator};
 use trees::{Core, Expr, Name, Rhs, Stmt, number_of_procedure};
 
-/// The point at which statements begin, the first of which has this number, where the run goes on at `after` behind
-/// them.
+/// The point at which statements begin, the first of which has this number, if the run then continues at `after`.
 pub(crate) fn begin<N: Allocator>(stmts: &[Stmt<N>], first: Point, after: Point) -> Point
     ensures { BeginAt stmts.now first after result }
 {
     if stmts.is_empty() { after } else { first }
 }
 
-/// A flow on which no run goes on.
+/// A flow on which no run continues.
 fn nowhere<A: Allocator>() -> Flow<A>
     ensures { (widths : Widths) → Does result stops widths }
 {
@@ -43,8 +42,8 @@ fn nowhere<A: Allocator>() -> Flow<A>
     Flow::Assume(Side::Value(Formula::Table(always_0)), EXIT)
 }
 
-/// What the statements of one procedure are lowered with: where it allocates, the names in scope, the procedure's body,
-/// and the bit of its result, alone, which is 0 where it gives none.
+/// What the statements of one procedure are lowered with: where it allocates, the names in scope, the procedure's
+/// body, and the bit of its result, alone, which is 0 if it gives none.
 #[derive(Drop)]
 pub(crate) struct Lowering<'a, N: Allocator, A: Allocator + Clone> {
     pub(crate) alloc: &'a A,
@@ -54,7 +53,7 @@ pub(crate) struct Lowering<'a, N: Allocator, A: Allocator + Clone> {
 }
 
 impl<'a, N: Allocator, A: Allocator + Clone> Lowering<'a, N, A> {
-    /// On to a point.
+    /// The flow that continues at a point.
     fn going(&self, to: Point) -> Result<Flow<A>, AllocError>
         requires { IsLowerable self.now }
         ensures { IfOk result (λ f. DoesIn self.now f (goes to)) }
@@ -62,7 +61,7 @@ impl<'a, N: Allocator, A: Allocator + Clone> Lowering<'a, N, A> {
         Ok(Flow::Assign(Assignment::nothing(self.alloc.clone()?), to))
     }
 
-    /// On to the statement with a label.
+    /// The flow that continues at the statement with a label.
     fn jump(&self, label: &Name<N>) -> Result<Flow<A>, AllocError>
         requires { IsLowerable self.now }
         ensures { IfOk result (λ f. DoesJump self.now f label.now) }
@@ -73,7 +72,7 @@ impl<'a, N: Allocator, A: Allocator + Clone> Lowering<'a, N, A> {
         }
     }
 
-    /// One of two ways on, by a right side.
+    /// The flow that continues at one of two points, by a right side.
     fn test(&self, r: &Rhs<N>, yes: Point, no: Point) -> Result<Flow<A>, AllocError>
         requires { IsLowerable self.now }
         ensures { IfOk result (λ f. DoesIn self.now f (tests (side_in self.now r.now) yes no)) }
@@ -84,7 +83,7 @@ impl<'a, N: Allocator, A: Allocator + Clone> Lowering<'a, N, A> {
         Ok(Flow::Test(self.scope.side(self.alloc, r)?, yes, no))
     }
 
-    /// On where 1 is a value of a right side.
+    /// The flow that continues if 1 is a value of a right side.
     fn assumption(&self, r: &Rhs<N>, to: Point) -> Result<Flow<A>, AllocError>
         requires { IsLowerable self.now }
         ensures { IfOk result (λ f. DoesIn self.now f (assumes (side_in self.now r.now) to)) }
@@ -111,8 +110,8 @@ impl<'a, N: Allocator, A: Allocator + Clone> Lowering<'a, N, A> {
         ))
     }
 
-    /// A call for the variable with the bit of a mask, or for none. No run goes on where there is no such procedure, or
-    /// where its valuation would have more than `MOST_PLACES`.
+    /// A call for the variable with the bit of a mask, or for none. No run continues if there is no such procedure,
+    /// or if its valuation would have more than `MOST_PLACES`.
     fn call(
         &self,
         target: Word,
@@ -143,7 +142,7 @@ impl<'a, N: Allocator, A: Allocator + Clone> Lowering<'a, N, A> {
         }))
     }
 
-    /// What a statement leads to, which has this number, where the run goes on at `after` behind it.
+    /// What the statement with this number leads to, if the run then continues at `after`.
     fn flow(&self, stmt: &Stmt<N>, number: Point, after: Point) -> Result<Flow<A>, AllocError>
         requires { IsLowerable self.now }
         ensures { IfOk result (λ f. DoesFirst self.now f stmt.now number after) }
@@ -168,7 +167,7 @@ impl<'a, N: Allocator, A: Allocator + Clone> Lowering<'a, N, A> {
         }
     }
 
-    /// Puts the flows of statements behind others, where the run goes on at `after` behind them.
+    /// Appends the flows of statements to others, if the run then continues at `after`.
     #[cycle(lowering)]
     pub(crate) fn block(
         &self,
@@ -189,7 +188,7 @@ impl<'a, N: Allocator, A: Allocator + Clone> Lowering<'a, N, A> {
         Ok(())
     }
 
-    /// Puts the flows of a statement, and of those inside of it, behind others.
+    /// Appends the flows of a statement, and of those inside of it, to others.
     #[cycle(lowering)]
     fn statement(
         &self,

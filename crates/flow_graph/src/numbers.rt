@@ -64,7 +64,7 @@ pub fn what_a_graph_reaches_has_its_widths<A: Allocator>()
         → (n < length (flows_of graph)) × IsNumberOfValuation p q a × IsNumberOfValuation p q v }
 {}
 
-/// By messages of the widths of its procedure, a graph sends only messages of the widths of who they are for.
+/// By messages of the widths of its procedure, a graph sends only messages of the widths of their receivers.
 pub fn what_a_graph_sends_has_its_widths<A: Allocator>()
     ensures { (p : Program) (q : ℕ) (graph : Graph A) (ks : List NumberedMessage) → ArgumentsFit p
         → IsInTextOrder p
@@ -119,33 +119,33 @@ pub fn messages_of_all_that_is_sent_follow<A: Allocator>()
         → HoldAsks graph q ts sent × HoldTells graph q ks ts sent }
 {}
 
-/// A number tells its valuation, of a procedure's.
+/// A number determines its valuation, of a procedure's.
 pub fn a_number_tells_its_valuation()
     ensures { (p : Program) (q : ℕ) (v w : Valuation) → IsValuationOf p q v → IsValuationOf p q w
         → code v ≡ code w → v ≡ w }
 {}
 
-/// Numbers tell their message, of those of the widths of a procedure's.
+/// Numbers determine their message, of those of the widths of a procedure's.
 pub fn numbers_tell_their_message()
     ensures { (p : Program) (q : ℕ) (m n : Message) → IsMessageTo p q m → IsMessageTo p q n
         → by_numbers m ≡ by_numbers n → m ≡ n }
 {}
 
-/// A message of the right widths is due exactly where its numbers are those of one that is.
+/// A message of the right widths is due if and only if its numbers are those of one that is.
 pub fn its_numbers_tell_that_a_message_is_due()
     ensures { (p : Program) (q : ℕ) (m : Message) → ArgumentsFit p → IsMessageTo p q m
         → IsNumberOf (IsDue p q) (by_numbers m) ↔ IsDue p q m }
 {}
 
-/// There is a path edge between valuations of a procedure exactly where their numbers, and its point's, are those of
-/// one.
+/// There is a path edge between valuations of a procedure if and only if their numbers, and its point's, are those
+/// of one.
 pub fn its_numbers_tell_a_path_edge()
     ensures { (p : Program) (q : ℕ) (x y : Valuation) (r : Code) → ArgumentsFit p → IsInTextOrder p
         → IsValuationOf p q x → IsValuationOf p q y → IsRestOf (body_of (slice_get p.routines q)) r
         → AreNumbersOf (EdgeTo p q) (code x) (point_at r) (code y) ↔ EdgeTo p q x y r }
 {}
 
-/// In a program that is marked in text order, the number of a point tells what is left to run.
+/// In a program that is marked in text order, the number of a point determines what is left to run.
 pub fn the_number_of_a_point_tells_its_rest()
     ensures { (p : Program) (q : ℕ) (r s : Code) → IsInTextOrder p
         → IsRestOf (body_of (slice_get p.routines q)) r

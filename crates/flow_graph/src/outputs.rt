@@ -29,7 +29,7 @@ pub(crate) enum Outputs<A: Allocator> {
 }
 
 impl<A: Allocator> Outputs<A> {
-    /// The word of this number; 0 behind the last.
+    /// The word with this number; 0 after the last.
     #[inline(always)]
     pub(crate) fn word(&self, at: u64) -> u64
         ensures { result ≡ get_or (words_of self.now) at 0 }
@@ -105,7 +105,7 @@ pub(crate) fn combined(op: Op, left: &[u64; WORDS], right: &[u64; WORDS]) -> [u6
     outputs
 }
 
-/// The outputs of an operator where those of its left operand decide; `None` where they hang on the right one too.
+/// The outputs of an operator if those of its left operand decide; `None` if they depend on the right one too.
 pub(crate) fn decided(op: Op, left: &[u64; WORDS]) -> Option<[u64; WORDS]>
     ensures { IfSome result (λ w. (j : ℕ) (right : Bool) → j < most_rows →
         output w j ≡ operate (operator_of op) (output left.now j) right) }

@@ -36,7 +36,7 @@ pub struct Picks<A: Allocator> {
 impl<A: Allocator> Picks<A> {
     ghost use Rattle.flow_graph.specs.Formulas.{picks_worth};
 
-    /// What the expression is worth for these values.
+    /// The value of the expression for these values.
     // Apart, so that the steps of the other forms stay short.
     #[inline(never)]
     pub(crate) fn value(&self, values: Word) -> bool
@@ -65,7 +65,7 @@ fn take_most_read(counts: &mut Counts) -> u8
 impl<'a, N: Allocator> Scope<'a, N> {
     ghost use Rattle.flow_graph.specs.Formulas.{AreTruthTablesOf};
 
-    /// Counts the reads of each bit. Which bits are picked makes no difference to what an expression is worth.
+    /// Counts the reads of each bit. Which bits are picked makes no difference to the value of an expression.
     fn count_reads(&self, e: &Expr<N>, counts: &mut Counts)
         requires { IsSmall self.now }
     {
@@ -98,7 +98,7 @@ impl<'a, N: Allocator> Scope<'a, N> {
         [first, second, third]
     }
 
-    /// An expression as truth tables by the values of three bits; `None` where some has more than ten bits besides.
+    /// An expression as truth tables by the values of three bits; `None` if some has more than ten bits besides.
     pub(crate) fn picks<A: Allocator + Clone>(
         &self,
         alloc: &A,

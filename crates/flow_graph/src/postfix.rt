@@ -23,7 +23,7 @@ pub enum Step {
     Read(u8),
     /// Puts a value on the stack.
     Constant(bool),
-    /// Turns the top.
+    /// Negates the top.
     Not,
     /// Takes two values, the right one from the top, and puts the operator's.
     Apply(Op),
@@ -61,7 +61,7 @@ pub struct Postfix<A: Allocator> {
 }
 
 impl<A: Allocator> Postfix<A> {
-    /// What the expression is worth for these values.
+    /// The value of the expression for these values.
     pub(crate) fn value(&self, values: Word) -> bool
         ensures { result ≡ top (after_steps (bit_of values) self.now.steps.items []) }
     {
@@ -94,7 +94,7 @@ impl<'a, N: Allocator> Scope<'a, N> {
         }
     }
 
-    /// The step that reads a variable: 0 where it is declared nowhere.
+    /// The step that reads a variable: 0 if it is declared nowhere.
     fn reading(&self, x: &Name<N>) -> Step
         requires { IsSmall self.now }
         ensures { Evaluates (located (scope_seen self.now) (var (name_of x.now))) (result ∷ []) }
@@ -105,7 +105,7 @@ impl<'a, N: Allocator> Scope<'a, N> {
         }
     }
 
-    /// Puts the steps of an expression behind others.
+    /// Appends the steps of an expression to others.
     fn put<A: Allocator>(&self, e: &Expr<N>, steps: &mut Vec<Step, A>) -> Result<(), AllocError>
         requires { IsSmall self.now }
         ensures { IfOk result

@@ -1,11 +1,11 @@
-//! What was made, put behind others.
+//! What was made, appended to others.
 
 ghost use Rattle.std.specs.Prelude.{◌≡◌, ◌++◌, ◌∷◌, [], Ok, IfOk};
 
 use std::alloc::{AllocError, Allocator};
 
-/// Puts what was made behind others; where it was not, there was no memory.
-// Whoever calls this has no value of a large type in hand where memory is refused.
+/// Appends what was made to others; if it was not, there was no memory.
+// The caller holds no value of a large type when memory is refused.
 pub(crate) fn put<T: Drop, A: Allocator>(
     made: Result<T, AllocError>,
     list: &mut Vec<T, A>,
@@ -16,7 +16,7 @@ pub(crate) fn put<T: Drop, A: Allocator>(
     push(made?, list)
 }
 
-/// Puts a value behind others.
+/// Appends a value to others.
 pub(crate) fn push<T: Drop, A: Allocator>(value: T, list: &mut Vec<T, A>) -> Result<(), AllocError>
     ensures { IfOk result (λ _. list.new.items ≡ list.old.items ++ value ∷ []) }
 {

@@ -1,9 +1,9 @@
-//! Rows: the values of some bits, as a number.
+//! Rows: the values of some bits as a number, in which each has its slot.
 
 ghost use Rattle.std.specs.Prelude.{◌≡◌, ◌≤◌, length};
 ghost use Rattle.flow_graph.specs.Tables.{most_inputs, slot, known_bit};
 
-/// The slot of a bit among others: how many they are, where it is none of them.
+/// The slot of a bit among others: their number, if it is not one of them.
 pub(crate) fn slot_of(bits: &[u8], bit: u8) -> usize
     ensures { result ≡ slot bit bits.now }
 {
@@ -25,7 +25,7 @@ pub(crate) struct Known<'b> {
 }
 
 impl<'b> Known<'b> {
-    /// The value of a bit; `None` where it is not known.
+    /// The value of a bit; `None` if it is not known.
     pub(crate) fn value(&self, bit: u8) -> Option<bool>
         requires { length self.now.bits.now ≤ most_inputs }
         ensures { result ≡ known_bit self.now.bits.now self.now.row bit }

@@ -1,4 +1,4 @@
-//! Where the variables of a procedure stand in a valuation.
+//! Where the variables of a procedure are in a valuation.
 
 ghost use Rattle.std.specs.Prelude.{◌≡◌, ◌<◌, IfSome};
 ghost use Rattle.trees.specs.Trees.{name_of};
@@ -10,8 +10,8 @@ use language::Word;
 use std::alloc::Allocator;
 use trees::{Name, Proc, declares, number_of_name};
 
-/// The names in whose scope the statements of a procedure stand: no more variables than a valuation has
-/// places, and the procedures.
+/// The names in the scope of the statements of a procedure: no more variables than a valuation has places,
+/// and the procedures.
 #[derive(Drop)]
 pub(crate) struct Scope<'a, N: Allocator> {
     pub(crate) globals: &'a [Name<N>],
@@ -21,7 +21,7 @@ pub(crate) struct Scope<'a, N: Allocator> {
 }
 
 impl<'a, N: Allocator> Scope<'a, N> {
-    /// The bit of a variable: `None` where it is declared nowhere.
+    /// The bit of a variable: `None` if it is declared nowhere.
     pub(crate) fn bit(&self, x: &Name<N>) -> Option<u8>
         requires { IsSmall self.now }
         ensures bit { result ≡ bit_of_name (scope_seen self.now) (name_of x.now) }
@@ -41,7 +41,7 @@ impl<'a, N: Allocator> Scope<'a, N> {
         }
     }
 
-    /// The bit of a variable, alone: 0 where it is declared nowhere.
+    /// The bit of a variable, alone: 0 if it is declared nowhere.
     pub(crate) fn mask(&self, x: &Name<N>) -> Word
         requires { IsSmall self.now }
         ensures { result ≡ mask_of (bit_of_name (scope_seen self.now) (name_of x.now)) }

@@ -6,7 +6,7 @@ ghost use Rattle.flow_graph.specs.Points.{IsSize};
 use std::alloc::Allocator;
 use trees::Stmt;
 
-/// How many statements there are, those inside of others included.
+/// How many statements there are, including those inside others.
 #[cycle(sizes)]
 pub(crate) fn size<N: Allocator>(stmts: &[Stmt<N>]) -> usize
     ensures { IsSize stmts.now result }

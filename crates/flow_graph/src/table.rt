@@ -22,7 +22,8 @@ use trees::{Expr, Op};
 /// The most bits that a table is made of.
 const MOST: usize = 10;
 
-/// An expression as a truth table: where each input has the value of its bit of j, the expression is worth output j.
+/// An expression as a truth table: if each input has the value of its bit of j, the expression has the value output
+/// j.
 #[derive(Debug, Drop)]
 pub struct Table<A: Allocator> {
     pub(crate) inputs: Windows,
@@ -32,7 +33,7 @@ pub struct Table<A: Allocator> {
 impl<A: Allocator> Table<A> {
     ghost use Rattle.flow_graph.specs.Formulas.{table_worth};
 
-    /// What the expression is worth for these values.
+    /// The value of the expression for these values.
     #[inline(always)]
     pub(crate) fn value(&self, values: Word) -> bool
         ensures { result ≡ table_worth self.now values }
@@ -42,7 +43,7 @@ impl<A: Allocator> Table<A> {
     }
 }
 
-/// The outputs of a bit, which becomes an input where it was none; `None` where there are ten others.
+/// The outputs of a bit, which becomes an input if it was not one; `None` if there are ten others.
 fn read(inputs: &mut ArrayVec<u8, MOST>, bit: u8) -> Option<[u64; WORDS]>
     ensures widens { Widens inputs.old.items inputs.new.items }
     ensures bits { bit < most_places → AreBits inputs.old.items → AreBits inputs.new.items }
@@ -75,8 +76,8 @@ fn in_order(bits: &[u8]) -> ArrayVec<u8, MOST>
 impl<'a, N: Allocator> Scope<'a, N> {
     ghost use Rattle.flow_graph.specs.Formulas.{IsTruthTableIn};
 
-    /// The outputs of an expression for values as known, whose other bits become inputs where they were none; `None`
-    /// where more than ten would be. Where the left operand decides, the right one makes no inputs.
+    /// The outputs of an expression for values as known, whose other bits become inputs if they were not; `None` if
+    /// more than ten would be. If the left operand decides, the right one makes no inputs.
     fn outputs(
         &self,
         e: &Expr<N>,
@@ -118,7 +119,7 @@ impl<'a, N: Allocator> Scope<'a, N> {
         }
     }
 
-    /// An expression as a truth table for values as known; `None` where it has more than ten bits besides.
+    /// An expression as a truth table for values as known; `None` if it has more than ten bits besides.
     pub(crate) fn table<A: Allocator + Clone>(
         &self,
         alloc: &A,

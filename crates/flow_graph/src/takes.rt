@@ -1,4 +1,4 @@
-//! Laws on what procedures take where each takes what the others' flow graphs send: by numbers.
+//! Laws on what procedures take when each takes what the others' flow graphs send: by numbers.
 
 ghost use Rattle.std.specs.Prelude.{◌≡◌, ◌↔◌, ℕ, true, List, Some, slice_get};
 ghost use Rattle.language.specs.Step.{Program};
@@ -14,7 +14,7 @@ ghost use Rattle.flow_graph.specs.declared.left.Left.{Left};
 
 use std::alloc::Allocator;
 
-/// Where the opening message and each message sent are taken, and none that is not due, those due are taken, and the
+/// If the opening message and each message sent are taken, and none that is not due, those due are taken, and the
 /// path edges are reached and nothing else.
 pub fn what_graphs_send_and_take_is_what_is_due<A: Allocator>()
     ensures { (p : Program) (graphs : List (Graph A)) (takes : List (List NumberedMessage))
@@ -41,7 +41,7 @@ pub fn what_graphs_leave_are_the_pairs<A: Allocator>()
         → Leaves graph (HasTaken takes q) a b ↔ AreNumbersOfPair p q a b }
 {}
 
-/// Some pair of the first procedure then has a global of 1 exactly where its graph is left with this bit 1.
+/// Some pair of the first procedure then has a global of 1 if and only if its graph is left with this bit 1.
 pub fn a_bad_pair_is_left_by_its_graph<A: Allocator>()
     ensures { (p : Program) (graphs : List (Graph A)) (takes : List (List NumberedMessage))
         → TookAllDue p graphs takes

@@ -1,4 +1,4 @@
-//! Bits of a valuation as a row: neighbours are read together.
+//! The bits of a row, read from a valuation: neighbours are read together.
 
 ghost use Rattle.std.specs.Prelude.{◌≡◌, ◌<◌, ◌≤◌, ◌+◌, ◌++◌, ◌∷◌, [], length, map};
 ghost use Rattle.language.specs.Words.{word_bits};
@@ -32,7 +32,7 @@ pub(crate) struct Windows {
 }
 
 impl Window {
-    /// A window on one bit, behind others of a row.
+    /// A window on one bit, after others of a row.
     fn new(bit: u8, front: usize) -> Self
         requires few { front < most_inputs }
         requires place { bit < word_bits }

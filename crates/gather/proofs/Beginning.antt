@@ -1,4 +1,4 @@
--- Jobs that are begun, one after the other, and what comes of them.
+-- Jobs that are begun, one after the other, and their results.
 use Rattle.std.proofs.Common.{◌≡◌, ℕ, ◌+◌, ◌<◌, ◌≤◌, List, Option, None, Some, slice_get, length, IsSome, IfSome}
 use Rattle.std.proofs.Common.{sym, ◌∙◌, subst, arith, rules}
 use Rattle.std.proofs.lemmas.Option.{slice_get_within}
@@ -13,25 +13,25 @@ use Rattle.gather.specs.declared.jobs.Came.TheVariants.{Run, Declined}
 use Rattle.gather.specs.Jobs.{refusal_of, AreBegun, CameOf, HasNoThread, HaveCome, IsDeclined, OfJob, WasBegun}
 
 module _ {J B L : Type 0} where
-  -- a job without a thread has what shows it
+  -- a job without a thread has the evidence for it
   pub has_shown : (b : Begun B (Gives J L)) → HasNoThread b → IsSome (refusal_of b)
   has_shown (InThread handle) has = absurd has
   has_shown (Without b none) has = cc
 
-  -- where one before was refused, the job has no thread
+  -- if one before was refused, the job has no thread
   pub refused_before : (refused : Option NoThread) (b : Begun B (Gives J L)) → IfSome refused (λ none. HasNoThread b)
       → IsSome refused → HasNoThread b
   refused_before None b has some = absurd (search (some, rules))
   refused_before (Some none) b has some = has
 
   module _ (runs declines : J → B → Type 0) (jobs : List J) where
-    -- what shows that a job has no thread shows it of the next one too
+    -- evidence that a job has no thread is evidence for the next one too
     pub shown_near : (n : ℕ) (b : Begun B (Gives J L)) → WasBegun declines jobs n b
         → IfSome (refusal_of b) (λ none. none.first ≤ n + 1)
     shown_near n (InThread handle) begun = tt
     shown_near n (Without b none) begun = let near = begun.1 in omega (arith, near)
 
-    -- This came of the job of number n, which was begun so.
+    -- This is the result of the job with number n, which was begun so.
     pub record Ended (n : ℕ) (b : Begun B (Gives J L)) (c : Came B) : Type 0 where
       pub came : (j : J) → slice_get jobs n ≡ Some j → CameOf (runs j) (declines j) n c
       pub declined : IsDeclined c → HasNoThread b
@@ -57,7 +57,7 @@ module _ {J B L : Type 0} where
           none = λ so. so;
         }))
 
-    -- of all jobs that were begun something came
+    -- all jobs that were begun have a result
     pub have_come : (begun : List (Begun B (Gives J L))) (cames : List (Came B)) → AreBegun declines jobs begun
         → length cames ≡ length begun
         → ((i : ℕ) (b : Begun B (Gives J L)) (c : Came B) → slice_get begun i ≡ Some b → slice_get cames i ≡ Some c

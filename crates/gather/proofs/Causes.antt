@@ -82,7 +82,7 @@ more_least ends d (Some old) why least lesser = record {
         (least.cause, member_left (Failed least.cause) ends (Failed d ∷ []) least.named, is ∙ least.is)
     which (inr is) = (d, member_right (Failed d) ends (Failed d ∷ []) (inl refl), is)
 
--- memory gave out, where no end names a cause
+-- memory ran out, if no end names a cause
 pub by_memory : (P : NoVerdict → Type 0) (ends : List End) (Q : Effects → Type 0) (r : Result Effects NoVerdict)
     → IsErrAnd r P → ((why : NoVerdict) → P why → why ≡ verdict.Memory) → AllClosed ends
     → IfOk r Q × IfErr r (IsCause ends)

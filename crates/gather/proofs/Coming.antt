@@ -6,11 +6,11 @@ use Rattle.std.proofs.lemmas.Option.{same_Some, slice_get_within}
 use Rattle.post_ledger.proofs.Histories.{at_push_cases, at_seam}
 
 module _ {X : Type 0} where
-  -- one item more of a list has come
+  -- one more item of a list has come
   pub come : (ys rest left all : List X) (x : X) → ys ++ rest ≡ all → rest ≡ x ∷ left → (ys ++ x ∷ []) ++ left ≡ all
   come ys rest left all x is next = append_assoc ys (x ∷ []) left ∙ (ap (λ l. ys ++ l) (sym next) ∙ is)
 
-  -- it is the one behind those that came before
+  -- it is the one after those that came before
   pub came_at : (ys rest left all : List X) (x : X) (n : ℕ) → ys ++ rest ≡ all → rest ≡ x ∷ left → n ≡ length ys
       → slice_get all n ≡ Some x
   came_at ys rest left all x n is next same =
@@ -41,8 +41,8 @@ module _ {X : Type 0} where
   take_whole (x ∷ xs) zero h = absurd (omega (arith, h))
   take_whole (x ∷ xs) (suc n) h = ap (λ l. x ∷ l) (take_whole xs n (omega (arith, h)))
 
--- where R holds of the items of two lists by their places, it holds so with one item more of the second, where it
--- holds of that one
+-- if R holds for the items of two lists by their places, it holds with one more item of the second, if it
+-- holds for that one
 pub more_by_place : {X Y : Type 0} (R : ℕ → X → Y → Type 0) (all : List X) (ys : List Y) (y : Y) (n : ℕ) → length ys ≡ n
     → ((a : X) → slice_get all n ≡ Some a → R n a y)
     → ((i : ℕ) (a : X) (b : Y) → slice_get all i ≡ Some a → slice_get ys i ≡ Some b → R i a b)
@@ -55,7 +55,7 @@ more_by_place R all ys y n many new each i a b there here = elim (at_push_cases 
       (subst (λ k. R k a y) (sym place) (new a (subst (λ k. slice_get all k ≡ Some a) place there)))
 ]
 
--- behind one that is so all are
+-- if it holds for one, it holds for all after it
 abbrev pub AllBehind : {X : Type 0} → (X → Type 0) → List X → Type 0
 AllBehind {X} is xs = (i k : ℕ) (x y : X) → i ≤ k → slice_get xs i ≡ Some x → slice_get xs k ≡ Some y → is x → is y
 
@@ -74,7 +74,7 @@ behind_more is xs z behind last i k x y near at_i at_k so =
       ]
     ]
 
--- where R holds of each item by its place, it holds so with one item more, where it holds of that one
+-- if R holds for each item by its place, it holds with one more item, if it holds for that one
 pub each_more : {X : Type 0} (R : ℕ → X → Type 0) (xs new : List X) (z : X) (n : ℕ) → new ≡ xs ++ z ∷ [] → length xs ≡ n
     → R n z → ((i : ℕ) (x : X) → slice_get xs i ≡ Some x → R i x) → (i : ℕ) (x : X) → slice_get new i ≡ Some x → R i x
 each_more R xs new z n is many last each i x at =

@@ -57,7 +57,7 @@ new_crew graphs limit id budget n drawn count passes are = record {
 }
 
 module _ {G A S : Type 0} (members : S → List Triple) where
-  -- a lane that has ended has the pass of its number
+  -- a lane that has ended has the pass with its number
   pass_ended : (b : Start G) (e : End) (s : Sight Due (Graphs G)) (t : Table G A S) (took : List Due) (sent : List (ℕ × Due))
       → EndsSo b members e s t took sent → IsPassOf b s
   pass_ended b Closed s t took sent (((goes, sent_all), quiet), knows, closed) = goes.stands.pass
@@ -89,7 +89,7 @@ module _ {G A S : Type 0} (members : S → List Triple) where
 
 module _ {R G A S B K P : Type 0} (identity : B → TableId) (sight : P → Sight Due (Graphs G)) (graphs : Graphs G)
     (limit : EdgeLimit) (board : TableId) where
-  -- one lane more
+  -- one more lane
   pub own_push : (old new : List (Lane R P G A B S K)) (l : Lane R P G A B S K) (n : ℕ) → new ≡ old ++ l ∷ []
       → length old ≡ n → start_of identity sight l ≡ begun graphs n limit board → MayWork identity sight l
       → AreOwn identity sight graphs limit board old → AreOwn identity sight graphs limit board new
@@ -101,14 +101,14 @@ module _ {R G A S B K P : Type 0} (identity : B → TableId) (sight : P → Sigh
             (subst (λ k. start_of identity sight l ≡ begun graphs k limit board) (sym many ∙ sym last.0) starts, may)
       ]
 
-  -- what came of a lane is that it has ended
+  -- the result of a lane is that it has ended
   came_end : (members : S → List Triple) (l : Lane R P G A B S K) (n : ℕ) (c : Came (P × Outcome G A S))
       → CameOf (HasWorked identity sight members l) (WasDeclined identity sight l) n c
       → LaneEnds members (start_of identity sight l) (sight (first_of c)) (second_of c)
   came_end members l n (Run b) come = inl come
   came_end members l n (Declined b none) come = inr come.0
 
-  -- where each lane has come back, all have ended
+  -- if each lane has come back, all have ended
   pub all_ended : (members : S → List Triple) (lanes : List (Lane R P G A B S K)) (cames : List (Came (P × Outcome G A S)))
       → AreLanes identity sight graphs limit board lanes
       → HaveCome (HasWorked identity sight members) (WasDeclined identity sight) lanes cames

@@ -47,13 +47,13 @@ use Rattle.gather.proofs.Lists.{place_of, member_at, in_own, take_there}
 use Rattle.gather.proofs.Posts.{none_twice_of_map, posted_member, post_there, posted_once, taken_part, own_nothing}
 use Rattle.gather.proofs.Full.{Served, outcome_at, served, some_procedure, order_closed, has_tables, table_at, ts, full}
 
--- who sends a message by its flow graph is its sender
+-- the procedure whose flow graph sends a message is its sender
 sends_own : {A : Type 0} (graph : Graph A) (c : ℕ) (M : NumberedMessage → Type 0) (n s : ℕ) (k : NumberedMessage)
     → Sends graph c M s k → c ≡ sender_of n (due_of k)
 sends_own graph c M n s k (asks a m v s' e m' flow reached at enters) = refl
 sends_own graph c M n s k (tells a v s' took reached) = refl
 
--- what stands in a list that is not empty
+-- what is in a list that is not empty
 some_member : {X : Type 0} (xs : List X) (n : ℕ) → n < length xs → (x : X) × Member x xs
 some_member [] n h = absurd (omega (arith, h))
 some_member (x ∷ xs) n h = (x, inl refl)
@@ -79,7 +79,7 @@ module _ {G A S : Type 0} (members : S → List Triple) (graphs : Graphs G) (lim
       → Served members graphs limit board passes outcomes histories closed ended settled none q o
   serving q o is = served members graphs limit board passes outcomes histories closed ended settled none q o is
 
-  -- behind the opening post each entry was made by a pass
+  -- after the opening post each entry was made by a pass
   maker_inside : (i : ℕ) (e : Entry Due) → slice_get settled.order (suc i) ≡ Some e → maker_of e < boxes
   maker_inside i (Posted to s m t) at =
       let job = settled.lawful.jobs (suc i) to s m t (omega arith) at in
@@ -92,7 +92,7 @@ module _ {G A S : Type 0} (members : S → List Triple) (graphs : Graphs G) (lim
   maker_inside i (Taken of s m) at = settled.lawful.inside (suc i) (Taken of s m) at
   maker_inside i (Completed of t) at = settled.lawful.inside (suc i) (Completed of t) at
 
-  -- who is no pass has posted the opening message at most
+  -- whoever is not a pass has posted at most the opening message
   once_outside : (s : ℕ) → boxes ≤ s → NoneTwice (posted_in (own s settled.order))
   once_outside s far =
       let (to, m, rest, is) = settled.lawful.opens in
@@ -113,7 +113,7 @@ module _ {G A S : Type 0} (members : S → List Triple) (graphs : Graphs G) (lim
             subst (λ l. NoneTwice (posted_in l)) (sym (own_else s (Posted to boxes m 0) rest other ∙ nothing)) tt
       ]
 
-  -- nobody posted a message twice to one mailbox
+  -- no pass posted a message twice to one mailbox
   own_once : (s : ℕ) → NoneTwice (posted_in (own s settled.order))
   own_once s = elim (cases_lt s boxes) [
     | inl near ↦

@@ -1,4 +1,4 @@
--- Where no end names a cause, the board is closed, and the tables have taken all that any of them answered.
+-- If no worker failed, the board is closed, and the tables have taken all that any of them answered.
 use Rattle.std.proofs.Common.{◌≡◌, inl, inr, ℕ, zero, suc, ◌<◌, List, [], ◌∷◌, true, Some, None, slice_get, map, length}
 use Rattle.std.proofs.Common.{refl, sym, ap, ◌∙◌, subst, arith}
 use Rattle.std.specs.Prelude.{Bool, Option, IsSome}
@@ -117,7 +117,7 @@ module _ {G A S : Type 0} where
       end_there : (q : ℕ) (o : Outcome G A S) → slice_get outcomes q ≡ Some o → Member o.end (ends_of outcomes)
       end_there q o is = member_at (ends_of outcomes) q o.end (get_map (λ (x : Outcome G A S). x.end) outcomes q o is)
 
-      -- where some pass has made an abort, some end names a cause
+      -- if some pass has made an abort, some end names a cause
       abort_named : (q : ℕ) (s : Sight Due (Graphs G)) → slice_get passes q ≡ Some s → s.made ≡ true
           → (c : Cause) × Member (Failed c) (ends_of outcomes)
       abort_named q s is made =

@@ -12,13 +12,13 @@ use Rattle.post_ledger.specs.Orders.{mailbox_of, event_of, maker_of, part, own}
 use Rattle.post_ledger.proofs.Orders.{part_here, part_else, own_here, own_else}
 use Rattle.procedure_worker.specs.Own.{taken_in, posted_in}
 
--- what stands at a place is a member
+-- what is at a place is a member
 pub member_at : {X : Type 0} (xs : List X) (i : ℕ) (x : X) → slice_get xs i ≡ Some x → Member x xs
 member_at [] i x e = absurd (none-some x e)
 member_at (y ∷ xs) zero x e = inl (sym (same_Some y x e))
 member_at (y ∷ xs) (suc i) x e = inr (member_at xs i x e)
 
--- a member stands at some place
+-- a member is at some place
 pub place_of : {X : Type 0} (xs : List X) (x : X) → Member x xs → (i : ℕ) × (slice_get xs i ≡ Some x)
 place_of [] x h = absurd h
 place_of (y ∷ xs) x (inl e) = (0, ap Some (sym e))
@@ -66,7 +66,7 @@ module _ {M : Type 0} where
   posted_there (Taken of s m ∷ es) x h = let (s', t', there) = posted_there es x h in (s', t', inr there)
   posted_there (Completed of t ∷ es) x h = let (s', t', there) = posted_there es x h in (s', t', inr there)
 
-  -- what a pass posted stands in the history of its mailbox
+  -- what a pass posted is in the history of its mailbox
   pub posted_part : (p : ℕ) (es : List (Entry M)) (x : ℕ × M) → Member x (posted_in (own p es))
       → (t : ℕ) × Member (Posted x.0 p x.1 t) es
   posted_part p es x h =

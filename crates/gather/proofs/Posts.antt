@@ -14,7 +14,7 @@ use Rattle.procedure_worker.specs.Own.{taken_in, posted_in}
 use Rattle.gather.specs.Reports.{posted_to}
 use Rattle.gather.proofs.Lists.{in_own, in_part, own_member}
 
--- where the images are none twice, nothing is
+-- if no image occurs twice, no item does
 pub none_twice_of_map : {X Y : Type 0} (f : X → Y) (xs : List X) → NoneTwice (map f xs) → NoneTwice xs
 none_twice_of_map f [] once = tt
 none_twice_of_map f (x ∷ xs) once = (λ m. once.0 (member_map f xs x m), none_twice_of_map f xs once.1)
@@ -92,7 +92,7 @@ module _ {M : Type 0} where
   with_post q (Taken of s m) es once senders same rest = rest
   with_post q (Completed of t) es once senders same rest = rest
 
-  -- where no pass posted a message twice, and each message has one sender, no message was posted twice to a mailbox
+  -- if no pass posted a message twice, and each message has one sender, no message was posted twice to a mailbox
   pub posted_once : (q : ℕ) (es : List (Entry M)) → ((s : ℕ) → NoneTwice (posted_in (own s es))) → HaveSenders q es
       → NoneTwice (posted_to (part q es))
   posted_once q [] once senders = tt
@@ -125,7 +125,7 @@ module _ {M : Type 0} where
   takes_there (event.Done t ∷ h) s m (inl is) = let no : ⊥ = cc in absurd no
   takes_there (event.Done t ∷ h) s m (inr there) = takes_there h s m there
 
-  -- what a pass took stands among the Takes of its mailbox
+  -- what a pass took is among the Takes of its mailbox
   pub taken_part : (q : ℕ) (es : List (Entry M)) (m : M) → Member m (taken_in (own q es))
       → (s : ℕ) × Member (s, m) (takes (part q es))
   taken_part q es m h =
@@ -134,7 +134,7 @@ module _ {M : Type 0} where
       let event = in_part es (Taken of s m) there in
       (s, subst (λ z. Member (s, m) (takes (part z es))) made (takes_there (part of es) s m event))
 
-  -- nobody made an entry of an order in which none is by this maker
+  -- this maker made no entry of an order in which none is by it
   pub own_nothing : (s : ℕ) (es : List (Entry M)) → ((e : Entry M) → Member e es → maker_of e ≢ s) → own s es ≡ []
   own_nothing s [] none = refl
   own_nothing s (e ∷ es) none =

@@ -46,11 +46,11 @@ use Rattle.gather.proofs.Lists.{place_of}
 use Rattle.gather.proofs.Full.{got_map, through}
 use Rattle.gather.proofs.Found.{due_once}
 
--- where every end is at the close, none names a cause
+-- if every end is at the close, none names a cause
 none_failed : (ends : List End) → AllClosed ends → NoneFailed ends
 none_failed ends all c there = let same : Failed c ≡ Closed = all (Failed c) there in cc
 
--- the limit is named only where an end names it
+-- the limit is named only if an end names it
 by_limit : (ends : List End) (c : Cause) → Member (Failed c) ends → verdict.EdgeLimit ≡ verdict_of c
     → Member (Failed cause.EdgeLimit) ends
 by_limit ends cause.Memory named is = let no : ⊥ = cc in absurd no
@@ -74,7 +74,7 @@ not_wide ends why (inl least) is = apart least.cause (sym is ∙ least.is)
     apart cause.Spent same = cc
 not_wide ends why (inr (memory, all)) is = cc
 
--- some pair of the rewriting has `bad__` exactly where some run fails
+-- some pair of the rewriting has `bad__` if and only if some run fails
 pub keeps_answer : (rounds : ℕ) (source tree : Tree) → tree ≡ rewritten_for rounds source → KeepsTree rounds source → (bad : ℕ)
     → bad ≡ number_of (codes "bad__") tree.globals → (P : Type 0) → P ↔ SomeBad (sequential_for rounds source) bad
     → P ↔ Unsafe (meaning_of source) rounds
@@ -95,7 +95,7 @@ no_report source rounds most verdict.Memory narrow other more = narrow
 no_report source rounds most verdict.NoWorker narrow other more = narrow
 no_report source rounds most verdict.Spent narrow other more = narrow
 
--- what one thread tabulates of the rewriting tells of the source
+-- what one thread tabulates of the rewriting says about the source
 pub tabulated : (rounds most : ℕ) (source tree : Tree) → tree ≡ rewritten_for rounds source → KeepsTree rounds source
     → IsNarrowFor rounds source → (r : Result Effects NoVerdict) → IfOk r (AreSummaries (sequential_of tree))
     → IfOk r (λ s. SomePairBad s ↔ SomeBad (sequential_of tree) (number_of (codes "bad__") tree.globals))
@@ -127,7 +127,7 @@ other_cause : Failed cause.EdgeLimit ≡ Failed cause.NoWorker → ⊥
 other_cause same = cc
 
 module _ {G A S : Type 0} (members : S → List Triple) (graphs : Graphs G) (limit : EdgeLimit) (board : TableId) where
-  -- what has ended, parted into passes and outcomes
+  -- what has ended, split into passes and outcomes
   pub parted : {P : Type 0} (sight : P → Sight Due (Graphs G)) (cames : List (Came (P × Outcome G A S))) (passes : List P)
       (outcomes : List (Outcome G A S)) → passes ≡ map first_of cames
       → outcomes ≡ map second_of cames
@@ -146,7 +146,7 @@ module _ {G A S : Type 0} (members : S → List Triple) (graphs : Graphs G) (lim
     passed_by p drawn q s e t took sent is so =
         (subst (λ z. EndsSo (begun graphs q limit board) members z s t took sent) is so).1.stood p drawn
 
-    -- where an end names the limit, some procedure has more path edges
+    -- if an end names the limit, some procedure has more path edges
     pub limit_passed : (why : NoVerdict) → IsCause (ends_of outcomes) why → why ≡ verdict.EdgeLimit → (p : Program)
         → AreDrawnFrom p (graphs_of graphs) → (q : ℕ) × HasMoreEdges p q (most_of limit)
     limit_passed why named is p drawn =

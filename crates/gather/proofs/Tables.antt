@@ -14,7 +14,7 @@ module _ {G A S : Type 0} where
   tables-append [] b = refl
   tables-append (o ∷ a) b = ap (beside o.table) (tables-append a b) ∙ beside-append o.table (tables_in a) (tables_in b)
 
-  -- the tables, with those of one outcome more
+  -- the tables, with those of one more outcome
   pub tables_push : (os : List (Outcome G A S)) (o : Outcome G A S) (z : Option (Table G A S)) (ts : List (Table G A S))
       → ts ≡ tables_in os → o.table ≡ z → ts ++ beside z [] ≡ tables_in (os ++ o ∷ [])
   tables_push os o z ts is table =

@@ -38,7 +38,7 @@ module _ {G A S : Type 0} (members : S → List Triple) where
   abbrev pub LaneEnds : Start G → Sight Due (Graphs G) → Outcome G A S → Type 0
   LaneEnds b s o = HasEnded b members s o ⊎ HadNoThread b s o
 
-  -- each lane of which there is a pass and an outcome has ended
+  -- each lane for which there is a pass and an outcome has ended
   abbrev pub AllEnd : Graphs G → EdgeLimit → TableId → List (Sight Due (Graphs G)) → List (Outcome G A S) → Type 0
   AllEnd graphs limit board passes outcomes =
       (q : ℕ) (s : Sight Due (Graphs G)) (o : Outcome G A S) → slice_get passes q ≡ Some s
@@ -60,7 +60,7 @@ module _ {G A S : Type 0} (members : S → List Triple) where
     pub ended : HaveEnded graphs limit board passes outcomes
     pub settled : Settles FitsIn (length (graphs_of graphs)) passes histories closed
 
--- The graphs are some program's, and the passes are those of all its procedures, by number, as a board gave them that
+-- The graphs are some program's, and the passes are those of all its procedures, by number, as given by a board that
 -- the starter's message opened.
 pub record IsCrew {G : Type 0} (graphs : Graphs G) (limit : EdgeLimit) (board : TableId)
     (passes : List (Sight Due (Graphs G))) : Type 0 where

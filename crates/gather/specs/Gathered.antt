@@ -31,7 +31,7 @@ rank_of verdict.EdgeLimit = 2
 rank_of verdict.NoWorker = 3
 rank_of verdict.Spent = 4
 
--- why there is no verdict, where a worker has failed
+-- why there is no verdict, if a worker has failed
 abbrev pub verdict_of : Cause → NoVerdict
 verdict_of cause.Memory = verdict.Memory
 verdict_of cause.EdgeLimit = verdict.EdgeLimit
@@ -79,7 +79,7 @@ pub record IsLesser (one : Option NoVerdict) (other why : NoVerdict) : Type 0 wh
   pub below : rank_of why ≤ rank_of other
   pub least : (w : NoVerdict) → one ≡ Some w → rank_of why ≤ rank_of w
 
--- The summaries are those of the programs that the graphs are drawn from, where no procedure has more path edges than
+-- The summaries are those of the programs that the graphs are drawn from, if no procedure has more path edges than
 -- the limit, the board is closed, and every worker has ended at the close.
 pub record IsGathered {G : Type 0} (graphs : Graphs G) (most : ℕ) (closed : Bool) (ends : List End) (s : Effects) : Type 0 where
   pub shut : closed ≡ true
@@ -88,7 +88,7 @@ pub record IsGathered {G : Type 0} (graphs : Graphs G) (most : ℕ) (closed : Bo
   pub bad : (p : Program) → AreDrawnFrom p (graphs_of graphs) → SomePairBad s ↔ SomeBad p (bad_of graphs)
   pub few : (p : Program) → AreDrawnFrom p (graphs_of graphs) → (q : ℕ) → HasMoreEdges p q most → ⊥
 
--- why nothing is gathered: the least cause that an end names, or want of memory where every worker ended at the close
+-- why nothing is gathered: the least cause that an end names, or lack of memory if every worker ended at the close
 abbrev pub IsCause : List End → NoVerdict → Type 0
 IsCause ends why = IsLeastCause ends why ⊎ ((why ≡ verdict.Memory) × AllClosed ends)
 

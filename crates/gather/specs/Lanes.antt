@@ -33,7 +33,7 @@ module _ {R G A S B K P : Type 0} (identity : B → TableId) (sight : P → Sigh
   abbrev pub WasDeclined : Lane R P G A B S K → P × Outcome G A S → Type 0
   WasDeclined l r = HadNoThread (start_of l) (sight r.0) r.1
 
-  -- each lane is that of the procedure of its number, and its worker may begin
+  -- each lane is that of the procedure with its number, and its worker may begin
   abbrev pub AreOwn : Graphs G → EdgeLimit → TableId → List (Lane R P G A B S K) → Type 0
   AreOwn graphs limit board lanes =
       (q : ℕ) (l : Lane R P G A B S K) → slice_get lanes q ≡ Some l

@@ -27,14 +27,14 @@ use Rattle.gather.specs.Through.{AreThrough}
 abbrev pub posted_to : {M : Type 0} → List (Event M) → List M
 posted_to {M} h = map (λ (p : ℕ × M). p.1) (posts h)
 
--- the number of the sender of a message, where the starter has this number: an entry is sent by its caller, a summary
--- by the procedure that it is of
+-- the number of the sender of a message, if the starter has this number: an entry is sent by its caller, a summary by
+-- the procedure that it is of
 abbrev pub sender_of : ℕ → Due → ℕ
 sender_of starter (Entry Starter a) = starter
 sender_of starter (Entry (Proc c) a) = c
 sender_of starter (Summary s r a b) = s
 
--- The messages posted are those that are due for procedure q, each once, and each was posted by its sender, where the
+-- The messages posted are those that are due for procedure q, each once, and each was posted by its sender, if the
 -- starter's number is that of the procedures.
 pub record AreDueOnce (p : Program) (q : ℕ) (h : List (Event Due)) : Type 0 where
   pub once : NoneTwice (posted_to h)
@@ -52,8 +52,8 @@ pub record IsFound (p : Program) (most : ℕ) (histories : List (List (Event Due
   pub few : (q : ℕ) → HasMoreEdges p q most → ⊥
 
 -- The report on a source for K rounds: its workers have found what there is in its rewriting, and its board is
--- closed; the answer is `Unsafe`, and some pair of `main__` is bad, exactly where some run of at most K rounds
--- fails an assert.
+-- closed; the answer is `Unsafe`, and some pair of `main__` is bad, if and only if some run of at most K
+-- rounds fails an assert.
 pub record IsReport {H A : Type 0} (source : Tree) (rounds most : ℕ) (r : Report H A) : Type 0 where
   pub found : IsFound (sequential_for rounds source) most r.ledger.histories.items r.summaries
   pub closed : r.ledger.closed ≡ true
@@ -62,7 +62,7 @@ pub record IsReport {H A : Type 0} (source : Tree) (rounds most : ℕ) (r : Repo
   pub narrow : IsNarrowFor rounds source
 
 -- What one thread finds of a source for K rounds: the summaries are those of its rewriting, in which no procedure
--- has more path edges than `most`, and some pair of `main__` is bad exactly where some run of at most K rounds
+-- has more path edges than `most`, and some pair of `main__` is bad if and only if some run of at most K rounds
 -- fails an assert.
 pub record IsTabulated (source : Tree) (rounds most : ℕ) (s : Effects) : Type 0 where
   pub summaries : AreSummaries (sequential_for rounds source) s

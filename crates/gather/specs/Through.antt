@@ -1,4 +1,4 @@
--- What the histories of a board say where all of its messages are dealt with.
+-- What the histories of a board say once all of its messages are dealt with.
 use Rattle.std.specs.Prelude.{◌≡◌, ℕ, List, [], ◌++◌, Some, length, slice_get}
 use Rattle.post_ledger.specs.declared.event.Event.{Event}
 use Rattle.post_ledger.specs.declared.entry.Entry.{Entry}

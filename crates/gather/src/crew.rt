@@ -50,9 +50,9 @@ where
     Ok(lanes)
 }
 
-/// Has a worker for each procedure, each in a thread of its own, until all have ended, and gives back each pass with
-/// its outcome, in the order of the mailboxes. Where a start is refused, the passes of that lane and of those behind it
-/// abort the board for that. An error is want of memory, before any thread was started.
+/// Runs a worker for each procedure, each in a thread of its own, until all have ended, and returns each pass with
+/// its outcome, in the order of the mailboxes. If a start is refused, the passes of that lane and of those after it
+/// abort the board for that. An error is lack of memory, before any thread was started.
 pub(crate) fn work_all<'c, 'g, R, B, S, K, H>(
     rt: &'c R,
     alloc: S::Heap,
@@ -77,7 +77,7 @@ where
     run_all(rt, alloc, lanes, hire)
 }
 
-/// Parts the pairs that came into two lists that have room for them.
+/// Splits the pairs that came into two lists that have room for them.
 fn part<P: Drop, O: Drop, H: Allocator, A: Allocator>(
     cames: Vec<Came<(P, O)>, A>,
     firsts: &mut Vec<P, H>,
@@ -96,8 +96,8 @@ fn part<P: Drop, O: Drop, H: Allocator, A: Allocator>(
     }
 }
 
-/// Parts the pairs that came into two lists. It is generic in what they hold, so that no caller has the drops of a list
-/// that is still empty.
+/// Splits the pairs that came into two lists. It is generic in what they hold, so that no caller has the drops of a
+/// list that is still empty.
 pub(crate) fn parted<P: Drop, O: Drop, H: Allocator, A: Allocator>(
     heap: H,
     alloc: A,

@@ -10,7 +10,7 @@ use std::alloc::{AllocError, Allocator};
 use summaries::{NoVerdict, Summaries, Table, collect};
 use switchboard::Cause;
 
-/// The rank of a cause for which there is no verdict: of several the one that `NoVerdict` lists first is answered.
+/// The rank of a cause for which there is no verdict: of several the one that `NoVerdict` lists first is returned.
 fn rank(why: NoVerdict) -> u8
     ensures { result ≡ rank_of why }
 {
@@ -23,7 +23,7 @@ fn rank(why: NoVerdict) -> u8
     }
 }
 
-/// Why there is no verdict, where a worker has failed.
+/// Why there is no verdict, if a worker has failed.
 fn verdict_for(cause: Cause) -> NoVerdict
     ensures { result ≡ verdict_of cause }
 {
@@ -35,7 +35,7 @@ fn verdict_for(cause: Cause) -> NoVerdict
     }
 }
 
-/// The one of the lesser rank.
+/// The cause with the lesser rank.
 fn lesser(one: Option<NoVerdict>, other: NoVerdict) -> NoVerdict
     ensures { IsLesser one other result }
 {
@@ -45,7 +45,7 @@ fn lesser(one: Option<NoVerdict>, other: NoVerdict) -> NoVerdict
     }
 }
 
-/// The least cause, where this end comes beside others.
+/// The least cause, with this end added to others.
 fn least_with(least: Option<NoVerdict>, end: End) -> Option<NoVerdict>
     ensures { (ends : List End) → IsLeastOf ends least → IsLeastOf (ends ++ end ∷ []) result }
 {
@@ -91,9 +91,9 @@ fn tables_of<'g, G: Allocator, A: Allocator + Copy, S: PathSet<A>>(
     Ok(tables)
 }
 
-/// The summaries that the workers of a board have found, by their outcomes: where every worker ended at the close, and
-/// memory aside. Elsewhere the cause of the least rank that an end names. What it says holds of the ledger that the
-/// board leaves.
+/// The summaries that the workers of a board have found, from their outcomes, if every worker ended at the close and
+/// memory suffices; otherwise the cause of the least rank that an end names. What it says holds for the ledger that
+/// the board leaves.
 pub fn gather<G: Allocator, A: Allocator + Copy, S: PathSet<A>>(
     alloc: A,
     graphs: &Graphs<G>,

@@ -1,10 +1,10 @@
-//! Who says whether a worker may have a thread.
+//! Who decides whether a worker may have a thread.
 
-/// Says before each start whether a worker may have a thread. Where it says no, that counts as a start that the system
+/// Says before each start whether a worker may have a thread. If it says no, that counts as a start that the system
 /// refused.
 pub trait Hire {
-    /// Asked once for each lane, in the order of their numbers, just before its start, and for none behind a lane that
-    /// was refused.
+    /// Called once for each lane, in the order of their numbers, just before its start, and for no lane after one
+    /// that was refused.
     fn may(&self, lane: u8) -> bool;
 }
 

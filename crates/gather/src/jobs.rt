@@ -14,7 +14,7 @@ use std::thread::{Promise, PromisedHandle, Scope, Threads};
 
 /// Work for a thread of its own.
 pub(crate) trait Job: Drop {
-    /// What it gives back.
+    /// What it returns.
     type Back;
 
     ghost can_run: { Self → Type 0 };
@@ -28,18 +28,18 @@ pub(crate) trait Job: Drop {
         requires { can_run self }
         ensures { runs self result };
 
-    /// Does what is due where no thread could be had for the work.
+    /// Does what is due if there is no thread for the work.
     fn decline(self) -> Self::Back
         requires { can_run self }
         ensures { declines self result };
 }
 
-/// What came of a job.
+/// The result of a job.
 #[derive(Drop)]
 pub(crate) enum Came<B> {
-    /// It was run, and gave this back.
+    /// It was run, and returned this.
     Run(B),
-    /// It was declined, and gave this back, since no thread was had for it.
+    /// It was declined, since there was no thread for it, and returned this.
     Declined(B, NoThread),
 }
 
@@ -47,7 +47,7 @@ impl<B: Drop> Came<B> {
     ghost use Rattle.std.specs.Prelude.{◌≡◌};
     ghost use Rattle.gather.specs.Jobs.{back_of};
 
-    /// What the job gave back.
+    /// What the job returned.
     pub(crate) fn back(self) -> B
         ensures { result ≡ back_of self }
     {
@@ -58,7 +58,7 @@ impl<B: Drop> Came<B> {
     }
 }
 
-/// What the thread of a job promises: what the job of this number gives where it is run.
+/// What the thread of a job promises: what the job with this number gives if it is run.
 #[derive(Drop)]
 pub(crate) struct Gives<J, L> {
     pub(crate) number: u8,
@@ -69,15 +69,16 @@ impl<J: Job, L: Lineup<J>> Promise<J::Back> for Gives<J, L> {
     ghost kept_by = { λ p b. OfJob L.jobs J.runs p.number b };
 }
 
-/// A job that was begun: in a thread, of which `B` comes; or declined, since it gets none, as the second value shows.
+/// A job that was begun: in a thread, which returns a `B`; or declined, since it gets none, as the second value
+/// shows.
 #[derive(Drop)]
 pub(crate) enum Begun<B, P: Promise<B>> {
     InThread(PromisedHandle<B, P>),
     Without(B, NoThread),
 }
 
-/// Begins a job: in a thread, where no job before was refused one, it may have one, and the system has one for it.
-/// Elsewhere declines it.
+/// Begins a job in a thread, if no earlier job was refused one, it may have one, and the system has one for it.
+/// Otherwise declines it.
 fn begin<'s, 'f: 's, E, R: Wait + Sync, L: Lineup<J> + Send + 's, J: Job + Send + 's, H: Hire>(
     scope: &Scope<'s, E>,
     rt: &'f R,
@@ -139,7 +140,7 @@ where
     }
 }
 
-/// Waits for all that was begun.
+/// Waits for all jobs that were begun.
 fn end_all<R: Threads, L: Lineup<J>, J: Job, A: Allocator>(
     rt: &R,
     begun: Vec<Begun<J::Back, Gives<J, L>>, A>,
@@ -160,8 +161,8 @@ where
     }
 }
 
-/// Two empty lists with room for `count` items. It is generic in what they hold, so that no caller has the drop of the
-/// first where memory is refused for the second.
+/// Two empty lists with room for `count` items. It is generic in what they hold, so that no caller has the drop of
+/// the first if memory is refused for the second.
 fn rooms<T: Drop, U: Drop, A: Allocator + Copy>(
     alloc: A,
     count: usize,
@@ -248,8 +249,8 @@ where
     Ok(run_slots(rt, slots.as_slice(), hire, begun, cames))
 }
 
-/// Runs all jobs, each in a thread of its own, until all have ended. Where a start is refused, that job and those
-/// behind it are declined, and nobody is asked for them any more.
+/// Runs all jobs, each in a thread of its own, until all have ended. If a start is refused, that job and those
+/// after it are declined, and `hire` is not asked again.
 pub(crate) fn run_all<R: Wait + Threads + Sync, J: Job + Send, H: Hire, A: Allocator + Copy>(
     rt: &R,
     alloc: A,

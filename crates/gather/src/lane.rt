@@ -54,7 +54,7 @@ where
         work(rt, alloc, board, pass, graphs, number, limit, gate)
     }
 
-    /// Aborts the board for the thread that was not there, since the others would wait for it.
+    /// Aborts the board for the missing thread, since the others would wait for it.
     fn decline(self) -> (B::Pass, Outcome<'g, B::Heap, S::Heap, S>) {
         let Lane {
             rt,

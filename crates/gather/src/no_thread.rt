@@ -1,4 +1,4 @@
-//! What shows that no thread was had for a job.
+//! Evidence that there was no thread for a job.
 ghost use Rattle.std.specs.Prelude.{◌≡◌, IfOk, IfErr};
 ghost use Rattle.gather.specs.Jobs.{AllCanRun, OfJob};
 
@@ -9,15 +9,15 @@ use std::marker::PhantomData;
 use std::sync::{Mutex, Wait};
 use std::thread::{PromisedHandle, Scope};
 
-/// Shows that the start of a job was refused, by the system or by who hires. No job from that one on gets a thread.
+/// Evidence that the start of a job was refused, by the system or by `Hire`. No job from that one on gets a thread.
 /// Nothing outside this file makes one.
 #[derive(Clone, Copy)]
 pub(crate) struct NoThread {
     first: u8,
 }
 
-/// Starts a thread that takes the job of this number and runs it, where it may have one and the system has one.
-/// Elsewhere the job is still in its slot.
+/// Starts a thread that takes the job with this number and runs it, if it may have one and the system has one.
+/// Otherwise the job is still in its slot.
 pub(crate) fn start<
     's,
     'f: 's,

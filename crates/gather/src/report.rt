@@ -89,16 +89,16 @@ where
     Ok((ledger, summaries))
 }
 
-/// The report on a checked program for K rounds, where no procedure of its rewriting has more path edges than the
-/// limit. It is rewritten into a sequential program, whose procedures have a worker each, in a thread of its own, over
-/// a board of the type `B`; the path edges are kept in sets of the type `S`. The board and its histories are in memory
-/// of `heap`, tables and summaries in that of `alloc`. The gate is told of each take and post. `TooWide` is answered
-/// exactly where some procedure of the rewriting has more than 128 places, `EdgeLimit` only where some procedure has
-/// more path edges than the limit. Of several causes the one that `NoVerdict` lists first is answered.
+/// The report on a checked program for K rounds, if no procedure of its rewriting has more path edges than the limit.
+/// It is rewritten into a sequential program, whose procedures have a worker each, in a thread of its own, over a
+/// board of the type `B`; the path edges are kept in sets of the type `S`. The board and its histories are in memory
+/// of `heap`, tables and summaries in that of `alloc`. The gate is called at each take and post. `TooWide` is
+/// returned if and only if some procedure of the rewriting has more than 128 places, `EdgeLimit` only if some
+/// procedure has more path edges than the limit. Of several causes the one that `NoVerdict` lists first is returned.
 ///
-/// A worker has a thread only where `hire` says that it may; where it says no, or the system refuses a thread, that
-/// worker and those behind it do nothing but abort the board, and a cause is `NoWorker`. Each worker has one call of
-/// the board fewer than `budget`, from 2 to 2^56; where one has used them up, a cause is `Spent`.
+/// A worker has a thread only if `hire` says that it may; if it says no, or the system refuses a thread, that worker
+/// and those after it do nothing but abort the board, and a cause is `NoWorker`. Each worker has one call of the
+/// board fewer than `budget`, from 2 to 2^56; if one has used them up, a cause is `Spent`.
 pub fn check_rounds_tried<R, B, S, K, H, N>(
     rt: &R,
     heap: B::Heap,
@@ -129,7 +129,7 @@ where
         Err(RewriteFault::Memory) => return Err(NoVerdict::Memory),
     };
     let graphs = graphs(&heap, &sequential)?;
-    // What follows reads the graphs alone.
+    // The rest reads only the graphs.
     drop(sequential);
     let (ledger, summaries) = analyse::<R, B, S, K, H>(
         rt, heap, alloc, &graphs, limit, gate, hire, budget,
@@ -146,7 +146,7 @@ where
     })
 }
 
-/// The same, where every worker may have a thread, and has 2^56 - 1 calls.
+/// The same, if every worker may have a thread, and has 2^56 - 1 calls.
 pub fn check_rounds_with<R, B, S, K, N>(
     rt: &R,
     heap: B::Heap,

@@ -14,8 +14,8 @@ impl<J> Lineup<J> for Brand {
     ghost jobs = { [] };
 }
 
-/// The job of a number, until somebody takes it. A thread's closure has only a reference to it, so where the start is
-/// refused the starter still has the job.
+/// The job with a number, until it is taken. A thread's closure has only a reference to it, so if the start is
+/// refused, the starter still has the job.
 #[derive(Drop)]
 pub(crate) struct Slot<J, L: Lineup<J>> {
     job: Option<J>,
@@ -25,7 +25,7 @@ pub(crate) struct Slot<J, L: Lineup<J>> {
 }
 
 impl<J, L: Lineup<J>> Slot<J, L> {
-    /// The job of this number.
+    /// The job with this number.
     pub(crate) fn new(job: J, number: u8) -> Slot<J, L>
         requires { slice_get L.jobs number ≡ Some job }
     {
@@ -36,7 +36,7 @@ impl<J, L: Lineup<J>> Slot<J, L> {
         }
     }
 
-    /// The job of this number, if it is there.
+    /// The job with this number, if it is there.
     fn take(&mut self, number: u8) -> Option<J>
         ensures { IfSome result (λ j. slice_get L.jobs number ≡ Some j) }
     {
@@ -48,8 +48,8 @@ impl<J, L: Lineup<J>> Slot<J, L> {
     }
 }
 
-/// Takes the job of this number, as soon as it is there. It is there from the start, but no contract says what a lock
-/// keeps.
+/// Takes the job with this number, as soon as it is there. It is there from the start, but no contract says what a
+/// lock keeps.
 pub(crate) fn taken<R: Wait, J, L: Lineup<J>>(rt: &R, slot: &Mutex<Slot<J, L>>, number: u8) -> J
     ensures { slice_get L.jobs number ≡ Some result }
 {

@@ -1,4 +1,4 @@
-//! Answers to questions on flow graphs. A question is a word and numbers: valuations in binary digits behind `0b`,
+//! Answers to questions on flow graphs. A question is a word and numbers: valuations in binary digits after `0b`,
 //! others in decimal.
 
 use flow_graph::{Call, Flow, Graph, Graphs, Left};
@@ -9,7 +9,7 @@ use std::fmt::Write;
 /// How many choices of a flow are made at most.
 const MOST_CHOICES: u8 = 8;
 
-/// A number in decimal digits, or in binary ones behind `0b`.
+/// A number in decimal digits, or in binary ones after `0b`.
 fn number(word: &str) -> Option<Word> {
     match word.strip_prefix("0b") {
         Some(bits) => Word::from_str_radix(bits, 2).ok(),
@@ -17,7 +17,7 @@ fn number(word: &str) -> Option<Word> {
     }
 }
 
-/// The graph of a procedure, where there is one.
+/// The graph of a procedure, if there is one.
 fn graph_of<A: Allocator>(graphs: &Graphs<A>, procedure: Word) -> Option<&Graph<A>> {
     let procedure = u8::try_from(procedure).ok()?;
     if (procedure as usize) < graphs.len() {
@@ -27,7 +27,7 @@ fn graph_of<A: Allocator>(graphs: &Graphs<A>, procedure: Word) -> Option<&Graph<
     }
 }
 
-/// What leads on from a point, where there is one.
+/// What leads on from a point, if there is one.
 fn flow_of<A: Allocator>(graph: &Graph<A>, point: Point) -> Option<&Flow<A>> {
     if point < graph.points() {
         Some(graph.flow(point))
@@ -36,35 +36,35 @@ fn flow_of<A: Allocator>(graph: &Graph<A>, point: Point) -> Option<&Flow<A>> {
     }
 }
 
-/// The same, of a point of this number.
+/// The same for a point with this number.
 fn flow_numbered<A: Allocator>(graph: &Graph<A>, point: Word) -> Option<&Flow<A>> {
     flow_of(graph, usize::try_from(point).ok()?)
 }
 
-/// Puts a number behind the others.
+/// Appends a number to the others.
 fn put_number<B: Allocator>(out: &mut String<B>, number: usize) -> Option<()> {
     write!(out, " {number}").ok()
 }
 
-/// Puts the binary digits of a valuation behind the others.
+/// Appends the binary digits of a valuation to the others.
 fn put_bits<B: Allocator>(out: &mut String<B>, values: Word) -> Option<()> {
     write!(out, " {values:b}").ok()
 }
 
-/// Puts a point and a valuation behind the others.
+/// Appends a point and a valuation to the others.
 fn put_pair<B: Allocator>(out: &mut String<B>, pair: (Point, Word)) -> Option<()> {
     let (point, values) = pair;
     write!(out, " {point}:{values:b}").ok()
 }
 
-/// Puts the globals and the result that a call leaves behind the others.
+/// Appends the globals and the result that a call leaves to the others.
 fn put_left<B: Allocator>(out: &mut String<B>, left: Left) -> Option<()> {
     let globals = left.globals;
     let result = u8::from(left.result);
     write!(out, " {globals:b}:{result}").ok()
 }
 
-/// Where the run goes on with one choice, from each of the valuations.
+/// Where the run continues with one choice, from each of the valuations.
 fn steps<A: Allocator, B: Allocator>(
     flow: &Flow<A>,
     choice: Word,
@@ -80,7 +80,8 @@ fn steps<A: Allocator, B: Allocator>(
     Some(())
 }
 
-/// The number of the last choice, and where the run goes on by each, of which no more than `MOST_CHOICES` are made.
+/// The number of the last choice, and where the run continues by each, of which no more than `MOST_CHOICES` are
+/// made.
 fn nexts<A: Allocator, B: Allocator>(
     flow: &Flow<A>,
     values: Word,
@@ -97,7 +98,7 @@ fn nexts<A: Allocator, B: Allocator>(
     Some(())
 }
 
-/// Puts the pairs to which a pair leads behind others, where they are new.
+/// Appends the pairs to which a pair leads to others, if they are new.
 fn spread<A: Allocator, B: Allocator>(
     graph: &Graph<A>,
     point: Point,
@@ -136,7 +137,7 @@ fn reached<A: Allocator, B: Allocator>(
     Some(pairs)
 }
 
-/// Puts pairs behind the others.
+/// Appends pairs to the others.
 fn put_pairs<B: Allocator>(out: &mut String<B>, pairs: &[(Point, Word)]) -> Option<()> {
     for pair in pairs {
         put_pair(out, *pair)?;
@@ -244,7 +245,7 @@ fn of_graph<A: Allocator, B: Allocator + Copy>(
     }
 }
 
-/// The numbers of a question, which come behind others.
+/// The numbers of a question, appended to others.
 fn push_numbers<B: Allocator>(numbers: &mut Vec<Word, B>, words: &str) -> Option<()> {
     for digits in words.split_whitespace() {
         numbers.push(number(digits)?).ok()?;

@@ -2,7 +2,7 @@
 //! the standard output.
 //!
 //! A line is `ROUNDS | QUESTION | TEXT`: the text is checked and rewritten for K rounds, and the question is put
-//! to the flow graphs of the result. A line that begins with `#` is written as it stands.
+//! to the flow graphs of the result. A line that begins with `#` is written as it is.
 #![tactic(auto)]
 
 mod answers;
@@ -17,7 +17,7 @@ use std::io;
 use syntax::read;
 use trees::Program;
 
-/// The answer to a question on a rewritten program. Behind the word `refused` it stands after each allocation for the
+/// The answer to a question on a rewritten program. After the word `refused` it is given once each allocation for the
 /// graphs was refused in turn.
 fn of_sequential<A: Allocator + Copy>(
     alloc: A,
@@ -67,7 +67,7 @@ fn row<A: Allocator + Copy>(alloc: A, line: &str) -> Option<String<A>> {
     of_text(alloc, text, rounds, question)
 }
 
-/// The answer to a line, or the line itself where it is a comment, or that there is no answer.
+/// The answer to a line, or the line itself if it is a comment, or that there is no answer.
 fn reply<A: Allocator + Copy>(alloc: A, line: &str) -> Option<String<A>> {
     if line.starts_with("#") {
         return String::from_str(alloc, line).ok();

@@ -6,7 +6,7 @@ use resolved::Sequential;
 use scarce::Scarce;
 use std::alloc::Allocator;
 
-/// The answer to a question on the graphs of a program, where there is memory for them.
+/// The answer to a question on the graphs of a program, if there is memory for them.
 pub(crate) fn plain<A: Allocator + Copy>(
     alloc: A,
     sequential: &Sequential<A>,
@@ -18,7 +18,7 @@ pub(crate) fn plain<A: Allocator + Copy>(
     }
 }
 
-/// Whether there are graphs in this memory, and the answer is the wanted one; `None` where it is another one.
+/// Whether there are graphs in this memory, and the answer is the wanted one; `None` if it is another one.
 fn is_answered<H: Allocator + Copy, A: Allocator + Copy>(
     heap: H,
     alloc: A,
@@ -35,8 +35,8 @@ fn is_answered<H: Allocator + Copy, A: Allocator + Copy>(
     }
 }
 
-/// Whether the allocation of this number was refused. With it refused there are no graphs, or the answer is the wanted
-/// one; `None` where neither is so.
+/// Whether the allocation with this number was refused. With it refused there are no graphs, or the answer is the
+/// wanted one; `None` if neither holds.
 fn was_refused<A: Allocator + Copy>(
     alloc: A,
     nth: u64,
@@ -72,7 +72,7 @@ fn holds_in_turn<A: Allocator + Copy>(
     false
 }
 
-/// The answer to the question, where it holds with each allocation for the graphs refused in turn.
+/// The answer to the question, if it holds with each allocation for the graphs refused in turn.
 pub(crate) fn each_refused<A: Allocator + Copy>(
     alloc: A,
     sequential: &Sequential<A>,

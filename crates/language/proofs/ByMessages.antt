@@ -1,4 +1,4 @@
--- What is reached begins with an entry, stands at a rest of the procedure's body, and stays reached by more messages.
+-- What is reached begins with an entry, is at a rest of the procedure's body, and stays reached by more messages.
 use Rattle.std.proofs.Common.{ℕ, slice_get}
 use Rattle.language.specs.Tree.{done}
 use Rattle.language.specs.Rest.{Code}

@@ -20,7 +20,7 @@ abbrev over : List Frame → State → State
 over gs (state g []) = state g []
 over gs (state g (f ∷ fs)) = state g (f ∷ gs)
 
--- a frame that goes takes no other along
+-- a frame that is removed leaves the others
 height_given : (v : Bool) (g : List Bool) (fs : List Frame) → height (given_back v g fs) ≡ length fs
 height_given v g [] = refl
 height_given v g (frame c l t ∷ fs) = refl

@@ -38,7 +38,7 @@ called : (p : Program) (M : ℕ → Message → Type 0) → HasOwed p M → (q :
     Reaching p M q a v r → Calls p v.globals v.places r s e → M s (entry (caller q) e)
 called p M closed q a v e r s reached calls = closed q s (entry (caller q) e) (asks a v e r s reached calls)
 
--- a caller goes on behind its call
+-- a caller continues after its call
 back : (p : Program) (M : ℕ → Message → Type 0) → HasOwed p M → (k : ℕ) (z : Valuation) (q : ℕ) (a v : Valuation) → Reaching p M q a v done
     →
     (fs : List Frame) → Wait p M k z q a fs → Held p M k z (given_back (result_of (slice_get p.routines q) v.places) v.globals fs)
@@ -81,7 +81,7 @@ alone_held : (p : Program) (M : ℕ → Message → Type 0) (q : ℕ) (a : Valua
     → Held p M q a (alone p q a)
 alone_held p M q a from is = (a, starts from a is, (refl, refl))
 
--- what holds of the whole body
+-- what holds for the whole body
 whole_held : (p : Program) (M : ℕ → Message → Type 0) (q : ℕ) (a : Valuation) (routine : Routine) → slice_get p.routines q ≡ Some routine →
     Held p M q a (alone p q a) → Held p M q a (state a.globals (frame q a.places routine.body ∷ []))
 whole_held p M q a routine e held =

@@ -1,4 +1,4 @@
--- What is entered: by a run, and of a procedure that is there.
+-- What is entered: by a run, and of a procedure that exists.
 use Rattle.std.proofs.Common.{◌≡◌, ℕ, List, [], ◌∷◌, Bool, Option, Some, None, inl, inr, refl, sym, ◌∙◌, ap, subst}
 use Rattle.std.proofs.Common.{slice_get}
 use Rattle.std.proofs.lemmas.Option.{none-some}
@@ -47,7 +47,7 @@ call_follows (one m u t) s es e = refl
 call_follows (choose m c a b t) s es e = absurd (none-some (s, es) e)
 call_follows (loop m c a t) s es e = absurd (none-some (s, es) e)
 
--- what is called is there
+-- what is called exists
 pub callee_there : (p : Program) (g l : List Bool) (r : Code) (s : ℕ) (e : Valuation) → Calls p g l r s e → IsThere p s
 callee_there p g l r s e calls =
     let (es, at, h) = call_shape p g l r s e calls in
@@ -63,12 +63,12 @@ rest_there p q None is g l r s e (inl same) calls = absurd (subst (λ z. Calls p
 rest_there p q None is g l r s e (inr f) calls = absurd f
 rest_there p q (Some routine) is g l r s e at calls = (routine, is)
 
--- who asks is there
+-- the asking procedure exists
 pub asker_there : (p : Program) (q s : ℕ) (e : Valuation) → Asks p q s e → IsThere p q
 asker_there p q s e (g, l, r, fs, reaches, calls) =
     rest_there p q (slice_get p.routines q) refl g l r s e (frame_stands p g (frame q l r ∷ fs) q l r reaches (inl refl)) calls
 
--- the stack before the first step, where procedure n is there
+-- the stack before the first step, if procedure n exists
 start_is : (p : Program) (n : ℕ) (routine : Routine) → slice_get p.routines n ≡ Some routine →
     starting_stack p.routines n ≡ frame n (zeros (frame_size routine)) routine.body ∷ []
 start_is p n routine e =
@@ -90,7 +90,7 @@ zero_comes p a begins =
       subst (λ (z : Valuation). Reaches p (state z.globals (frame 0 z.places (body_of (slice_get p.routines 0)) ∷ []))) (sym same) bodied,
     )
 
--- what is entered, some run comes to
+-- some run comes to what is entered
 pub entered_comes : (p : Program) (q : ℕ) (a : Valuation) → Entered p q a → ComesTo p q a
 entered_comes p q a (inl (e, begins)) = subst (λ z. ComesTo p z a) (sym e) (zero_comes p a begins)
 entered_comes p q a (inr (c, (g, l, r, fs, reaches, calls))) = (
@@ -98,7 +98,7 @@ entered_comes p q a (inr (c, (g, l, r, fs, reaches, calls))) = (
   runs_step p _ _ _ reaches (entering p c (record { globals = g; places = l }) r fs q a calls),
 )
 
--- what is entered is there
+-- what is entered exists
 pub entered_there : (p : Program) (q : ℕ) (a : Valuation) → Entered p q a → IsThere p q
 entered_there p q a (inl (e, begins)) =
     let (routine, is, same) =
@@ -111,7 +111,7 @@ pub due_entered : (p : Program) (q : ℕ) (from : Caller) (a : Valuation) → Is
 due_entered p q starter a due = inl due
 due_entered p q (caller c) a due = inr (c, due)
 
--- where a message is due, there is a procedure
+-- if a message is due, there is a procedure
 pub due_there : (p : Program) (q : ℕ) (m : Message) → IsDue p q m → IsThere p q
 due_there p q (entry from a) due = entered_there p q a (due_entered p q from a due)
 due_there p q (summary s a b) due = asker_there p q s a due.0

@@ -1,4 +1,4 @@
--- Where each procedure has what is owed to it, and no more than is due, it has what is due.
+-- If each procedure has what is owed to it, and nothing that is not due, it has what is due.
 use Rattle.std.proofs.Common.{◌≡◌, ◌↔◌, ℕ, List, Bool, Option, sym, subst, slice_get}
 use Rattle.language.specs.Tree.{done}
 use Rattle.language.specs.Rest.{Code}

@@ -27,7 +27,7 @@ pub or_right : (a b : Bool) → b ≡ true → a || b ≡ true
 or_right true b e = refl
 or_right false b e = e
 
--- where a value is returned at some rest of a block, one is returned in the block
+-- if a value is returned at some rest of a block, one is returned in the block
 gives_within : (b k r : Code) → Member r (rests b k) → gives_first r ≡ true → gives_value b ≡ true
 gives_within done k r f e = absurd f
 gives_within (one m s t) k r (inl same) e = or_left (gives (plain s)) (gives_value t) (sym (ap gives_first same) ∙ e)
@@ -50,7 +50,7 @@ gives_within (loop m c a t) k r (inr f) e =
       | inr g ↦ or_right (gives_value a) (gives_value t) (gives_within t k r g e)
     ]
 
--- where a rest of a body returns a value, the body gives one
+-- if a rest of a body returns a value, the body gives one
 pub gives_returned : (b r : Code) → IsRestOf b r → gives_first r ≡ true → gives_value b ≡ true
 gives_returned b r (inl same) e = absurd (false≢true (sym (ap gives_first same) ∙ e))
 gives_returned b r (inr f) e = gives_within b done r f e

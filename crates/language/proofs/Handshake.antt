@@ -153,7 +153,7 @@ first_round (inr (h, stack, run, inl (s, more, bad))) =
     after_waiting h stack s (turn handshake Waiting waiting_step _ h _ stack waits run) more bad
 first_round (inr (h, stack, run, inr (h', stack', run', never))) = never
 
--- where b has had its first turn, a waits for z in its second
+-- once b has had its first turn, a waits for z in its second
 blocked : (g : List Bool) (stack below : List Frame) (h : List Bool) → Waiting h stack → Starting g below → Blocked g stack
 blocked _ _ _ _ waits (starts x) = asks x false
 blocked _ _ _ _ waits (stops x) = asks x false

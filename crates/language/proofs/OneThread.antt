@@ -1,4 +1,4 @@
--- What holds of a thread at each step holds after its turns; a program of one thread is safe where nothing fails of
+-- What holds for a thread at each step holds after its turns; a program of one thread is safe if nothing fails for
 -- which that holds.
 use Rattle.std.proofs.Common.{◌≡◌, ℕ, zero, suc, List, [], ◌∷◌, Bool, inl, inr, sym, ◌∙◌, ap, subst, map}
 use Rattle.language.specs.Step.{Program, Frame, State, state, zeros, StepsTo, AfterSteps, Runs, Fails}

@@ -21,7 +21,7 @@ pub first_none : {A : Type 0} (o : Option A) → first_of_two o None ≡ o
 first_none None = refl
 first_none (Some a) = refl
 
--- k comes after the rest, where there is one
+-- k comes after the rest, if there is one
 abbrev behind : Code → Option Code → Option Code
 behind k o = option_map (λ rest. join rest k) o
 
@@ -37,7 +37,7 @@ behind_cond : (b : Bool) (o p : Option Code) (k : Code) → behind k (cond b o p
 behind_cond true o p k = refl
 behind_cond false o p k = refl
 
--- what holds of a block with nothing after it holds with a block k2 after it
+-- what holds for a block with nothing after it holds with a block k2 after it
 inner : (x : Label) (a : Code) → ((k : Code) → rest_from x a k ≡ behind k (rest_from x a done)) →
     (k2 k k' : Code) → k' ≡ join k2 k → rest_from x a k' ≡ behind k (rest_from x a k2)
 inner x a all k2 k k' e =

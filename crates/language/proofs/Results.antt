@@ -10,7 +10,7 @@ zeros_bit zero i = refl
 zeros_bit (suc n) zero = refl
 zeros_bit (suc n) (suc i) = zeros_bit n i
 
--- behind the values that are given all are 0
+-- after the values that are given all are 0
 behind_bit : (vs : List Bool) (n i : ℕ) → length vs ≤ i → bit (vs ++ zeros n) i ≡ false
 behind_bit [] n i few = zeros_bit n i
 behind_bit (v ∷ vs) n zero few = absurd (omega arith)

@@ -14,7 +14,7 @@ at_routine_map : (o : Option Routine) (P Q : Routine → Type 0) → ((c : Routi
 at_routine_map None P Q f h = h
 at_routine_map (Some c) P Q f h = f c h
 
--- what a step leads to may be known less of
+-- a property of what a step leads to may be weakened
 pub steps_map : (p : Program) (s : State) (P Q : State → Type 0) → ((u : State) → P u → Q u) → StepsTo p s P → StepsTo p s Q
 steps_map p (state g []) P Q f h = h
 steps_map p (state g (waiting c l x t ∷ fs)) P Q f h = h

@@ -34,13 +34,13 @@ abbrev pub HasFrame : State → Type 0
 HasFrame (state g []) = ⊥
 HasFrame (state g (f ∷ fs)) = Unit {0}
 
--- what comes to a frame has one
+-- what leads to a state with a frame has one
 comes_from_frame : (p : Program) (n : ℕ) (s t : State) → AfterSteps p n s (λ u. u ≡ t) → HasFrame t → HasFrame s
 comes_from_frame p zero s t e has = subst HasFrame (sym e) has
 comes_from_frame p (suc n) (state g []) t run has = absurd run
 comes_from_frame p (suc n) (state g (f ∷ fs)) t run has = tt
 
--- what goes where callers are left goes so over more of them
+-- a return that leaves callers is the same over more of them
 given_over : (v : Bool) (g : List Bool) (gs fs : List Frame) → HasFrame (given_back v g gs)
     → over fs (given_back v g gs) ≡ given_back v g (gs ++ fs)
 given_over v g [] fs has = absurd has
@@ -70,7 +70,7 @@ steps_over p fs (suc n) s t has run =
     step_runs p (over fs s) (over fs u) (over fs t) (step_over p fs s u (comes_from_frame p n u t rest has) step)
     (steps_over p fs n u t has rest)
 
--- a run at whose end some frame is left is one over more callers too
+-- a run at whose end some frame is left is one more over callers too
 pub runs_over : (p : Program) (fs : List Frame) (s t : State) → HasFrame t → Runs p s t → Runs p (over fs s) (over fs t)
 runs_over p fs s t has (n, run) = steps_over p fs n s t has run
 
@@ -87,7 +87,7 @@ pub returning : (p : Program) (q : ℕ) (v : Valuation) (fs : List Frame)
     → Step p (state v.globals (frame q v.places done ∷ fs)) (given_back (result_of (slice_get p.routines q) v.places) v.globals fs)
 returning p q v fs = (step_kinds p q v done fs _).1 (inr (inl (refl, refl)))
 
--- what a caller goes on with when its call has left this
+-- what a caller continues with when its call has left this
 pub given_caller : (q : ℕ) (v : Valuation) (x : Option Place) (t : Code) (fs : List Frame) (b : Exit) →
     given_back b.result b.globals (caller_frame q v.places x t ∷ fs)
     ≡ state (resumed_with x v b).globals (frame q (resumed_with x v b).places t ∷ fs)

@@ -16,7 +16,7 @@ use Rattle.language.proofs.Entering.{entered_comes, entered_there, due_entered}
 abbrev pub alone : Program → ℕ → Valuation → State
 alone p q a = state a.globals (frame q a.places (body_of (slice_get p.routines q)) ∷ [])
 
--- the same as a path edge, where the procedure's body is found by its number
+-- the same as a path edge, if the procedure's body is found by its number
 abbrev pub Inside : Program → ℕ → Valuation → Valuation → Code → Type 0
 Inside p q a v r = Entered p q a × Runs p (alone p q a) (state v.globals (frame q v.places r ∷ []))
 
@@ -74,7 +74,7 @@ pair_inside p q a b (l, result, edge) =
 pub inside_pair : (p : Program) (q : ℕ) (a v : Valuation) → Inside p q a v done → Pair p q a (exit_of p q v)
 inside_pair p q a v inside = (v.places, refl, some_edge p q a v None done refl inside)
 
--- behind a call, what a pair of the procedure called leads to
+-- after a call, what a pair of the procedure called leads to
 behind : (p : Program) (q : ℕ) (a v e : Valuation) (r : Code) (s : ℕ) (b : Exit) → Inside p q a v r →
     Calls p v.globals v.places r s e → Pair p s e b →
     Inside p q a (resumed_with (target_of r) v b) (after_first r)
@@ -98,7 +98,7 @@ reached_inside p q M due _ _ _ (flows a v v' r r' reached flow) =
 reached_inside p q M due _ _ _ (returns a v e r s b reached calls is) =
     behind p q a v e r s b (reached_inside p q M due a v r reached) calls (due (summary s e b) is).1
 
--- where steps inside an entered procedure come to a call, the procedure asks for what it enters
+-- if steps inside an entered procedure come to a call, the procedure asks for what it enters
 pub inside_asks : (p : Program) (q : ℕ) (a v e : Valuation) (r : Code) (s : ℕ) → Inside p q a v r → Calls p v.globals v.places r s e
     → Asks p q s e
 inside_asks p q a v e r s (entered, run) calls =

@@ -1,4 +1,4 @@
--- Each frame stands at a rest of its procedure's body, and steps keep that.
+-- Each frame is at a rest of its procedure's body, and steps keep that.
 use Rattle.std.proofs.Common.{◌≡◌, ℕ, zero, suc, true, false, List, [], ◌∷◌, Option, Some, None, slice_get, inl, inr, refl, sym, ap, subst}
 use Rattle.std.proofs.Common.{Bool}
 use Rattle.language.specs.Tree.{skip, assign, assert, assume, goto, leave, call, leave_with, call_for, done, one, choose, loop}
@@ -29,7 +29,7 @@ Standing p (state g fs) = AllStand p fs
 pub whole_stands : (b : Code) → IsRestOf b b
 whole_stands b = subst (IsRestOf b) (join_done b) (in_whole b done)
 
--- a procedure's number tells its body
+-- a procedure's number determines its body
 entered : (p : Program) (q : ℕ) (o : Option Routine) → slice_get p.routines q ≡ o → (P : State → Type 0) (F : Routine → State) →
     ((routine : Routine) → Stands p q routine.body → Standing p (F routine)) → AtRoutine o (λ routine. P (F routine))
     → (u : State) × Standing p u × P u

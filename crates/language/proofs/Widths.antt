@@ -69,7 +69,7 @@ entered_breadth p g l r s e calls =
     routine_found (slice_get p.routines s) (λ z. e ≡ record { globals = g; places = fresh (frame_size z) (values_of g l es) }) h in
     sym (ap (λ (z : Valuation). length z.globals) at)
 
--- a frame that goes leaves as many globals
+-- removing a frame keeps the number of globals
 given_breadth : (v : Bool) (g : List Bool) (fs : List Frame) → breadth (given_back v g fs) ≡ length g
 given_breadth v g [] = refl
 given_breadth v g (frame c l t ∷ fs) = refl
@@ -135,7 +135,7 @@ same_valuation : (p : Program) (q : ℕ) (v w : Valuation) → SameWidths v w �
 same_valuation p q v w (globals, places) (g, l) =
     (sym globals ∙ g, subst (λ n. AtRoutine (slice_get p.routines q) (λ z. n ≡ frame_size z)) places l)
 
--- a caller goes on with its own places, and with as many globals as its call has left
+-- a caller continues with its own places, and with as many globals as its call has left
 resumed_widths : (x : Option Place) (v : Valuation) (b : Exit) →
     SameWidths (record { globals = b.globals; places = v.places }) (resumed_with x v b)
 resumed_widths None v b = (refl, refl)

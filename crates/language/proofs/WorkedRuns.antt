@@ -15,7 +15,7 @@ one_value g l e P [] are f = absurd are
 one_value g l e P (v ∷ []) are f = subst (λ x. P (x ∷ [])) are.0 f
 one_value g l e P (v ∷ w ∷ vs) are f = absurd are.1
 
--- the same of a place of the frame
+-- the same for a place of the frame
 one_local : (g : List Bool) (b : Bool) (P : List Bool → Type 0) (vs : List Bool) → AreValues g (b ∷ []) (value (var (local 0)) ∷ []) vs
     → P vs → P (b ∷ [])
 one_local g b P [] are f = absurd are

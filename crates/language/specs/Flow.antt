@@ -8,7 +8,7 @@ use Rattle.language.specs.Step.{Program, Frame, frame, waiting, State, state, bo
 use Rattle.language.specs.Sequential.{Valuation, Calls}
 
 -- What is left to run from each statement of a block on, in text order, where `next` comes after the block:
--- behind a branch comes what follows its `if`, behind a loop's body the loop again.
+-- after a branch comes what follows its `if`, after a loop's body the loop again.
 abbrev pub rests : Code → Code → List Code
 rests done next = []
 rests (one mark statement rest) next = one mark statement (join rest next) ∷ rests rest next
@@ -35,7 +35,7 @@ FlowsTo program procedure valuation rest callers reached =
     (v' : Valuation) × (r' : Code) × Flow program procedure valuation rest v' r'
     × (reached ≡ state v'.globals (frame procedure v'.places r' ∷ callers))
 
--- the top frame is finished, and its going leads to this state
+-- the top frame is finished, and its removal leads to this state
 abbrev pub ReturnsTo : Program → ℕ → Valuation → Code → List Frame → State → Type 0
 ReturnsTo program procedure valuation rest callers reached =
     (rest ≡ done)
@@ -48,7 +48,7 @@ after_first (one mark statement rest) = rest
 after_first (choose mark side if_true if_false rest) = rest
 after_first (loop mark side body rest) = rest
 
--- the frame of a caller, with what comes after its call: it waits where a variable gets the value of the call
+-- the frame of a caller, with what comes after its call: it waits if a variable gets the value of the call
 abbrev pub caller_frame : ℕ → List Bool → Option Place → Code → Frame
 caller_frame procedure locals None rest = frame procedure locals rest
 caller_frame procedure locals (Some target) rest = waiting procedure locals target rest

@@ -9,8 +9,8 @@ use Rattle.language.specs.Sequential.{Caller, starter, caller, Message, entry, s
 use Rattle.language.specs.Flow.{IsRestOf, Flow, after_first}
 use Rattle.language.specs.Lists.{Member}
 
--- By the messages of which M holds, a procedure reaches from an entry valuation another valuation, with some rest left
--- to run: the start of each entry, what a flow leads to, and, behind a call, what a summary of it leads to.
+-- By the messages for which M holds, a procedure reaches from an entry valuation another valuation, with some rest
+-- left to run: the start of each entry, what a flow leads to, and, after a call, what a summary of it leads to.
 pub data Reached (program : Program) (procedure : ℕ) (M : Message → Type 0) : Valuation → Valuation → Code → Type 0 where
   starts : (from : Caller) (a : Valuation) → M (entry from a)
       → Reached program procedure M a a (body_of (slice_get program.routines procedure))
@@ -19,15 +19,15 @@ pub data Reached (program : Program) (procedure : ℕ) (M : Message → Type 0) 
   returns : (a v e : Valuation) (r : Code) (s : ℕ) (b : Exit) → Reached program procedure M a v r → Calls program v.globals v.places r s e →
       M (summary s e b) → Reached program procedure M a (resumed_with (target_of r) v b) (after_first r)
 
--- By the messages of which M holds, a procedure owes another: the entry of each call of it that is reached, and
--- for each of its entries the summary of each exit that is reached.
+-- By the messages for which M holds, a procedure owes another: the entry of each call of it that is reached,
+-- and for each of its entries the summary of each exit that is reached.
 pub data Owes (program : Program) (procedure : ℕ) (M : Message → Type 0) : ℕ → Message → Type 0 where
   asks : (a v e : Valuation) (r : Code) (s : ℕ) → Reached program procedure M a v r → Calls program v.globals v.places r s e →
       Owes program procedure M s (entry (caller procedure) e)
   tells : (a v : Valuation) (s : ℕ) → M (entry (caller s) a) → Reached program procedure M a v done
       → Owes program procedure M s (summary procedure a (exit_of program procedure v))
 
--- each message of which M holds is due for the procedure
+-- each message for which M holds is due for the procedure
 abbrev pub AreDue : Program → ℕ → (Message → Type 0) → Type 0
 AreDue program procedure M = (m : Message) → M m → IsDue program procedure m
 

@@ -23,7 +23,7 @@ abbrev pub sides_of : {V P L : Type 0} → Head V P L → List (RightSide V)
 sides_of (plain (assign xs rs)) = rs
 sides_of _ = []
 
--- the right side that the statement tests, where it tests one
+-- the right side that the statement tests, if it tests one
 abbrev pub test_of : {V P L : Type 0} → Head V P L → Option (RightSide V)
 test_of (plain (assert side)) = Some side
 test_of (plain (assume side)) = Some side
@@ -37,7 +37,7 @@ arguments_of (plain (call_for x callee es)) = es
 arguments_of (plain (leave_with e)) = e ∷ []
 arguments_of _ = []
 
--- the procedure that the statement calls, where it calls one
+-- the procedure that the statement calls, if it calls one
 abbrev pub callee_of : {V P L : Type 0} → Head V P L → Option P
 callee_of (plain (call callee es)) = Some callee
 callee_of (plain (call_for x callee es)) = Some callee
@@ -48,7 +48,7 @@ abbrev pub gives : {V P L : Type 0} → Head V P L → Bool
 gives (plain (leave_with e)) = true
 gives _ = false
 
--- the label that the statement jumps to, where it jumps
+-- the label that the statement jumps to, if it jumps
 abbrev pub jump_of : {V P L : Type 0} → Head V P L → Option L
 jump_of (plain (goto label)) = Some label
 jump_of _ = None

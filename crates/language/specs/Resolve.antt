@@ -1,5 +1,5 @@
--- What the names of a text stand for. A name is the local or formal of its procedure where there is one,
--- else the global; of two procedures of one name it is the first.
+-- What the names of a text stand for. A name is the local or formal of its procedure if there is one, else
+-- the global; of two procedures of one name it is the first.
 use Rattle.std.specs.Prelude.{ℕ, suc, Bool, true, false, ◌||◌, List, [], ◌∷◌, ◌++◌, Option, Some, None, length, map, cond}
 use Rattle.language.specs.Tree.{Name, Expression, const, var, negation, two, RightSide, any, value, Simple, skip, assign, assert, assume}
 use Rattle.language.specs.Tree.{goto, leave, call, leave_with, call_for, Mark, Block, done, one, choose, loop, Procedure, ThreadLine, Tree}
@@ -8,7 +8,7 @@ use Rattle.language.specs.Value.{Place, global, local}
 use Rattle.language.specs.Rest.{Label, Code, same_text}
 use Rattle.language.specs.Step.{Routine, Program}
 
--- how many names come before the first of this text: all of them, where there is none
+-- how many names come before the first of this text: all of them, if there is none
 abbrev pub number_of : List ℕ → List Name → ℕ
 number_of text [] = 0
 number_of text (name ∷ names) = cond (same_text text name.text) 0 (suc (number_of text names))
@@ -18,7 +18,7 @@ abbrev pub is_declared : List ℕ → List Name → Bool
 is_declared text [] = false
 is_declared text (name ∷ names) = cond (same_text text name.text) true (is_declared text names)
 
--- the names in whose scope a procedure's statements stand: its formals, then its locals, and the globals
+-- the names in scope for a procedure's statements: its formals, then its locals, and the globals
 pub record Scope : Type 0 where
   pub globals : List Name
   pub locals : List Name

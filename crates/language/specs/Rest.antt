@@ -36,8 +36,8 @@ abbrev pub first_of_two : {A : Type 0} → Option A → Option A → Option A
 first_of_two None b = b
 first_of_two (Some a) b = Some a
 
--- What is left to run from the first statement with this label on, where `next` comes after the block:
--- behind a branch comes what follows its `if`, behind a loop's body the loop again.
+-- What is left to run from the first statement with this label on, where `next` comes after the block: after
+-- a branch comes what follows its `if`, after a loop's body the loop again.
 abbrev pub rest_from : Label → Code → Code → Option Code
 rest_from label done next = None
 rest_from label (one mark statement rest) next =
@@ -50,13 +50,13 @@ rest_from label (loop mark side body rest) next =
     cond (has_label label mark) (Some (loop mark side body (join rest next)))
     (first_of_two (rest_from label body (loop mark side body (join rest next))) (rest_from label rest next))
 
--- the procedure that the first statement calls, and the arguments, where it calls one
+-- the procedure that the first statement calls, and the arguments, if it calls one
 abbrev pub called_by : Code → Option (ℕ × List (Expression Place))
 called_by (one mark (call callee es) rest) = Some (callee, es)
 called_by (one mark (call_for x callee es) rest) = Some (callee, es)
 called_by rest = None
 
--- the variable that the first statement calls for, where it calls for a value
+-- the variable that the first statement calls for, if it calls for a value
 abbrev pub target_of : Code → Option Place
 target_of (one mark (call_for x callee es) rest) = Some x
 target_of rest = None

@@ -9,7 +9,7 @@ use Rattle.language.specs.Step.{Routine, Program, Frame, frame, State, state, ze
 use Rattle.language.specs.Rounds.{starting_stack}
 use Rattle.language.specs.Resolve.{meaning_of}
 
--- how many statements a block has, those inside others included
+-- how many statements a block has, including those inside others
 abbrev pub statements : {V P L : Type 0} → Block V P L → ℕ
 statements done = 0
 statements (one mark statement rest) = suc (statements rest)
@@ -91,7 +91,7 @@ abbrev pub IsZero : Program → Valuation → Type 0
 IsZero program entered =
     AtRoutine (slice_get program.routines 0) (λ r. entered ≡ record { globals = zeros program.globals; places = zeros (frame_size r) })
 
--- an entry valuation of the procedure: all 0 where it is procedure 0, or one with which some procedure enters it
+-- an entry valuation of the procedure: all 0 if it is procedure 0, or one with which some procedure enters it
 abbrev pub Entered : Program → ℕ → Valuation → Type 0
 Entered program procedure entered = ((procedure ≡ 0) × IsZero program entered) ⊎ ((c : ℕ) × Asks program c procedure entered)
 
@@ -104,18 +104,18 @@ Edge program procedure entered point valuation =
     × Runs program (state entered.globals (frame procedure entered.places r.body ∷ []))
     (state valuation.globals (frame procedure valuation.places rest ∷ [])))
 
--- what a procedure leaves at its exit: the globals, and the result, which is 0 where it gives none
+-- what a procedure leaves at its exit: the globals, and the result, which is 0 if it gives none
 pub record Exit : Type 0 where
   pub globals : List Bool
   pub result : Bool
 
--- what the procedure leaves where it reaches its exit with this valuation
+-- what the procedure leaves when it reaches its exit with this valuation
 abbrev pub exit_of : Program → ℕ → Valuation → Exit
 exit_of program procedure valuation =
     record { globals = valuation.globals; result = result_of (slice_get program.routines procedure) valuation.places }
 
--- the valuation with which a caller goes on behind a call that has left this: its places are its own, and the variable
--- that it called for, if any, gets the result
+-- the valuation with which a caller continues after a call that has left this: its places are its own, and the
+-- variable that it called for, if any, gets the result
 abbrev pub resumed_with : Option Place → Valuation → Exit → Valuation
 resumed_with None valuation exit = record { globals = exit.globals; places = valuation.places }
 resumed_with (Some x) valuation exit = record {
@@ -129,7 +129,7 @@ Pair program procedure entered exit =
     (l : List Bool) × (exit.result ≡ result_of (slice_get program.routines procedure) l)
     × Edge program procedure entered None (record { globals = exit.globals; places = l })
 
--- some pair of the first procedure has `bad`, where a sequential program keeps it in the global of this number
+-- some pair of the first procedure has `bad`, which a sequential program keeps in the global with this number
 abbrev pub SomeBad : Program → ℕ → Type 0
 SomeBad program bad = (a : Valuation) × (b : Exit) × Pair program 0 a b × (bit b.globals bad ≡ true)
 

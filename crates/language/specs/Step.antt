@@ -19,7 +19,7 @@ pub record Program : Type 0 where
   pub routines : List Routine
   pub threads : List ℕ
 
--- a frame: its procedure, the values of its formals, locals and temporaries, then of its result where the procedure
+-- a frame: its procedure, the values of its formals, locals and temporaries, then of its result if the procedure
 -- gives one, and what is left to run; or a caller that waits, and the variable that gets the value of its call
 pub data Frame : Type 0 where
   frame : ℕ → List Bool → Code → Frame
@@ -38,11 +38,11 @@ zeros (suc n) = false ∷ zeros n
 abbrev pub fresh : ℕ → List Bool → List Bool
 fresh n arguments = arguments ++ zeros (n - length arguments)
 
--- how many values a frame of the procedure has: one for each place, and one more for the result, where it gives one
+-- how many values a frame of the procedure has: one for each place, and one more for the result, if it gives one
 abbrev pub frame_size : Routine → ℕ
 frame_size routine = routine.places + cond routine.gives 1 0
 
--- the result in these values of a frame: 0 where the procedure gives none
+-- the result in these values of a frame: 0 if the procedure gives none
 abbrev pub result_of : Option Routine → List Bool → Bool
 result_of None locals = false
 result_of (Some routine) locals = cond routine.gives (bit locals routine.places) false
@@ -52,15 +52,15 @@ abbrev pub with_result : Option Routine → List Bool → Bool → List Bool
 with_result None locals v = locals
 with_result (Some routine) locals v = with_bit locals routine.places v
 
--- what is there when a frame with this result is gone: the frame below goes on, and one that waits gets the result
--- written to its variable
+-- what is left when a frame with this result is removed: the frame below continues, and one that waits gets the
+-- result written to its variable
 abbrev pub given_back : Bool → List Bool → List Frame → State
 given_back v globals [] = state globals []
 given_back v globals (frame procedure locals rest ∷ fs) = state globals (frame procedure locals rest ∷ fs)
 given_back v globals (waiting procedure locals x rest ∷ fs) =
     state (written_globals (x ∷ []) (v ∷ []) globals) (frame procedure (written_locals (x ∷ []) (v ∷ []) locals) rest ∷ fs)
 
--- the procedure of this number has the property
+-- the procedure with this number has the property
 abbrev pub AtRoutine : Option Routine → (Routine → Type 0) → Type 0
 AtRoutine None P = ⊥
 AtRoutine (Some routine) P = P routine
@@ -70,13 +70,14 @@ abbrev pub AtRest : Option Code → (Code → Type 0) → Type 0
 AtRest None P = ⊥
 AtRest (Some rest) P = P rest
 
--- the body of a procedure; nothing where there is none
+-- the body of a procedure; nothing if there is none
 abbrev pub body_of : Option Routine → Code
 body_of None = done
 body_of (Some routine) = routine.body
 
--- Some step of the top frame leads to a state with the property Q. A finished frame goes, and its result with it.
--- `assert` and `assume` have a step only where 1 is a value. An empty stack has no step, nor has a frame that waits.
+-- Some step of the top frame leads to a state with the property Q. A finished frame is removed, and its result with
+-- it. `assert` and `assume` have a step only if 1 is a value. An empty stack has no step, nor has a frame that
+-- waits.
 abbrev pub StepsTo : Program → State → (State → Type 0) → Type 0
 StepsTo program (state globals []) Q = ⊥
 StepsTo program (state globals (waiting procedure locals x rest ∷ fs)) Q = ⊥

@@ -3,7 +3,7 @@
 -- procedure and a label are written as.
 use Rattle.std.specs.Prelude.{ℕ, Bool, List, Option}
 
--- a name as it stands in a text: its bytes, and the offset of the first
+-- a name as it occurs in a text: its bytes, and the offset of the first
 pub record Name : Type 0 where
   pub text : List ℕ
   pub at : ℕ
@@ -37,8 +37,8 @@ pub data Simple (V P L : Type 0) : Type 0 where
   leave_with : Expression V → Simple V P L
   call_for : V → P → List (Expression V) → Simple V P L
 
--- what a statement is marked with: its label, if it has one, and in a text its offset (of the label,
--- where it has one)
+-- what a statement is marked with: its label, if it has one, and in a text its offset (of the label, if it
+-- has one)
 pub record Mark (L : Type 0) : Type 0 where
   pub label : Option L
   pub at : ℕ

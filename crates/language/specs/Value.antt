@@ -1,10 +1,10 @@
--- What expressions and right sides are worth (Ball and Rajamani 2000: variables of truth values).
+-- The values of expressions and right sides (Ball and Rajamani 2000: variables of truth values).
 use Rattle.std.specs.Prelude.{◌≡◌, ℕ, slice_index_or, slice_set, Bool, false, List, [], ◌∷◌, not, ◌&&◌, ◌||◌, cond}
 use Rattle.language.specs.Tree.{Operator, implies, or, xor, and, equal, differs, Expression, const, var, negation, two, RightSide, any}
 use Rattle.language.specs.Tree.{value}
 
--- where a variable's value is kept: a global by its number, or a place of the frame, which has the
--- formals, then the locals, then the temporaries, and behind them the result, where there is one
+-- where a variable's value is kept: a global by its number, or a place of the frame, which has the formals,
+-- then the locals, then the temporaries, and after them the result, if there is one
 pub data Place : Type 0 where
   global : ℕ → Place
   local : ℕ → Place
@@ -63,7 +63,7 @@ written_globals (x ∷ xs) [] globals = globals
 written_globals (global n ∷ xs) (v ∷ vs) globals = written_globals xs vs (with_bit globals n v)
 written_globals (local n ∷ xs) (v ∷ vs) globals = written_globals xs vs globals
 
--- the same of the places of the frame
+-- the same for the places of the frame
 abbrev pub written_locals : List Place → List Bool → List Bool → List Bool
 written_locals [] vs locals = locals
 written_locals (x ∷ xs) [] locals = locals

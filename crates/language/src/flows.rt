@@ -17,7 +17,7 @@ pub fn rests_have_their_points_in_text_order()
         → map point_of (rests (numbered n b) k) ≡ map Some (numbers n (statements b)) }
 {}
 
-/// In a body that is marked in text order, a point tells what is left to run.
+/// In a body that is marked in text order, a point determines what is left to run.
 pub fn a_point_tells_its_rest()
     ensures { (n : ℕ) (b r r' : Code) → IsRestOf (numbered n b) r → IsRestOf (numbered n b) r'
         → point_of r ≡ point_of r' → r ≡ r' }

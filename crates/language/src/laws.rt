@@ -13,7 +13,8 @@ pub fn an_empty_stack_has_no_step()
     ensures { (p : Program) (g : List Bool) (t : State) → Step p (state g []) t → ⊥ }
 {}
 
-/// An assert has a step exactly where 1 is a value of its right side, and that step leads behind it.
+/// An assert has a step if and only if 1 is a value of its right side, and that step leads to what follows
+/// it.
 pub fn an_assert_steps_where_1_is_a_value()
     ensures { (p : Program) (g l : List Bool) (c : ℕ) (m : Mark Label) (r : RightSide Place)
         (t : Code)
@@ -22,7 +23,7 @@ pub fn an_assert_steps_where_1_is_a_value()
         ↔ (IsValue g l r true × (state g (frame c l t ∷ fs) ≡ u)) }
 {}
 
-/// An assert fails exactly where 0 is a value of its right side.
+/// An assert fails if and only if 0 is a value of its right side.
 pub fn an_assert_fails_where_0_is_a_value()
     ensures { (g l : List Bool) (c : ℕ) (m : Mark Label) (r : RightSide Place) (t : Code)
         (fs : List Frame)
@@ -39,7 +40,7 @@ pub fn an_assert_with_both_values_fails_and_goes_on()
         × Step p (state g (frame c l (one m (assert r) t) ∷ fs)) (state g (frame c l t ∷ fs)) }
 {}
 
-/// Where 1 is a value, a loop has the step to its body and then the loop again.
+/// If 1 is a value, a loop has the step to its body and then the loop again.
 pub fn a_loop_comes_back_behind_its_body()
     ensures { (p : Program) (g l : List Bool) (c : ℕ) (m : Mark Label) (r : RightSide Place)
         (a t : Code)
@@ -48,7 +49,7 @@ pub fn a_loop_comes_back_behind_its_body()
         (state g (frame c l (join a (loop m r a t)) ∷ fs)) }
 {}
 
-/// Joining no statements before or behind others leaves these.
+/// Joining no statements before or after others leaves the others.
 pub fn joining_to_nothing_changes_nothing()
     ensures { (a : Code) → (join done a ≡ a) × (join a done ≡ a) }
 {}

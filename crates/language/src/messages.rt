@@ -25,7 +25,7 @@ pub fn by_due_messages_only_due_messages_are_owed()
         → Owes p q (λ k. Member k ms) s m → IsDue p s m }
 {}
 
-/// Where the opening message and each message owed are taken, all that is due is taken, and each path edge is reached.
+/// If the opening message and each message owed are taken, all that is due is taken, and each path edge is reached.
 pub fn closed_messages_hold_all_that_is_due()
     ensures { (p : Program) (takes : List (List Message)) → HasOpening p (IsTakenBy takes)
         → HasOwed p (IsTakenBy takes)
@@ -34,7 +34,7 @@ pub fn closed_messages_hold_all_that_is_due()
         → Reached p q (IsTakenBy takes q) a v r) }
 {}
 
-/// Where, besides, no message is taken that is not due, those due are taken and no others, and the path edges are
+/// If, moreover, no message is taken that is not due, those due are taken and no others, and the path edges are
 /// reached and nothing else.
 pub fn closed_messages_are_those_due()
     ensures { (p : Program) (takes : List (List Message)) → HasOpening p (IsTakenBy takes)
@@ -83,13 +83,13 @@ pub fn what_is_reached_stands_in_its_body()
         → IsRestOf (body_of (slice_get p.routines q)) r }
 {}
 
-/// Where a message is due, there is a procedure.
+/// If a message is due, there is a procedure.
 pub fn a_message_is_due_where_a_procedure_is()
     ensures { (p : Program) (q : ℕ) (m : Message) → IsDue p q m
         → (routine : Routine) × (slice_get p.routines q ≡ Some routine) }
 {}
 
-/// Where each call has a place for each argument, the messages due have the widths of their procedures.
+/// If each call has a place for each argument, the messages due have the widths of their procedures.
 pub fn due_messages_have_their_widths()
     ensures { (p : Program) (q : ℕ) (m : Message) → ArgumentsFit p → IsDue p q m
         → IsMessageTo p q m }

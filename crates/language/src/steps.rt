@@ -11,21 +11,22 @@ ghost use Rattle.language.specs.Step.{Routine, Program, Frame, frame, waiting, S
 ghost use Rattle.language.specs.Step.{fresh, with_result, Step, frame_size};
 ghost use Rattle.language.specs.Step.{result_of, given_back};
 
-/// A frame with nothing left to run goes, and its result with it.
+/// A frame with nothing left to run is removed, and its result with it.
 pub fn a_finished_frame_goes()
     ensures { (p : Program) (g l : List Bool) (c : ℕ) (fs : List Frame) (u : State)
         → Step p (state g (frame c l done ∷ fs)) u
         ↔ (given_back (result_of (slice_get p.routines c) l) g fs ≡ u) }
 {}
 
-/// A `skip` goes on and changes nothing.
+/// A `skip` continues and changes nothing.
 pub fn a_skip_goes_on()
     ensures { (p : Program) (g l : List Bool) (c : ℕ) (m : Mark Label) (t : Code) (fs : List Frame)
         (u : State)
         → Step p (state g (frame c l (one m skip t) ∷ fs)) u ↔ (state g (frame c l t ∷ fs) ≡ u) }
 {}
 
-/// An assume has a step exactly where 1 is a value of its right side, and that step leads behind it.
+/// An assume has a step if and only if 1 is a value of its right side, and that step leads to what follows
+/// it.
 pub fn an_assume_steps_where_1_is_a_value()
     ensures { (p : Program) (g l : List Bool) (c : ℕ) (m : Mark Label) (r : RightSide Place)
         (t : Code)
@@ -34,7 +35,7 @@ pub fn an_assume_steps_where_1_is_a_value()
         ↔ (IsValue g l r true × (state g (frame c l t ∷ fs) ≡ u)) }
 {}
 
-/// An `if` goes to its first branch where 1 is a value and to its second where 0 is, and then on.
+/// An `if` goes to its first branch if 1 is a value and to its second if 0 is, and then on.
 pub fn an_if_goes_into_a_branch()
     ensures { (p : Program) (g l : List Bool) (c : ℕ) (m : Mark Label) (r : RightSide Place)
         (a b t : Code)
@@ -44,7 +45,7 @@ pub fn an_if_goes_into_a_branch()
         ⊎ (IsValue g l r false × (state g (frame c l (join b t) ∷ fs) ≡ u))) }
 {}
 
-/// A loop goes to its body and then to itself where 1 is a value, and on where 0 is.
+/// A loop goes to its body and then to itself if 1 is a value, and on if 0 is.
 pub fn a_loop_goes_into_its_body_or_on()
     ensures { (p : Program) (g l : List Bool) (c : ℕ) (m : Mark Label) (r : RightSide Place)
         (a t : Code)
@@ -119,8 +120,8 @@ pub fn a_call_for_a_value_waits()
         ∷ waiting c l x t ∷ fs) ≡ u) }
 {}
 
-/// The step that takes a finished frame away writes its result to the variable of a caller that waits, and the caller
-/// goes on.
+/// The step that removes a finished frame writes its result to the variable of a caller that waits, and the caller
+/// continues.
 pub fn a_finished_frame_gives_its_result()
     ensures { (p : Program) (g l k : List Bool) (c d : ℕ) (x : Place) (routine : Routine) (t : Code)
         (fs : List Frame) (u : State)

@@ -16,17 +16,17 @@ pub fn no_threads_never_fail()
     ensures { (p : Program) (k : ℕ) → p.threads ≡ [] → Unsafe p k → ⊥ }
 {}
 
-/// Where the writer comes before the reader, one round suffices.
+/// If the writer comes before the reader, one round suffices.
 pub fn a_writer_before_the_reader_needs_one_round()
     ensures { Unsafe writer_then_reader 1 }
 {}
 
-/// Where the reader comes before the writer, it takes a second round.
+/// If the reader comes before the writer, it takes a second round.
 pub fn a_reader_before_the_writer_needs_two_rounds()
     ensures { (Unsafe reader_then_writer 1 → ⊥) × Unsafe reader_then_writer 2 }
 {}
 
-/// A thread that never ends keeps no other from failing.
+/// A thread that never ends does not keep another from failing.
 pub fn a_spinning_thread_keeps_no_failure_away()
     ensures { Unsafe spinner_then_failure 1 }
 {}
@@ -36,17 +36,18 @@ pub fn a_checked_write_is_never_unsafe()
     ensures { (k : ℕ) → Unsafe checked_write k → ⊥ }
 {}
 
-/// A thread that asserts what it has not written yet fails nothing, and two of them do in the first round.
+/// A thread that asserts what it has not written yet does not fail, but two such threads fail in the first
+/// round.
 pub fn a_second_thread_of_one_procedure_fails()
     ensures { ((k : ℕ) → Unsafe run_once k → ⊥) × Unsafe run_twice 1 }
 {}
 
-/// A call writes the value that it was passed: the second of two is what lasts.
+/// A call writes the value that it was passed: of two calls the write of the second lasts.
 pub fn the_value_passed_last_lasts()
     ensures { (k : ℕ) → Unsafe passed_values k → ⊥ }
 {}
 
-/// The value that a call gives is written to the variable that it is called for.
+/// The value that a call gives is written to the variable that the call names.
 pub fn a_value_given_is_written()
     ensures { (k : ℕ) → Unsafe return_and_write k → ⊥ }
 {}
@@ -57,7 +58,7 @@ pub fn a_value_may_be_written_late()
     ensures { (Unsafe late_value 1 → ⊥) × Unsafe late_value 2 }
 {}
 
-/// Where two threads wait for each other in turn, it takes a round for each turn: three.
+/// If two threads wait for each other in turn, it takes a round for each turn: three.
 pub fn a_handshake_needs_three_rounds()
     ensures { (Unsafe handshake 2 → ⊥) × Unsafe handshake 3 }
 {}

@@ -6,8 +6,8 @@ use round_rewrite::Rounds;
 /// What is asked of a text.
 #[derive(Clone, Copy, Debug, PartialEq, Eq)]
 pub enum Order {
-    /// Whether a run of at most K rounds fails an assert, where no procedure has more than `edges` path edges;
-    /// and, if asked for, what each procedure of the sequential program counts.
+    /// Whether a run of at most K rounds fails an assert, if no procedure has more than `edges` path edges;
+    /// and, if asked for, the counts of each procedure of the sequential program.
     Check {
         rounds: Rounds,
         edges: EdgeLimit,

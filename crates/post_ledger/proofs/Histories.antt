@@ -26,7 +26,7 @@ dones-append (Post s m ∷ a) b = dones-append a b
 dones-append (Take s m ∷ a) b = dones-append a b
 dones-append (Done t ∷ a) b = ap (λ l. t ∷ l) (dones-append a b)
 
--- an element of a list with one more at its end is one of the list, or the last
+-- an element of a list with one more appended is one of the list, or the appended one
 pub at_push_cases : {X : Type 0} (xs : List X) (y x : X) (i : ℕ) → slice_get (xs ++ y ∷ []) i ≡ Some x
     → (slice_get xs i ≡ Some x) ⊎ ((i ≡ length xs) × (y ≡ x))
 at_push_cases [] y x zero e = inr (refl, cc)
@@ -45,7 +45,7 @@ legal_push h e legal follows i x at =
           subst (λ before. MayFollow before x) (sym (take_at h (e ∷ []) i (sym last.0))) (subst (MayFollow h) last.1 follows)
     ]
 
--- a list about one of its elements
+-- a list around one of its elements
 pub split_at_element : {X : Type 0} (xs : List X) (i : ℕ) (x : X) → slice_get xs i ≡ Some x
     → (ys : List X) × (xs ≡ take i xs ++ x ∷ ys) × (take (suc i) xs ≡ take i xs ++ x ∷ [])
 split_at_element [] i x e = cc
@@ -58,11 +58,11 @@ seam : {X : Type 0} (xs : List X) (x : X) (ys : List X) → slice_get (xs ++ x �
 seam [] x ys = refl
 seam (z ∷ xs) x ys = seam xs x ys
 
--- the element behind n others
+-- the element after n others
 pub at_seam : {X : Type 0} (xs : List X) (x : X) (ys : List X) (n : ℕ) → length xs ≡ n → slice_get (xs ++ x ∷ ys) n ≡ Some x
 at_seam xs x ys n e = subst (λ k. slice_get (xs ++ x ∷ ys) k ≡ Some x) e (seam xs x ys)
 
--- the Post at a place is the one of the number of the Posts before it
+-- the Post at a place is the one whose number is that of the Posts before it
 pub post_at : {M : Type 0} (h : List (Event M)) (i : ℕ) (s : ℕ) (m : M) (n : ℕ) → slice_get h i ≡ Some (Post s m)
     → length (posts (take i h)) ≡ n → slice_get (posts h) n ≡ Some (s, m)
 post_at h i s m n at many =
@@ -70,7 +70,7 @@ post_at h i s m n at many =
     let whole : posts h ≡ posts (take i h) ++ (s, m) ∷ posts parts.0 = ap posts parts.1 ∙ posts-append (take i h) (Post s m ∷ parts.0) in
     subst (λ l. slice_get l n ≡ Some (s, m)) (sym whole) (at_seam (posts (take i h)) (s, m) (posts parts.0) n many)
 
--- an event that is no Post adds none
+-- an event that is not a Post adds none
 pub posts_skip : {M : Type 0} (h : List (Event M)) (i : ℕ) (e : Event M) → slice_get h i ≡ Some e → posts (e ∷ []) ≡ []
     → posts (take (i + 1) h) ≡ posts (take i h)
 posts_skip h i e at none =

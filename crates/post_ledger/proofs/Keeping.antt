@@ -50,7 +50,7 @@ posts_done h t = posts-append h (Done t ∷ []) ∙ append-nil (posts h)
 takes_done : {M : Type 0} (h : List (Event M)) (t : ℕ) → takes (h ++ Done t ∷ []) ≡ takes h
 takes_done h t = takes-append h (Done t ∷ []) ∙ append-nil (takes h)
 
--- a Post, where the room was reserved
+-- a Post, if the room was reserved
 pub counts_post : {M : Type 0} (h : List (Event M)) (cap cap' n u t o s : ℕ) (m : M) → MailboxCounts h cap n u t o
     → length h + (u + u + o + 3) ≤ cap' → MailboxCounts (h ++ Post s m ∷ []) cap' n (u + 1) t o
 counts_post h cap cap' n u t o s m kept room =
@@ -69,7 +69,7 @@ counts_post h cap cap' n u t o s m kept room =
       earlier = subst (λ l. (q : ℕ) → list_any (nat_eq q) l ≡ true → q < t) (sym (dones_post h s m)) kept.earlier;
     }
 
--- the Take of the oldest Post, which stands at a place behind which none was taken
+-- the Take of the oldest Post, which is at a place after which none was taken
 pub counts_take : {M : Type 0} (h : List (Event M)) (cap n u t o at s : ℕ) (m : M) → MailboxCounts h cap n u t o → 0 < u
     → slice_get h at ≡ Some (Post s m) → posts (take at h) ≡ posts (take n h)
     → MailboxCounts (h ++ Take s m ∷ []) cap (at + 1) (u - 1) (t + 1) (o + 1)

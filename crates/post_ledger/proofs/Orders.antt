@@ -51,7 +51,7 @@ module _ {M : Type 0} where
   completed-append [] b = omega arith
   completed-append (e ∷ a) b = omega (arith, completed-append a b)
 
-  -- an entry stands in the history of its mailbox
+  -- an entry is in the history of its mailbox
   pub part_here : (q : ℕ) (e : Entry M) (es : List (Entry M)) → mailbox_of e ≡ q → part q (e ∷ es) ≡ event_of e ∷ part q es
   part_here q e es is = rw (eq-eqb (mailbox_of e) q is) refl
 
@@ -65,8 +65,8 @@ module _ {M : Type 0} where
   pub own_else : (p : ℕ) (e : Entry M) (es : List (Entry M)) → maker_of e ≢ p → own p (e ∷ es) ≡ own p es
   own_else p e es ne = rw (ne_eqb (maker_of e) p ne) refl
 
-  -- What the counts of a legal history are: no more Takes than Posts, each Take completed once at most, and none
-  -- that does not stand.
+  -- What the counts of a legal history are: no more Takes than Posts, each Take completed at most once, and none
+  -- that does not exist.
   pub record Sizes (h : List (Event M)) : Type 0 where
     pub fewer : length (takes h) ≤ length (posts h)
     pub once : IsDistinct nat_eq (dones h)
@@ -149,8 +149,7 @@ module _ {M : Type 0} where
   pub sizes_of : (h : List (Event M)) → IsLegal h → Sizes h
   sizes_of h legal = subst Sizes (take-length h) (sizes_to h legal (length h) (omega arith))
 
-  -- what an entry needs that it may come after an order: its mailbox, that its event may follow there, and a Post its
-  -- job
+  -- what an entry needs to come after an order: its mailbox, that its event may follow there, and a Post its job
   abbrev pub UnderJob : List (Entry M) → Entry M → Type 0
   UnderJob order (Posted to s m t) = HasJob s t order
   UnderJob order (Taken of s m) = Unit {0}
@@ -220,7 +219,7 @@ pub sum_le : (f g : ℕ → ℕ) (n : ℕ) → ((i : ℕ) → i < n → f i ≤ 
 sum_le f g zero le = omega arith
 sum_le f g (suc n) le = omega (arith, le n (omega arith), sum_le f g n (λ i h. le i (omega arith)))
 
--- where one value is k more and the others are the same, the sum is k more
+-- if one value is k more and the others are the same, the sum is k more
 pub sum_more : (f g : ℕ → ℕ) (m k n : ℕ) → m < n → f m ≡ k + g m → ((i : ℕ) → i ≢ m → f i ≡ g i) → sum_to f n ≡ k + sum_to g n
 sum_more f g m k zero short here else = absurd (omega arith)
 sum_more f g m k (suc n) short here else = elim (cases_eq n m) [
@@ -230,7 +229,7 @@ sum_more f g m k (suc n) short here else = elim (cases_eq n m) [
   | inr other ↦ (let below : m < n = omega arith in omega (arith, else n other, sum_more f g m k n below here else))
 ]
 
--- where no value is above and the sums are the same, each value is
+-- if no value is above and the sums are the same, each value is
 pub sum_tight : (f g : ℕ → ℕ) (n i : ℕ) → ((j : ℕ) → j < n → f j ≤ g j) → sum_to f n ≡ sum_to g n → i < n → f i ≡ g i
 sum_tight f g zero i le same short = absurd (omega arith)
 sum_tight f g (suc n) i le same short = elim (cases_eq i n) [
@@ -242,7 +241,7 @@ sum_tight f g (suc n) i le same short = elim (cases_eq i n) [
       sum_tight f g n i (λ j h. le j (omega arith)) (omega arith) (omega arith))
 ]
 
--- where no value is above and one is below, so is the sum
+-- if no value is above and one is below, so is the sum
 pub sum_less : (f g : ℕ → ℕ) (n k : ℕ) → ((i : ℕ) → i < n → f i ≤ g i) → k < n → f k < g k → sum_to f n < sum_to g n
 sum_less f g zero k le short less = absurd (omega arith)
 sum_less f g (suc n) k le short less = elim (cases_eq k n) [
@@ -319,7 +318,7 @@ module _ {M : Type 0} where
         ∙ sym (completed_is boxes order law)),
   )
 
-  -- nobody has a job where the order is closed
+  -- nobody has a job if the order is closed
   pub no_job : (boxes : ℕ) (order : List (Entry M)) (p t : ℕ) → IsLawful boxes order → IsClosed order → HasJob p t order → ⊥
   no_job boxes order p t law closed job =
       let fewer = dones_fewer (part p order) t (sizes_of (part p order) (law.legal p)) job.0 job.1 in
@@ -396,7 +395,7 @@ module _ {M : Type 0} where
         sum_le (λ q. length (part q order)) (λ q. 3 * length (posts (part q order))) boxes (λ q h. history_short boxes order law q),
       )
 
-  -- and fewer, where a mailbox has a Post that is not taken, or a Take that is not completed
+  -- and fewer, if a mailbox has a Post that is not taken, or a Take that is not completed
   pub order_shorter : (boxes : ℕ) (order : List (Entry M)) (q : ℕ) → IsLawful boxes order → q < boxes
       → length (dones (part q order)) < length (posts (part q order)) → length order < 3 * posted order
   order_shorter boxes order q law short owes =
@@ -411,7 +410,7 @@ module _ {M : Type 0} where
             (λ k h. history_short boxes order law k) short less,
       )
 
-  -- who has a job has a mailbox
+  -- whoever has a job has a mailbox
   pub job_inside : (boxes : ℕ) (order : List (Entry M)) (p t : ℕ) → IsLawful boxes order → HasJob p t order → p < boxes
   job_inside boxes order p t law job = elim (cases_lt p boxes) [
     | inl near ↦ near

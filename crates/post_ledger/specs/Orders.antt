@@ -25,12 +25,12 @@ module _ {M : Type 0} where
   maker_of (Taken of sender message) = of
   maker_of (Completed of job) = of
 
-  -- the order's part for a mailbox: its history
+  -- the order's projection to a mailbox: its history
   abbrev pub part : ℕ → List (Entry M) → List (Event M)
   part mailbox [] = []
   part mailbox (entry ∷ entries) = if mailbox_of entry == mailbox then event_of entry ∷ part mailbox entries else part mailbox entries
 
-  -- the order's part for a pass: its own list
+  -- the order's projection to a pass: its own list
   abbrev pub own : ℕ → List (Entry M) → List (Entry M)
   own pass [] = []
   own pass (entry ∷ entries) = if maker_of entry == pass then entry ∷ own pass entries else own pass entries
@@ -45,12 +45,12 @@ module _ {M : Type 0} where
   completed [] = 0
   completed (entry ∷ entries) = length (dones (event_of entry ∷ [])) + completed entries
 
-  -- the pass has the job of its Take of this number: the Take stands in the order, and no Done of it does
+  -- the pass has the job of its Take with this number: the Take is in the order, and no Done of it is
   abbrev pub HasJob : ℕ → ℕ → List (Entry M) → Type 0
   HasJob pass job order = (job < length (takes (part pass order))) × (Contains (dones (part pass order)) job → ⊥)
 
   -- Lawful, on a board with a given number of mailboxes: the order begins with the opening post, whose sender is the
-  -- starter; the history of each mailbox is legal; and each later Post stands after its Take and not after that Take's
+  -- starter; the history of each mailbox is legal; and each later Post comes after its Take and not after that Take's
   -- Done.
   pub record IsLawful (boxes : ℕ) (order : List (Entry M)) : Type 0 where
     pub opens : (to : ℕ) × (m : M) × (rest : List (Entry M)) × (order ≡ Posted to boxes m 0 ∷ rest)

@@ -1,7 +1,7 @@
 //! The events of a board with several mailboxes.
 
-/// One event of a board. A board's events, in one list, are an order; its parts are a history for each mailbox
-/// and an own list for each pass.
+/// One event of a board. A board's events, in one list, are an order; its projections are a history for each
+/// mailbox and an own list for each pass.
 #[derive(Clone, Copy, Debug, PartialEq, Eq)]
 pub enum Entry<M> {
     /// A sender posted a message to a mailbox, under the job of the sender's Take of the number `under`. The

@@ -7,6 +7,6 @@ pub enum Event<M> {
     Post { sender: u8, message: M },
     /// The oldest message not yet taken was taken out.
     Take { sender: u8, message: M },
-    /// The take of this number, counted from 0, is completed.
+    /// The take with this number, counted from 0, is completed.
     Done { take: u64 },
 }

@@ -27,8 +27,8 @@ pub fn what_was_sent_was_taken<M>()
     ensures once { (h : List (Event M)) → IsLegal h → IsDistinct nat_eq (dones h) }
 {}
 
-/// The same of a board: in each mailbox of a lawful order that is closed, what was taken of each sender is what it
-/// sent.
+/// The same for a board: in each mailbox of a lawful order that is closed, what was taken of each sender is what
+/// it sent.
 pub fn what_was_sent_on_a_board_was_taken<M>()
     ensures { (boxes : ℕ) (order : List (Entry M)) (q s : ℕ) → IsLawful boxes order → IsClosed order
         → taken s (part q order) ≡ sent s (part q order) }
@@ -41,7 +41,7 @@ pub fn nobody_has_a_job_at_the_close<M>()
         → ⊥ }
 {}
 
-/// The close by counting: a lawful order is closed exactly where it has as many Dones as Posts.
+/// The close by counting: a lawful order is closed if and only if it has as many Dones as Posts.
 pub fn closed_by_counting<M>()
     ensures { (boxes : ℕ) (order : List (Entry M)) → IsLawful boxes order
         → (posted order ≡ completed order)
@@ -54,8 +54,8 @@ pub fn nothing_follows_the_close<M>()
         → IsLawful boxes (order ++ rest) → rest ≡ [] }
 {}
 
-/// A run of two mailboxes: its order is lawful and closed, and has the two mailboxes' histories and the two passes' own
-/// lists as its parts; where both of mailbox 1 are taken and none completed, the order is not closed.
+/// A run of two mailboxes: its order is lawful and closed, and has the two mailboxes' histories and the two passes'
+/// own lists as its projections; if both of mailbox 1 are taken and none completed, the order is not closed.
 pub fn a_run_of_two_mailboxes()
     ensures lawful { IsLawful 2 row × IsClosed row }
     ensures first { part 0 row ≡ Post 2 10 ∷ Take 2 10 ∷ Done 0 ∷ [] }

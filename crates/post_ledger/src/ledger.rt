@@ -1,8 +1,8 @@
-//! What a board gives back at its end.
+//! What a board returns at its end.
 use crate::mailbox::Mailbox;
 use std::alloc::Allocator;
 
-/// What a board gives back at its end.
+/// What a board returns at its end.
 #[derive(Drop)]
 pub struct Ledger<M, A: Allocator> {
     /// The mailboxes by number, each with its whole history.

@@ -6,7 +6,7 @@ ghost use Rattle.post_ledger.specs.History.{posts, takes, dones, MayFollow, IsLe
 
 use crate::event::Event;
 
-/// The sender and message of the Post of this number, counted from 0.
+/// The sender and message of the Post with this number, counted from 0.
 fn post_numbered<M: Copy>(events: &[Event<M>], number: usize) -> Option<(u8, M)>
     ensures { result ≡ slice_get (posts events.now) number }
 {
@@ -66,8 +66,8 @@ fn with_take<M: Copy>(taken: usize, event: Event<M>) -> usize
     }
 }
 
-/// Whether the events are a legal history: each Take has the sender and message of the Post of its number,
-/// which stands before it, and each Done names a Take before it that no Done before names. Takes no memory;
+/// Whether the events are a legal history: each Take has the sender and message of the Post with its number,
+/// which comes before it, and each Done names a Take before it that no Done before names. Takes no memory;
 /// its time grows with the square of the length.
 pub fn legal<M: Copy + Eq>(history: &[Event<M>]) -> bool
     requires { (a b : M) → M.eq a b ≡ true → a ≡ b }

@@ -71,8 +71,8 @@ impl<M: Copy, A: Allocator> Mailbox<M, A> {
         }
     }
 
-    /// Posts a message of a sender, and reserves the places of its Take and its Done. Where that is refused
-    /// memory, the message comes back.
+    /// Posts a message of a sender, and reserves the places of its Take and its Done. If memory for that is
+    /// refused, the message comes back.
     pub fn post(&mut self, sender: u8, message: M) -> Result<(), M>
         ensures ok { OnOk result (self.new ≡ self.old ++ Event.Post sender message ∷ []) }
         ensures err { IfErr result (λ back. (back ≡ message) × (self.new ≡ self.old)) }
@@ -88,7 +88,7 @@ impl<M: Copy, A: Allocator> Mailbox<M, A> {
         }
     }
 
-    /// Takes the oldest message that is not taken, with the number of its Take: `None` exactly where every
+    /// Takes the oldest message that is not taken, with the number of its Take: `None` if and only if every
     /// Post is taken, and then nothing changes. Takes no memory.
     pub fn take(&mut self) -> Option<(u64, M)>
         ensures none { IsNone result ↔ (length (posts self.old) ≡ length (takes self.old)) }

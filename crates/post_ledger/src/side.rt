@@ -36,7 +36,7 @@ fn message_of<M: Copy>(event: Event<M>, sender: u8, side: Side) -> Option<M>
 }
 
 /// The messages of one sender in a mailbox's history, in order: those that it posted, or those of it that were
-/// taken. Where there is no memory for the list, the error says so.
+/// taken. An error means that there is no memory for the list.
 pub fn by_sender<M: Copy, A: Allocator>(
     alloc: A,
     history: &[Event<M>],

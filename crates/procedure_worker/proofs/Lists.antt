@@ -1,4 +1,4 @@
--- What own lists have that were put together.
+-- What own lists have that were appended.
 use Rattle.std.proofs.Common.{◌≡◌, ◌∷◌, ◌++◌, [], ℕ, List, refl, ap, ◌∙◌}
 use Rattle.std.proofs.lemmas.List.{append-nil}
 use Rattle.post_ledger.specs.declared.entry.Entry.{Entry}

@@ -60,13 +60,13 @@ use Rattle.procedure_worker.specs.Works.{IsDealing, IsSending, IsStopped, HasSto
 use Rattle.procedure_worker.specs.Works.{IsFounded, mails_of, cause_for}
 use Rattle.procedure_worker.proofs.Lists.{taken_post, taken_take, taken_done, posted_post, posted_take, posted_done}
 
--- what is said of an error holds of an answer that is this error
+-- what is said of an error holds for an answer that is this error
 pub match_err : {T E : Type 0} (r : Result T E) (e : E) (P : T → Type 0) (Q : E → Type 0)
     → IsErrAnd r (λ x. x ≡ e) → Q e → MatchResult r P Q
 match_err (Ok x) e P Q is q = absurd is
 match_err (Err x) e P Q is q = subst Q (sym is) q
 
--- memory was refused exactly where the worker failed for that
+-- memory was refused if and only if the worker failed for that
 lack_shown : (e : Finish) → (end_of e ≡ end.Failed cause.Memory) ↔ IsSome (lack_of e)
 lack_shown finish.Closed = (λ h. absurd cc, λ h. absurd cc)
 lack_shown finish.Aborted = (λ h. absurd cc, λ h. absurd cc)
@@ -83,7 +83,7 @@ module _ {G A S : Type 0} where
   at_fault : (f : TableFault) (t : Table G A S) → failure t ≡ Some f → IsAtFault (end.Failed (cause_for f)) t
   at_fault f t failed g again = cc
 
-  -- where the board was aborted, the table has not failed
+  -- if the board was aborted, the table has not failed
   not_at_abort : (e : End) (t : Table G A S) → IsAtFault end.Aborted t → IsAtFault e t
   not_at_abort e t fault f failed = let same = fault f failed in absurd cc
 
@@ -149,7 +149,7 @@ module _ {G : Type 0} (b : Start G) where
       let below : to < length program.routines = slice_get_within program.routines to routine there in
       let are = k.drawn.1 in omega (arith, below, k.boxes, are.2.0)
 
-  -- The job goes on where no event was made.
+  -- The job stays if no event was made.
   job_none : (job : ℕ) (s t : Sight Due (Graphs G)) → IsPassOf b s → MadeNone FitsIn s t
       → HasJob b.number job s.seen.order →
       HasJob b.number job t.seen.order
@@ -400,7 +400,7 @@ module _ {G : Type 0} (b : Start G) where
               (job_to_pass s job g.stands.pass k.has));
         }
 
-    -- What stands holds of a worker with the same lists and the same table.
+    -- What stands holds for a worker with the same lists and the same table.
     stands_like : {P : Type 0} (t : Sight Due (Graphs G)) (v w : Worker P G A S)
         → Stands b members t v.table v.takes.items v.posts.items → w.table ≡ v.table →
         w.takes.items ≡ v.takes.items → w.posts.items ≡ v.posts.items
@@ -475,7 +475,7 @@ module _ {G : Type 0} (b : Start G) where
           has = job_of_pass t job still.pass (job_new FitsIn s t job d m);
         }
 
-    -- The table was given the message, and so answers.
+    -- The table was given the message, with this result.
     given_stands : {P : Type 0} (d : Due) {T : Type 0} (answer : Result T TableFault) (job : ℕ) (s : Sight Due (Graphs G))
         (w : Worker P G A S) (y : Table G A S) →
         IsTaking b members job d s w → TableTakes members d answer w.table y

@@ -20,7 +20,7 @@ use Rattle.procedure_worker.specs.declared.stop.Stop.TheVariants as stop
 use Rattle.procedure_worker.specs.declared.stop.Finish.{Finish}
 use Rattle.procedure_worker.specs.declared.stop.Finish.TheVariants as finish
 
--- the cause that a board is aborted for, by the worker's reason
+-- the cause for which a board is aborted, by the worker's reason
 abbrev pub cause_of : Reason → Cause
 cause_of reason.Spent = cause.Spent
 cause_of reason.EdgeLimit = cause.EdgeLimit
@@ -32,7 +32,7 @@ end_of finish.Closed = end.Closed
 end_of finish.Aborted = end.Aborted
 end_of (finish.Failed why) = end.Failed (cause_of why)
 
--- what shows that memory was refused, where the worker failed for that
+-- evidence that memory was refused, if the worker failed for that
 abbrev pub lack_of : Finish → Option NoRoom
 lack_of finish.Closed = None
 lack_of finish.Aborted = None
@@ -54,7 +54,7 @@ module _ {M W : Type 0} (fits : W → ℕ → M → Type 0) where
   RefusedFor (stop.Failed reason.EdgeLimit) s t = ⊥
   RefusedFor (stop.Failed (reason.NoRoom witness)) s t = Looked fits s t × (t.seen.aborted ≡ None)
 
--- P holds of the fault of a table that is this reason
+-- P holds for the fault of a table that is this reason
 abbrev pub FailsFor : Reason → (TableFault → Type 0) → Type 0
 FailsFor reason.Spent P = ⊥
 FailsFor reason.EdgeLimit P = P fault.EdgeLimit

@@ -1,4 +1,4 @@
--- What a worker knows while it works, and what it gives back.
+-- What a worker knows while it works, and what it returns.
 use Rattle.std.specs.Prelude.{◌≡◌, ◌≢◌, ◌⊎◌, ◌↔◌, ◌<◌, ◌++◌, ◌∷◌, ℕ, true, false, IsSome, List, [], Option}
 use Rattle.std.specs.Prelude.{Some, None, length, map}
 use Rattle.atomic_table.specs.Seated.{TableId}
@@ -66,7 +66,7 @@ start_of identity desk = begun desk.graphs.now desk.number desk.limit (identity 
 abbrev pub mails_of : List (ℕ × Due) → List Mail
 mails_of posts = map (λ (p : ℕ × Due). mail p.0 p.1) posts
 
--- why a worker fails, where its table has
+-- why a worker fails, if its table has
 abbrev pub cause_for : TableFault → Cause
 cause_for fault.Memory = cause.Memory
 cause_for fault.EdgeLimit = cause.EdgeLimit
@@ -81,18 +81,18 @@ module _ {M W : Type 0} (fits : W → ℕ → M → Type 0) where
   Completes job None s t = WasDone fits job s t
   Completes job (Some e) s t = (s.calls ≡ 0) × Failed reason.Spent e s t
 
-  -- the worker ends for this reason: the message is completed where the board was aborted, unless no call was left
+  -- the worker ends for this reason: the message is completed if the board was aborted, unless no call was left
   abbrev pub StopsSo : ℕ → Stop → Finish → Sight M W → Sight M W → Type 0
   StopsSo job stop.Aborted e s t = ((e ≡ finish.Aborted) × WasDone fits job s t) ⊎
       ((s.calls ≡ 0) × Failed reason.Spent e s t)
   StopsSo job (stop.Failed why) e s t = Failed why e s t
 
--- the end is at the table's fault, where the table has failed
+-- the end is at the table's fault, if the table has failed
 abbrev pub IsAtFault : {G A S : Type 0} → End → Table G A S → Type 0
 IsAtFault e t = (f : TableFault) → failure t ≡ Some f → e ≡ end.Failed (cause_for f)
 
--- What a worker's end rests on. It failed for want of memory exactly where there is something that shows a refusal; and
--- where its table has failed, it failed for that fault.
+-- What a worker's end rests on. It failed for lack of memory if and only if there is evidence of a refusal; and if
+-- its table has failed, it failed for that fault.
 pub record IsFounded {G A S : Type 0} (e : End) (lack : Option NoRoom) (t : Table G A S) : Type 0 where
   pub memory : (e ≡ end.Failed cause.Memory) ↔ IsSome lack
   pub fault : IsAtFault e t
@@ -105,7 +105,7 @@ pub record FoundNone {G : Type 0} (s t : Sight Due (Graphs G)) : Type 0 where
   pub alive : t.seen.aborted ≡ None
   pub all : AllTaken s.number t.seen.order
 
--- A worker goes on only where it took one more message, or found none yet.
+-- A worker continues only if it took one more message, or found none yet.
 abbrev pub MayGoOn : {G : Type 0} → Sight Due (Graphs G) → Sight Due (Graphs G) → List Due → List Due → Type 0
 MayGoOn s t before after = ((d : Due) × (after ≡ before ++ d ∷ [])) ⊎ FoundNone s t
 
@@ -221,7 +221,8 @@ module _ {G : Type 0} (b : Start G) where
         pub sent : HasSent s w.table w.takes.items w.posts.items
         pub has : HasJob b.number job s.seen.order
 
-      -- The worker has a job, and all that its table answered is posted but this message, which is due there.
+      -- The worker has a job, and all that its table answered is posted except this message, which is due
+      -- there.
       pub record IsSending (job to : ℕ) (d : Due) (s : Sight Due (Graphs G)) (w : Worker P G A S) : Type 0 where
         pub goes : Goes s w.table w.takes.items w.posts.items
         pub but : mails_of w.posts.items ++ mail to d ∷ [] ≡ answers_of w.table
@@ -237,6 +238,6 @@ module _ {G : Type 0} (b : Start G) where
         pub reason : StoppedFor why s
         pub fault : IsAtFault (end_at why) w.table
 
-      -- The worker has ended, for its table's fault where that has failed.
+      -- The worker has ended, for its table's fault if that has failed.
       abbrev pub HasStopped : Finish → Sight Due (Graphs G) → Worker P G A S → Type 0
       HasStopped e s w = EndsSo (end_of e) s w.table w.takes.items w.posts.items × IsAtFault (end_of e) w.table

@@ -1,10 +1,10 @@
-//! What a worker works at.
+//! What a worker works with.
 use flow_graph::Graphs;
 use std::alloc::Allocator;
 use summaries::EdgeLimit;
 
-/// What a worker works at, and never changes: the handle by which it waits, its board, who is told of takes and
-/// posts, and its procedure, by the flow graphs, its number and how many path edges its table may keep.
+/// What a worker works with, and never changes: the handle by which it waits, its board, the gate, and its
+/// procedure, by the flow graphs, its number and how many path edges its table may keep.
 #[derive(Clone, Copy)]
 pub(crate) struct Desk<'c, 'g, R, G: Allocator, B, K> {
     pub(crate) rt: &'c R,

@@ -1,7 +1,8 @@
-//! What is told of the takes and posts of workers while they run.
+//! What is called at the takes and posts of workers while they run.
 
-/// Who is told of takes and posts. Each call comes while the lane has no guard of the board, and may wait for
-/// another. A gate that workers on several threads share is `Sync` as well; who starts them asks for that.
+/// What is called at takes and posts. Each call comes while the lane has no guard of the board, and may wait
+/// for another. A gate that workers on several threads share is `Sync` as well; whoever starts them requires
+/// that.
 pub trait Gate {
     /// The lane has taken a message, the `count`th that it took, counted from 1. Its table gets the message next.
     fn taken(&self, lane: u8, count: u64);

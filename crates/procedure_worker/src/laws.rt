@@ -10,8 +10,8 @@ ghost use Rattle.procedure_worker.specs.Works.{begun, IsFresh};
 
 use std::alloc::Allocator;
 
-/// A pass of a board of flow graphs, opened by the starter's message, is one that the worker of its number may begin
-/// with.
+/// A pass of a board of flow graphs, opened by the starter's message, is one that the worker with its number may
+/// begin with.
 pub fn a_new_pass_is_fresh<G: Allocator>()
     ensures { (graphs : Graphs G) (board : TableId) (budget boxes number : ℕ) (limit : EdgeLimit)
         → boxes ≡ length (graphs_of graphs) → number < boxes

@@ -1,5 +1,5 @@
 //! The worker of one procedure: a thread of its own, which takes the messages of its mailbox, works on its table, and
-//! posts what the table answers, until all is done or something fails.
+//! posts what the table answers, until everything is done or something fails.
 #![tactic(auto)]
 
 mod desk;

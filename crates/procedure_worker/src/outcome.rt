@@ -1,4 +1,4 @@
-//! What a worker gives back.
+//! What a worker returns.
 use crate::room::NoRoom;
 use path_sets::PathSet;
 use std::alloc::Allocator;
@@ -16,14 +16,14 @@ pub enum End {
     Failed(Cause),
 }
 
-/// What a worker gives back: its table, how it ended, what shows that memory was refused, and the messages that its
-/// pass took and posted, each in order; a message posted stands with the number of its mailbox.
+/// What a worker returns: its table, how it ended, evidence that memory was refused, and the messages that its
+/// pass took and posted, each in order; a message posted is paired with the number of its mailbox.
 #[derive(Drop)]
 pub struct Outcome<'g, G: Allocator, A: Allocator, S: PathSet<A>> {
-    /// None where the worker had no thread.
+    /// None if the worker had no thread.
     pub table: Option<Table<'g, G, A, S>>,
     pub end: End,
-    /// What shows that memory was refused, where the worker failed for that.
+    /// Evidence that memory was refused, if the worker failed for that.
     pub lack: Option<NoRoom>,
     pub takes: Vec<Due, A>,
     pub posts: Vec<(u8, Due), A>,

@@ -1,4 +1,4 @@
-//! All that a worker asks memory for. A request that is refused leaves a witness, which only this file can make.
+//! All requests of a worker for memory. A refused request leaves a witness, which only this file can make.
 ghost use Rattle.std.specs.Prelude.{◌≡◌, ◌≤◌, ◌<◌, vec_len, vec_capacity};
 ghost use Rattle.std.specs.Prelude.{OnOk, OnErr, IfOk, IfErr, IfSome, IfNone, MatchResult};
 ghost use Rattle.post_ledger.specs.Orders.{HasJob};
@@ -16,7 +16,7 @@ use std::sync::Wait;
 use summaries::{Due, Table, TableFault};
 use switchboard::{Board, Job, PostFault};
 
-/// What shows that memory was refused to a worker: it comes of such a refusal alone.
+/// Evidence that memory was refused to a worker: it comes only from such a refusal.
 #[derive(Clone, Copy, Debug, PartialEq, Eq)]
 pub struct NoRoom(());
 

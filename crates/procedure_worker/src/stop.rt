@@ -18,7 +18,7 @@ pub(crate) enum Reason {
 }
 
 impl Reason {
-    /// The cause to abort for.
+    /// The cause for which to abort.
     pub(crate) fn cause(self) -> Cause
         ensures { result ≡ cause_of self }
     {
@@ -39,7 +39,7 @@ pub(crate) enum Stop {
     Failed(Reason),
 }
 
-/// How a worker ended, with the reason where it aborted the board.
+/// How a worker ended, with the reason if it aborted the board.
 #[derive(Clone, Copy)]
 pub(crate) enum Finish {
     Closed,
@@ -59,7 +59,7 @@ impl Finish {
         }
     }
 
-    /// What shows that memory was refused, where the worker failed for that.
+    /// Evidence that memory was refused, if the worker failed for that.
     pub(crate) fn lack(self) -> Option<NoRoom>
         ensures { result ≡ lack_of self }
     {

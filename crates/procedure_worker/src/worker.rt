@@ -51,7 +51,7 @@ fn fail<R: Wait, G: Allocator, H: Allocator, B: Board<Due, Graphs<G>, H>, K>(
     Finish::Failed(why)
 }
 
-/// Completes the message of the job. Answers how the worker ended, if it did.
+/// Completes the message of the job. Returns how the worker ended, if it did.
 fn complete<R: Wait, G: Allocator, H: Allocator, B: Board<Due, Graphs<G>, H>, K>(
     desk: &Desk<'_, '_, R, G, B, K>,
     pass: &mut B::Pass,
@@ -116,7 +116,7 @@ impl<'g, P, G: Allocator, A: Allocator, S: PathSet<A>> Worker<'g, P, G, A, S> {
 }
 
 impl<'g, P, G: Allocator, A: Allocator + Copy, S: PathSet<A>> Worker<'g, P, G, A, S> {
-    /// Posts the next message that the table owes. Answers whether there was one.
+    /// Posts the next message that the table owes. Returns whether there was one.
     fn answer<R: Wait, H: Allocator, B: Board<Due, Graphs<G>, H, Pass = P>, K: Gate>(
         &mut self,
         desk: &Desk<'_, '_, R, G, B, K>,
@@ -144,7 +144,7 @@ impl<'g, P, G: Allocator, A: Allocator + Copy, S: PathSet<A>> Worker<'g, P, G, A
         }
     }
 
-    /// Posts all that the table owes, and completes the message. Answers how the worker ended, if it did.
+    /// Posts all that the table owes, and completes the message. Returns how the worker ended, if it did.
     fn deal<R: Wait, H: Allocator, B: Board<Due, Graphs<G>, H, Pass = P>, K: Gate>(
         &mut self,
         desk: &Desk<'_, '_, R, G, B, K>,
@@ -169,7 +169,7 @@ impl<'g, P, G: Allocator, A: Allocator + Copy, S: PathSet<A>> Worker<'g, P, G, A
         unreachable!()
     }
 
-    /// The table takes a message, and all that it owes then is posted. Answers how the worker ended, if it did.
+    /// The table takes a message, and all that it owes then is posted. Returns how the worker ended, if it did.
     fn serve<R: Wait, H: Allocator, B: Board<Due, Graphs<G>, H, Pass = P>, K: Gate>(
         &mut self,
         desk: &Desk<'_, '_, R, G, B, K>,
@@ -191,8 +191,8 @@ impl<'g, P, G: Allocator, A: Allocator + Copy, S: PathSet<A>> Worker<'g, P, G, A
         }
     }
 
-    /// Takes a message, if there is one, and works on it; where there is none, waits for a moment. Answers how the
-    /// worker ended, if it did: it goes on only where it took a message, or saw neither the close nor an abort.
+    /// Takes a message, if there is one, and works on it; if there is none, waits for a moment. Returns how the
+    /// worker ended, if it did: it continues only if it took a message, or saw neither the close nor an abort.
     pub(crate) fn turn<R: Wait, H: Allocator, B: Board<Due, Graphs<G>, H, Pass = P>, K: Gate>(
         &mut self,
         desk: &Desk<'_, '_, R, G, B, K>,

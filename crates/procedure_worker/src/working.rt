@@ -18,11 +18,11 @@ use switchboard::Board;
 
 /// Works for a procedure: takes one message of its mailbox, posts all that its table then owes, completes it, and
 /// begins again, until the board is closed, or aborted by another pass, or by this one for a cause of its own. It
-/// fails for want of memory only where memory was refused to one of its lists, to its table or to a post, which its
-/// outcome shows; where its table has failed, it fails for the table's fault. Between two takes that find the mailbox
-/// empty it lets other threads run, and sleeps where that goes on. The pass must be that of the procedure, as the
-/// board gave it, and the board one of these graphs that the starter's message opened. Lists and table are in memory
-/// of `alloc`; their places are reserved before each call of the board.
+/// fails for lack of memory only if memory was refused to one of its lists, to its table or to a post, which its
+/// outcome shows; if its table has failed, it fails for the table's fault. Between two takes that find the mailbox
+/// empty it lets other threads run, and sleeps if that continues. The pass must be that of the procedure, as the
+/// board gave it, and the board must be one of these graphs that the starter's message opened. Lists and table are in
+/// memory of `alloc`; their places are reserved before each call of the board.
 pub fn work<'g, R, G, H, A, B, S, K>(
     rt: &R,
     alloc: A,

@@ -9,7 +9,7 @@ use std::alloc::{AllocError, Global};
 use std::sync::Wait;
 use std::thread::Threads;
 
-/// The parts that a case begins with, and how it goes on.
+/// The parts that a case begins with, and how it continues.
 fn parts_of(how: &str) -> (Parts, &str) {
     let (one_lock, how) = match how.strip_prefix("one lock, ") {
         Some(how) => (true, how),
@@ -22,7 +22,7 @@ fn parts_of(how: &str) -> (Parts, &str) {
     (Parts { one_lock, diagrams }, how)
 }
 
-/// Writes what comes of a line.
+/// Writes the result of a line.
 pub fn answer<R: Wait + Threads + Sync>(
     rt: &R,
     alloc: Global,
@@ -67,13 +67,13 @@ fn place_of(words: &str) -> Option<Moment> {
     })
 }
 
-/// Writes on a line of its own what is so.
+/// Writes one of two texts on a line of its own, by whether something holds.
 fn write_whether(out: &mut String, holds: bool, yes: &str, no: &str) -> Result<(), AllocError> {
     write!(out, "\n{}", if holds { yes } else { no })
 }
 
 impl<R: Wait + Threads + Sync> Trial<'_, R> {
-    /// Writes what comes of it with the lane refused that is named, after the call that is named.
+    /// Writes the results with the named lane refused, after the named call.
     fn but_lane(&self, out: &mut String, words: &str) -> Result<(), AllocError> {
         let (lane, after) = words.split_once(" after ").unwrap_or((words, ""));
         match lane.parse::<u8>() {
@@ -82,7 +82,7 @@ impl<R: Wait + Threads + Sync> Trial<'_, R> {
         }
     }
 
-    /// Writes what comes of one more run with these parts, where it is something else than what came of those before.
+    /// Writes the result of one more run with these parts, if it differs from those before.
     fn again<K: Gate + Sync>(
         &self,
         out: &mut String,
@@ -94,7 +94,7 @@ impl<R: Wait + Threads + Sync> Trial<'_, R> {
         put(out, one.as_str())
     }
 
-    /// Writes what comes of a run over each board with each set.
+    /// Writes the result of a run over each board with each set.
     fn with_all(&self, out: &mut String) -> Result<(), AllocError> {
         for number in 0..4u8 {
             self.again(out, parts_at(number), &Open)?;
@@ -102,7 +102,7 @@ impl<R: Wait + Threads + Sync> Trial<'_, R> {
         Ok(())
     }
 
-    /// Writes what comes of a case that begins with a word and a number.
+    /// Writes the result of a case that begins with a word and a number.
     fn numbered(&self, out: &mut String, how: &str) -> Result<(), AllocError> {
         let (word, number) = how.split_once(' ').unwrap_or((how, ""));
         let number = number.parse::<u64>().unwrap_or(0);
@@ -115,7 +115,7 @@ impl<R: Wait + Threads + Sync> Trial<'_, R> {
         }
     }
 
-    /// Writes what comes of `number` runs over each board with each set.
+    /// Writes the results of `number` runs over each board with each set.
     fn times(&self, out: &mut String, number: u64) -> Result<(), AllocError> {
         for _ in 0..number {
             self.with_all(out)?;
@@ -123,7 +123,7 @@ impl<R: Wait + Threads + Sync> Trial<'_, R> {
         Ok(())
     }
 
-    /// Writes what comes of it with each lane in turn kept back.
+    /// Writes the results with each lane held back in turn.
     fn late(&self, out: &mut String) -> Result<(), AllocError> {
         for lane in 0..=self.asked.program.program().procs.len().min(31) {
             let gate = Late { lane: lane as u8 };
@@ -132,14 +132,14 @@ impl<R: Wait + Threads + Sync> Trial<'_, R> {
         Ok(())
     }
 
-    /// Writes what comes of it where two calls wait for each other.
+    /// Writes the results if two calls wait for each other.
     fn meeting(&self, out: &mut String) -> Result<(), AllocError> {
         let gate = Meeting::new();
         self.write_report_of(out, self.asked.parts, &gate)?;
         write_whether(out, gate.was_held(), "both met", "they did not meet")
     }
 
-    /// Writes what comes of it, and whether the workers have begun.
+    /// Writes the results, and whether the workers have begun.
     fn begun(&self, out: &mut String) -> Result<(), AllocError> {
         let gate = Noting::new();
         self.write_report_of(out, self.asked.parts, &gate)?;

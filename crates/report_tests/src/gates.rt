@@ -5,10 +5,10 @@ use std::sync::atomic::Ordering::SeqCst;
 use std::sync::atomic::{AtomicBool, AtomicU64};
 use std::thread;
 
-/// How often a call of a meeting looks for the other one at most.
+/// How often, at most, a call of a meeting looks for the other one.
 const MOST_TURNS: u64 = 10_000_000;
 
-/// Keeps one lane back at each of its takes and posts.
+/// Holds one lane back at each of its takes and posts.
 #[derive(Drop)]
 pub struct Late {
     pub lane: u8,

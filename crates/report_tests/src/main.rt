@@ -1,22 +1,22 @@
-//! Rows of workers: each line of the standard input is a case, and is printed again with what comes of it.
+//! Rows of workers: each line of the standard input is a case, and is printed again with its result.
 //!
 //! | Line | What is printed under it |
 //! |---|---|
-//! | `report K N \| TEXT` | the answer for K rounds and at most N path edges, and for each procedure how many entries, pairs and takes it has; or why there is no report; once, where both boards with both sets of path edges come to the same |
-//! | `times T: report K N \| TEXT` | the same, where T runs of each come to the same |
-//! | `late: report K N \| TEXT` | the same, where it comes so with each lane in turn kept back at each of its takes and posts |
-//! | `meeting: report K N \| TEXT` | the same, where the first post of lane 1 and the first take of lane 2 wait for each other |
+//! | `report K N \| TEXT` | the answer for K rounds and at most N path edges, and for each procedure how many entries, pairs and takes it has; or why there is no report; once, if both boards with both sets of path edges come to the same |
+//! | `times T: report K N \| TEXT` | the same, if T runs of each come to the same |
+//! | `late: report K N \| TEXT` | the same, if it is the same with each lane held back in turn at each of its takes and posts |
+//! | `meeting: report K N \| TEXT` | the same, if the first post of lane 1 and the first take of lane 2 wait for each other |
 //! | `begun: report K N \| TEXT` | the same, and whether lane 0 has taken and posted and lane 1 has taken |
 //! | `but lane L: answer K N \| TEXT` | the answer with the thread of lane L refused, and how many lanes were asked for, over all four pairs |
-//! | `but lane L after take C of lane P: answer K N \| TEXT` | the same, where the refusal comes behind that call (or `post C`) |
-//! | `budget B: answer K N \| TEXT` | the answer where each worker has B - 1 calls of the board, over all four pairs |
+//! | `but lane L after take C of lane P: answer K N \| TEXT` | the same, if the refusal comes after that call (or `post C`) |
+//! | `budget B: answer K N \| TEXT` | the answer if each worker has B - 1 calls of the board, over all four pairs |
 //! | `budgets B: answer K N \| TEXT` | the same for 2, and whether for 3 to B it is `Spent` or the answer that comes without a limit |
-//! | `limits N: answer K N \| TEXT` | the answers for at most 1 to N path edges, where they change, over all four pairs |
-//! | `refusing T: answer K N \| TEXT` | what comes of it with one allocation refused, the first, then the second, up to T |
+//! | `limits N: answer K N \| TEXT` | the answers for at most 1 to N path edges, if they change, over all four pairs |
+//! | `refusing T: answer K N \| TEXT` | the result with one allocation refused, the first, then the second, up to T |
 //! | `answer K N \| TEXT` | the answer alone |
 //!
-//! Elsewhere the board has a lock for each mailbox, or, where a case begins with `one lock, `, one for all; and the
-//! sets are ordered, or, where `diagrams, ` comes then, diagrams. Entries and pairs are also compared with those of one
+//! Otherwise the board has a lock for each mailbox, or, if a case begins with `one lock, `, one for all; and the sets
+//! are ordered, or, if `diagrams, ` comes then, diagrams. Entries and pairs are also compared with those of one
 //! thread. A line that begins with `#` is a heading.
 #![tactic(auto)]
 

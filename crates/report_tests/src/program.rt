@@ -35,7 +35,7 @@ pub struct Trial<'a, R> {
     pub asked: &'a Asked,
 }
 
-/// What two numbers and a text ask; nothing where the text is no program, or a number is past its limit.
+/// What two numbers and a text ask; nothing if the text is not a program, or a number is past its limit.
 pub fn read_case(alloc: Global, parts: Parts, numbers: &str, text: &str) -> Option<Asked> {
     let (rounds, edges) = numbers.split_once(' ')?;
     Some(Asked {

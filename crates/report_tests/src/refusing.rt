@@ -6,10 +6,10 @@ use std::sync::atomic::Ordering::SeqCst;
 use std::sync::atomic::{AtomicBool, AtomicU64};
 use std::thread;
 
-/// How often a refusal looks for the call that it waits for at most.
+/// How often a refusal looks for the call that it waits for, at most.
 const MOST_TURNS: u64 = 1_000_000;
 
-/// A call of the gate: the how manieth take or post of which lane.
+/// A call of the gate: a take or a post, its lane, and its number among those of the lane.
 #[derive(Clone, Copy, PartialEq, Eq)]
 pub struct Moment {
     pub is_take: bool,
@@ -17,16 +17,17 @@ pub struct Moment {
     pub count: u64,
 }
 
-/// Refuses one lane its thread, where a call of the gate is named only after that call, and notes what comes.
+/// Refuses one lane its thread, only after a given call of the gate if one is named, and records what
+/// happens.
 #[derive(Drop)]
 pub struct Refusing {
     lane: u8,
     after: Option<Moment>,
-    /// Whether the call that is named came.
+    /// Whether the named call came.
     came: AtomicBool,
     /// How many lanes were asked for.
     asked: AtomicU64,
-    /// Whether a lane from the refused one on worked, or one behind it was asked for.
+    /// Whether a lane from the refused one on worked, or one after it was asked for.
     behind: AtomicBool,
 }
 
@@ -46,7 +47,7 @@ impl Refusing {
         self.asked.load(SeqCst)
     }
 
-    /// Whether no lane from the refused one on worked, none behind it was asked for, and the call that is named came.
+    /// Whether no lane from the refused one on worked, none after it was asked for, and the named call came.
     pub fn is_well(&self) -> bool {
         !self.behind.load(SeqCst) && (self.after.is_none() || self.came.load(SeqCst))
     }
@@ -61,7 +62,7 @@ impl Refusing {
         }
     }
 
-    /// Waits for the call that is named.
+    /// Waits for the named call.
     fn wait(&self) {
         for _ in 0..MOST_TURNS {
             if self.after.is_none() || self.came.load(SeqCst) {

@@ -1,4 +1,4 @@
-//! What workers come to, as text.
+//! The results of workers, as text.
 
 use crate::program::{Asked, Parts, Trial, on_one_thread};
 use flow_graph::Graphs;
@@ -120,7 +120,8 @@ pub fn answer<R: Wait + Threads + Sync, A: Allocator + Copy + Send + Sync>(
 }
 
 impl<R: Wait + Threads + Sync> Trial<'_, R> {
-    /// Writes what the workers come to with these parts and this gate, and whether one thread comes to the same.
+    /// Writes the result of the workers with these parts and this gate, and whether one thread comes to the
+    /// same.
     pub fn write_report_of<K: Gate + Sync>(
         &self,
         out: &mut String,

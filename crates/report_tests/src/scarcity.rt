@@ -1,4 +1,4 @@
-//! What workers come to where memory is refused.
+//! The results of workers if memory is refused.
 
 use crate::program::{Asked, Trial};
 use crate::report::answer;
@@ -9,10 +9,10 @@ use std::sync::Wait;
 use std::thread::Threads;
 use summaries::NoVerdict;
 
-/// What comes of a run with one allocation refused.
+/// The result of a run with one allocation refused.
 #[derive(Clone, Copy, PartialEq, Eq)]
 enum Came {
-    /// Want of memory.
+    /// Lack of memory.
     Wanting,
     /// The answer of a run in which nothing was refused.
     Whole(Answer),
@@ -31,8 +31,8 @@ fn run<R: Wait + Threads + Sync>(rt: &R, alloc: Global, asked: &Asked, nth: u64)
 }
 
 impl<R: Wait + Threads + Sync> Trial<'_, R> {
-    /// Writes what comes of it where each allocation is refused in turn, until a run meets no refusal, or that many
-    /// were tried.
+    /// Writes the results if each allocation is refused in turn, until a run meets no refusal, or a given number
+    /// was tried.
     pub fn write_refused(&self, out: &mut String, most: u64) -> Result<(), AllocError> {
         for nth in 1..most {
             match run(self.rt, self.alloc, self.asked, nth) {

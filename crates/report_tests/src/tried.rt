@@ -1,4 +1,4 @@
-//! What workers come to where a thread is refused, or where they have few calls.
+//! The results of workers if a thread is refused, or if they have few calls.
 
 ghost use Rattle.std.specs.Prelude.{◌≤◌, ◌^◌};
 
@@ -33,7 +33,7 @@ fn write_came(out: &mut String, came: Result<Answer, NoVerdict>) -> Result<(), A
     }
 }
 
-/// Writes what came of one more run, where it is something else than what came of those before.
+/// Writes the result of one more run, if it differs from those before.
 pub fn put(out: &mut String, one: &str) -> Result<(), AllocError> {
     if out.is_empty() {
         out.push_str(one)
@@ -45,7 +45,7 @@ pub fn put(out: &mut String, one: &str) -> Result<(), AllocError> {
 }
 
 impl<R: Wait + Threads + Sync> Trial<'_, R> {
-    /// The answer of the workers with these parts, where who hires is the gate as well.
+    /// The answer of the workers with these parts, with one value as the gate and as `Hire`.
     fn tried(
         &self,
         parts: Parts,
@@ -101,15 +101,15 @@ impl<R: Wait + Threads + Sync> Trial<'_, R> {
         Ok(report?.answer)
     }
 
-    /// The same where no lane is refused.
+    /// The same if no lane is refused.
     fn unrefused(&self, parts: Parts, limit: EdgeLimit, budget: u64) -> Result<Answer, NoVerdict>
         requires { (2 ≤ budget) × (budget ≤ 2 ^ 56) }
     {
         self.tried(parts, limit, &Refusing::new(NO_LANE, None), budget)
     }
 
-    /// Writes what comes of it over each pair of board and set with this lane refused, after this call; once, where all
-    /// come to the same.
+    /// Writes the results over each pair of board and set with this lane refused, after this call; once, if all come
+    /// to the same.
     pub fn without_lane(
         &self,
         out: &mut String,
@@ -131,8 +131,8 @@ impl<R: Wait + Threads + Sync> Trial<'_, R> {
         Ok(())
     }
 
-    /// Writes what comes of it over each pair of board and set where each worker has one call fewer than this; once,
-    /// where all come to the same.
+    /// Writes the results over each pair of board and set if each worker has one call fewer than this; once, if all
+    /// come to the same.
     pub fn with_budget(&self, out: &mut String, budget: u64) -> Result<(), AllocError> {
         if budget < 2 || budget > MOST_TICKETS {
             return out.push_str("no such budget");
@@ -159,8 +159,8 @@ impl<R: Wait + Threads + Sync> Trial<'_, R> {
         true
     }
 
-    /// Writes what comes of it with budget 2, and whether with each one above, up to `most`, either calls are used up
-    /// or the answer comes that comes with the greatest.
+    /// Writes the results with budget 2, and whether with each one above, up to `most`, either calls are used up or
+    /// the answer comes that comes with the greatest.
     pub fn with_budgets(&self, out: &mut String, most: u64) -> Result<(), AllocError> {
         self.with_budget(out, 2)?;
         let Ok(answer) = self.unrefused(self.asked.parts, self.asked.limit, MOST_TICKETS) else {
@@ -173,8 +173,8 @@ impl<R: Wait + Threads + Sync> Trial<'_, R> {
         }
     }
 
-    /// Writes what comes of it over each pair of board and set with each limit of path edges in turn, where it is
-    /// another than before.
+    /// Writes the results over each pair of board and set with each limit of path edges in turn, if it differs
+    /// from the one before.
     pub fn with_limits(&self, out: &mut String, most: u64) -> Result<(), AllocError> {
         for number in 0..4u8 {
             let mut one = String::new(self.alloc);

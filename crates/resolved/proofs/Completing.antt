@@ -131,7 +131,7 @@ module _ (t : Tree) (p : Procedure) where
   abbrev Complete : Code → Type 0
   Complete b = Throughout (SimpleComplete (meaning_of t).routines n (routine_of t p)) (SideInScope n own) b
 
-  -- where the block gives a value, the procedure does
+  -- if the block gives a value, the procedure does
   abbrev GivesWithin : Block Name Name Name → Type 0
   GivesWithin b = gives_value b ≡ true → gives_value p.body ≡ true
 

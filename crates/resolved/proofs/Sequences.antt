@@ -75,7 +75,7 @@ call_fits rs globals own (one m (call_for x k ks) t) n es e h =
 call_fits rs globals own (choose m c a b t) n es e h = absurd (none-some (n, es) e)
 call_fits rs globals own (loop m c a t) n es e h = absurd (none-some (n, es) e)
 
--- where a program is complete, each call in a body has a place for each argument
+-- if a program is complete, each call in a body has a place for each argument
 complete_fit : (p : Program) → IsComplete p → ArgumentsFit p
 complete_fit p complete q n r es rest calls = at (slice_get p.routines q) refl rest
   where
@@ -109,7 +109,7 @@ pub routines_counted : (t : Tree) → length (sequential_of t).routines ≡ leng
 routines_counted t =
     length-map (map (routine_of t) t.procedures) numbered_routine ∙ length-map t.procedures (routine_of t)
 
--- the one of a number is that of the procedure of this number
+-- the one with a number is that of the procedure with this number
 pub routine_at : (t : Tree) (q : ℕ) (p : Procedure) → slice_get t.procedures q ≡ Some p
     → slice_get (sequential_of t).routines q ≡ Some (sequential_routine t p)
 routine_at t q p e = go t.procedures q e
@@ -120,7 +120,7 @@ routine_at t q p e = go t.procedures q e
     go (x ∷ ps) zero e = ap (option_map (sequential_routine t)) e
     go (x ∷ ps) (suc q) e = go ps q e
 
--- where a procedure is, there is the one of its number
+-- if a procedure exists, so does the one with its number
 pub procedure_at : (t : Tree) (q : ℕ) (r : Routine) → slice_get (sequential_of t).routines q ≡ Some r
     → (p : Procedure) × (slice_get t.procedures q ≡ Some p) × (r ≡ sequential_routine t p)
 procedure_at t q r e = go t.procedures q e

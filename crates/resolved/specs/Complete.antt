@@ -1,4 +1,4 @@
--- A resolved program in which no step misses what it needs.
+-- A resolved program in which no step lacks what it needs.
 use Rattle.std.specs.Prelude.{◌≡◌, ℕ, true, List, IfSome}
 use Rattle.language.specs.Tree.{Simple, done}
 use Rattle.language.specs.Parts.{plain, jump_of, gives, HasAllSides}
@@ -15,11 +15,11 @@ pub record SimpleComplete (routines : List Routine) (globals : ℕ) (own : Routi
   pub jump : IfSome (jump_of (plain statement)) (λ label. AtRest (rest_from label own.body done) (λ rest. Unit {0}))
   pub gives : gives (plain statement) ≡ true → own.gives ≡ true
 
--- so it is for every statement of the procedure
+-- this holds for every statement of the procedure
 abbrev pub RoutineComplete : List Routine → ℕ → Routine → Type 0
 RoutineComplete routines globals own = Throughout (SimpleComplete routines globals own) (SideInScope globals own.places) own.body
 
--- so it is for every procedure, and each thread starts in a procedure that is there
+-- this holds for every procedure, and each thread starts in a procedure that is there
 pub record IsComplete (program : Program) : Type 0 where
   pub routines : EachRoutine (RoutineComplete program.routines program.globals) program.routines
   pub threads : EachThread program.routines program.threads

@@ -12,7 +12,7 @@ abbrev pub EachProcedure : (Procedure → Type 0) → List Procedure → Type 0
 EachProcedure P [] = Unit {0}
 EachProcedure P (procedure ∷ procedures) = P procedure × EachProcedure P procedures
 
--- how many places a procedure's valuations have: the globals, the formals and locals, and the result, where it gives
+-- how many places a procedure's valuations have: the globals, the formals and locals, and the result, if it gives
 -- one
 abbrev pub width : Tree → Procedure → ℕ
 width tree procedure = length tree.globals + frame_size (routine_of tree procedure)
@@ -21,7 +21,7 @@ width tree procedure = length tree.globals + frame_size (routine_of tree procedu
 abbrev pub AllNarrow : Tree → Type 0
 AllNarrow tree = EachProcedure (λ (p : Procedure). width tree p ≤ most_places) tree.procedures
 
--- this has one proof at most, so a type may carry it
+-- this has at most one proof, so a type may carry it
 pub AllNarrow-prop : (t : Tree) → IsProp (AllNarrow t)
 AllNarrow-prop tree = each tree.procedures
   where

@@ -1,4 +1,4 @@
--- What the names of a checked tree stand for is there.
+-- What the names of a checked tree stand for exists.
 use Rattle.std.specs.Prelude.{◌≡◌, ◌<◌, List, [], ◌∷◌, ◌++◌, length, slice_get, IfSome}
 use Rattle.language.specs.Tree.{Name, done, Procedure, ThreadLine, Tree}
 use Rattle.language.specs.Parts.{Head, callee_of, arguments_of, jump_of, HasAllSides}

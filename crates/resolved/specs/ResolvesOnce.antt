@@ -1,4 +1,4 @@
--- That a tree resolves has one proof at most, so a type may carry it.
+-- That a tree resolves has at most one proof, so a type may carry it.
 use mathlib.Core.HLevel.{×_prop, Unit-prop, ⊥_prop}
 use native.Mathlib.Nat.{ℕ_set}
 use native.Mathlib.Bridge.{le_prop}

@@ -27,8 +27,8 @@ abbrev pub statements_of_all : List Procedure → List Statement
 statements_of_all [] = []
 statements_of_all (procedure ∷ procedures) = statements_of procedure.body ++ statements_of_all procedures
 
--- the variables of an expression, of a right side, of lists of them, and of a right side that may be there, each as
--- often as it stands there
+-- the variables of an expression, of a right side, of lists of them, and of an optional right side, each as often
+-- as it occurs there
 abbrev pub variables_of : Expression Name → List Name
 variables_of (const truth) = []
 variables_of (var variable) = variable ∷ []
@@ -57,7 +57,7 @@ used_by head =
     targets_of head
     ++ (variables_of_sides (sides_of head) ++ (variables_of_test (test_of head) ++ variables_of_all (arguments_of head)))
 
--- the label of a statement, where it has one
+-- the label of a statement, if it has one
 abbrev pub label_of : Option Name → List Name
 label_of None = []
 label_of (Some label) = label ∷ []
@@ -71,11 +71,11 @@ labels_of (statement ∷ statements) = label_of statement.mark.label ++ labels_o
 abbrev pub statement_of : {A : Type 0} → Stmt A → Statement
 statement_of statement = let i = item_of statement in record { mark = i.mark; head = head_of i.deed }
 
--- names behind references, in order
+-- the names that references point to, in order
 abbrev pub lent : {A : Type 0} → List (Bor (declared.Name A)) → List Name
 lent ns = map (λ r. name_of r.now) ns
 
--- statements behind references, in order
+-- the statements that references point to, in order
 abbrev pub lent_statements : {A : Type 0} → List (Bor (Stmt A)) → List Statement
 lent_statements ss = map (λ r. statement_of r.now) ss
 

@@ -1,4 +1,4 @@
--- Where a procedure is looked up by its name, and what is asked of it where it is there.
+-- Where a procedure is looked up by its name, and what is required of it if it exists.
 use Rattle.std.specs.Prelude.{List, Option, Some, None, map}
 use Rattle.language.specs.Tree.{Name, Procedure}
 

@@ -1,5 +1,5 @@
-//! Trees whose names all resolve, and the sequential programs that they are: what the rewriting makes and the flow
-//! graphs draw.
+//! Trees whose names all resolve, and the sequential programs that they are: what the rewriting makes and what
+//! flow graphs are drawn from.
 #![tactic(auto)]
 
 mod limits;

@@ -34,7 +34,7 @@ impl<A: Allocator> Sequential<A> {
     }
 
     /// How many places the valuations of a procedure have: the globals, its formals, locals and temporaries, and its
-    /// result, where it gives one.
+    /// result, if it gives one.
     pub fn width(&self, procedure: u8) -> u8
         requires { procedure < length (sequential_program self.now).procs.items }
         ensures { IsThere (slice_get (sequential_tree self.now).procedures procedure)

@@ -1,6 +1,6 @@
-//! What is answered to a case: a word, and a text with what the word asks for before it.
+//! The answer to a case: a word, and a text with what the word asks for before it.
 //!
-//! What an answer needs is taken from `alloc`, and its words from `host`.
+//! What an answer needs is allocated by `alloc`, and its words by `host`.
 
 use resolved::Sequential;
 use round_rewrite::{Rounds, rewrite};
@@ -25,7 +25,7 @@ fn shown<T: Display>(host: Global, value: &T) -> Result<String, AllocError> {
     format!(in host; "{value}")
 }
 
-/// Whether a line stands in a text.
+/// Whether a line occurs in a text.
 fn has_line(text: &str, line: &str) -> bool {
     for each in text.split('\n') {
         if each == line {
@@ -35,7 +35,7 @@ fn has_line(text: &str, line: &str) -> bool {
     false
 }
 
-/// What is printed, where it is printed the same once it is read again.
+/// What is printed, if it is printed the same once it is read again.
 fn printed_again<A: Allocator + Copy>(
     host: Global,
     alloc: A,
@@ -52,7 +52,7 @@ fn printed_again<A: Allocator + Copy>(
     }
 }
 
-/// `rewrite` and `holds`: the rewriting as it is printed, and whether the line stands in it.
+/// `rewrite` and `holds`: the rewriting as it is printed, and whether the line occurs in it.
 fn of_printed<A: Allocator + Copy>(
     host: Global,
     alloc: A,
@@ -68,7 +68,7 @@ fn of_printed<A: Allocator + Copy>(
     }
 }
 
-/// Puts the widths of a sequential program's procedures behind a line, each with a comma behind it.
+/// Appends the widths of a sequential program's procedures to a line, each with a comma after it.
 fn put_widths<A: Allocator>(
     line: &mut String,
     sequential: &Sequential<A>,
@@ -119,7 +119,7 @@ fn rewritten<A: Allocator + Copy>(
     }
 }
 
-/// Puts the names of procedures behind a line.
+/// Appends the names of procedures to a line.
 fn put_procedures<A: Allocator>(line: &mut String, procs: &[Proc<A>]) -> Result<(), AllocError> {
     for proc in procs {
         let name = proc.name.text.as_str();
@@ -128,7 +128,7 @@ fn put_procedures<A: Allocator>(line: &mut String, procs: &[Proc<A>]) -> Result<
     Ok(())
 }
 
-/// Puts the offsets of thread lines behind a line.
+/// Appends the offsets of thread lines to a line.
 fn put_threads<A: Allocator>(line: &mut String, threads: &[Thread<A>]) -> Result<(), AllocError> {
     for thread in threads {
         let at = thread.at;
@@ -186,7 +186,7 @@ fn of_text<A: Allocator + Copy>(
     }
 }
 
-/// A number of rounds and the text behind it: `COUNT TEXT`.
+/// A number of rounds and the text after it: `COUNT TEXT`.
 fn numbered(rest: &str) -> Option<(u8, &str)> {
     let (number, text) = rest.split_once(' ').unwrap_or((rest, ""));
     Some((number.parse::<u8>().ok()?, text))
@@ -216,7 +216,7 @@ fn rounds(rest: &str) -> &'static str {
     }
 }
 
-/// What is answered to a case.
+/// The answer to a case.
 pub fn words<A: Allocator + Copy>(
     host: Global,
     alloc: A,

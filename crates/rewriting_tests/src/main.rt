@@ -1,5 +1,5 @@
-//! Reads cases, a line each, and prints each with its answer behind it: what is answered to a text by the check of
-//! scopes and by the rewriting.
+//! Reads cases, one on each line, and prints each followed by its answer: what the check of scopes or the
+//! rewriting says about a text.
 //!
 //! `check TEXT` and `parts TEXT` ask for the check, `rewrite COUNT TEXT`, `holds COUNT LINE :: TEXT`, `fits COUNT TEXT`
 //! and `widths COUNT TEXT` for the rewriting, and `rounds COUNT` for a number of rounds alone. `refuse` before a case
@@ -15,7 +15,7 @@ use refusals::refused_in_turn;
 use std::alloc::{AllocError, Global};
 use std::io;
 
-/// A text with the same words several times in it: what stands before them, `COUNT WORDS`, and what stands behind.
+/// A text with the same words several times in it: what comes before them, `COUNT WORDS`, and what comes after.
 fn repeated(
     alloc: Global,
     before: &str,
@@ -48,7 +48,7 @@ fn expanded(alloc: Global, line: &str) -> Result<String, AllocError> {
     String::from_str(alloc, line)
 }
 
-/// What is answered to a case.
+/// The answer to a case.
 fn answered(host: Global, line: &str) -> Result<String, AllocError> {
     match line.split_once(' ') {
         Some(("refuse", case)) => match case.split_once(' ') {
@@ -60,13 +60,13 @@ fn answered(host: Global, line: &str) -> Result<String, AllocError> {
     }
 }
 
-/// What is answered to a line, whose words are written out first.
+/// The answer to a line, whose words are written out first.
 fn answer(host: Global, line: &str) -> Result<String, AllocError> {
     let case = expanded(host, line)?;
     answered(host, case.as_str())
 }
 
-/// Prints a line, and its answer where it is a case.
+/// Prints a line, and its answer if it is a case.
 fn say<R: Print + AllocGlobal>(rt: &R, line: &str) -> io::Result<()> {
     println!(rt; "{line}")?;
     if line.is_empty() || line.starts_with('#') {

@@ -4,8 +4,8 @@ use crate::answers::words;
 use scarce::Scarce;
 use std::alloc::{AllocError, Global};
 
-/// Whether the allocation of this number was refused, and the answer then is the true one or the want of memory; `None`
-/// where there is another answer.
+/// Whether the allocation with this number was refused, and the answer then is the true one or lack of memory; `None`
+/// if there is another answer.
 fn was_refused(host: Global, nth: u64, word: &str, rest: &str, wanted: &str) -> Option<bool> {
     let scarce = Scarce::refusing(host, nth);
     let given = words(host, &scarce, word, rest).ok()?;
@@ -17,8 +17,8 @@ fn was_refused(host: Global, nth: u64, word: &str, rest: &str, wanted: &str) -> 
     }
 }
 
-/// Whether the answer is the want of memory, or the true one, with allocation N refused, for each N up to the first
-/// that is not asked for.
+/// Whether the answer is lack of memory, or the true one, with allocation N refused, for each N up to the first
+/// that is not requested.
 fn holds_in_turn(host: Global, word: &str, rest: &str, wanted: &str) -> bool {
     for nth in 1..5000u64 {
         match was_refused(host, nth, word, rest, wanted) {

@@ -120,7 +120,7 @@ drawn_writes X l tmp own (suc d) j (t ∷ ts) e =
           ∙ ih.1,
     )
 
--- writes to a frame's own places leave what stands behind them
+-- writes to a frame's own places leave what comes after them
 pub writes_more : (n own : ℕ) (xs : List Place) (vs l more : List Bool) → PlacesInScope n own xs → length l ≡ own
     → written_locals xs vs (l ++ more) ≡ written_locals xs vs l ++ more
 writes_more n own [] vs l more h e = refl
@@ -137,7 +137,7 @@ module _ {n last : ℕ} (small : last < most_rounds) (now : Moment n last) (own 
   abbrev X : List Bool
   X = globals_at now
 
-  -- what the copy of global i for round k gets where it gets v
+  -- what the copy of global i for round k gets if it gets v
   spread : ℕ → Bool → ℕ → Bool
   spread i v k = (same k q && v) || (not (same k q) && bit (row C k) i)
 

@@ -5,7 +5,7 @@ use Rattle.std.proofs.Common.{map, sym, ◌∙◌, ap, ap₂, append_assoc}
 use Rattle.language.specs.Tree.{Name, Expression, var, RightSide, any, value}
 use Rattle.round_rewrite.specs.Table.{Naming, numbers, rounds, targets, sides, side, expression, written}
 
--- what is put behind a list, and then more
+-- what is appended to a list, and then more
 behind : {B : Type 0} (old first more : List B) {mid now whole : List B} → mid ≡ old ++ first → now ≡ mid ++ more
     → whole ≡ first ++ more
     → now ≡ old ++ whole
@@ -85,7 +85,7 @@ pub empty : {A : Type 0} (l : List A) → length l ≡ 0 → l ≡ []
 empty [] e = refl
 empty (x ∷ l) e = cc
 
--- one more where it is asked for
+-- one more if it is asked for
 pub counted : (b : Bool) (n m : ℕ) → m ≡ bool_byte b → n + m ≡ cond b (suc n) n
 counted true n m e = rw e (omega arith)
 counted false n m e = rw e (omega arith)

@@ -1,4 +1,4 @@
--- A run of the rewritten program from behind a prologue begins with a step of the source, or with its failure.
+-- A run of the rewritten program from after a prologue begins with a step of the source, or with its failure.
 use Rattle.std.proofs.Common.{◌≡◌, ℕ, suc, ◌≤◌, Bool, true, false, cond, List, [], ◌∷◌, length, map}
 use Rattle.std.proofs.Common.{Option, Some, None, option_map, slice_get, refl, sym, ◌∙◌, ap, subst, ap₂, arith}
 use Rattle.language.specs.Tree.{Expression, const, RightSide, value, skip, assign, assert, assume, goto, leave, call, leave_with, call_for}
@@ -52,7 +52,7 @@ module _ (setting : Setting) (now : Moment setting.p.globals setting.last) (m : 
   abbrev X : List Bool
   X = globals_at now
 
-  -- frames that leave where stop is 1, down to the first procedure, whatever values they have
+  -- frames that leave if stop is 1, down to the first procedure, whatever values they have
   pub unwind_back : (c : ℕ) (L : List Bool) (bs : List Both) (q' : ℕ) (b' : Bool) (N : ℕ)
       → PlainAfter w N (state (lay C S (bits_of last q' true b')) (frame c L done ∷ callers p last bs m)) Q
       → Later w N (state (lay C S (bits_of last q' true b')) (frame 0 [] m ∷ [])) Q
@@ -72,14 +72,14 @@ module _ (setting : Setting) (now : Moment setting.p.globals setting.last) (m : 
       let (k3, lt3, r3) = unwind_back (suc d.c) L' bs q' b' k2 r2 in
       (k3, omega arith, r3)
 
-  -- the last frame leaves where stop is 0
+  -- the last frame leaves if stop is 0
   pub last_back : (a : Activation) (N : ℕ) → PlainAfter w N (state X (top p last a done [] m)) Q
       → Later w N (state X (stack p last [] m)) Q
   last_back a N h =
       let (k, e, r) = unstep w Q N _ _ _ (never_below []) h in
       later_now w Q (state X (stack p last [] m)) N k e r
 
-  -- a frame leaves where stop is 0, and its caller gets the result
+  -- a frame leaves if stop is 0, and its caller gets the result
   pub pop_back : (a : Activation) → Good p last (both a done) → (d : Both) → Good p last d → (bs : List Both) (N : ℕ)
       → PlainAfter w N (state X (top p last a done (d ∷ bs) m)) Q
       → Later w N
@@ -99,7 +99,7 @@ module _ (setting : Setting) (now : Moment setting.p.globals setting.last) (m : 
       (stop_back w small (site p last C S shape d' bs m) Q (never_below bs) k q false b goes_on
       (subst (λ z. PlainAfter w k z Q) popped r))
 
-  -- what a run from behind the prologue of a statement begins with
+  -- what a run from after the prologue of a statement begins with
   pub data Begins (N : ℕ) (a : Activation) (rest : Code) (bs : List Both) : Type 0 where
     moved : (g' : List Bool) (bs' : List Both) → length g' ≡ p.globals → GoodStack p last bs'
         → StepsTo p (state (row C q) (frame a.c (source_values a) rest ∷ map source bs)) (λ u. u ≡ state g' (map source bs'))
@@ -135,13 +135,13 @@ module _ (setting : Setting) (now : Moment setting.p.globals setting.last) (m : 
       (value (const true) ∷ value (const true) ∷ []))
       (one plain leave t)
 
-  -- what is so after a jump is so a step later
+  -- what holds after a jump holds a step later
   at_rest_later : (N k : ℕ) (o : Option Code) (F : Code → State) → N ≡ suc k → AtRest o (λ u. PlainAfter w k (F u) Q)
       → AtRest o (λ u. Later w N (F u) Q)
   at_rest_later N k None F e a = absurd a
   at_rest_later N k (Some u) F e a = later_now w Q (F u) N k e a
 
-  -- what is so after a call is so a step later
+  -- what holds after a call holds a step later
   at_routine_later : (N k : ℕ) (o : Option Routine) (F : Routine → State) → N ≡ suc k → AtRoutine o (λ u. PlainAfter w k (F u) Q)
       → AtRoutine o (λ u. Later w N (F u) Q)
   at_routine_later N k None F e a = absurd a
@@ -198,7 +198,7 @@ module _ (setting : Setting) (now : Moment setting.p.globals setting.last) (m : 
         moved_here N a (one k (goto x) t) bs (both a found ∷ bs)
         (refl, jump_good p last a (one k (goto x) t) x found fits h e, good) step at
 
-    -- what stands behind a call, whose caller is then `d`, in the source
+    -- what comes after a call, whose caller is then `d`, in the source
     abbrev called : Both → ℕ → List (Expression Place) → Routine → State
     called d q' es r =
         state (row C q)

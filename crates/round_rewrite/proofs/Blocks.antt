@@ -41,7 +41,7 @@ rest-join x (loop m r y t) b k =
     (sym (first_assoc (rest_from x y (loop m r y (join t (join b k)))) (rest_from x t (join b k)) (rest_from x b k)))
     ∙ sym (cond_first (has_label x m) _ _ (rest_from x b k)))
 
--- where a list or another comes after
+-- if a list or another comes after
 cond_join : {V P L : Type 0} (c : Bool) (a b k : Block V P L) → join (cond c a b) k ≡ cond c (join a k) (join b k)
 cond_join true a b k = refl
 cond_join false a b k = refl

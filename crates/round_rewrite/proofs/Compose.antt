@@ -73,7 +73,7 @@ Threads p G [] G' (s' ∷ ss') = ⊥
 Threads p G (s ∷ ss) G' [] = ⊥
 Threads p G (s ∷ ss) G' (s' ∷ ss') = (H : List (List Bool)) × Turns p G s H s' × Threads p H ss G' ss'
 
--- the same, where one of them fails
+-- the same, if one of them fails
 abbrev pub FailThreads : Program → List (List Bool) → List (List Frame) → List (List Bool) → Type 0
 FailThreads p G [] G' = ⊥
 FailThreads p G (s ∷ ss) G' =
@@ -140,7 +140,7 @@ fail_join p g G (s ∷ ss) (m ∷ mid) g' G' (k, run, round) (inl (H, ss', ft, m
 fail_join p g G (s ∷ ss) (m ∷ mid) g' G' (k, run, round) (inr (H, s', ts, more)) =
     inr (k ∷ H, s', (m, run, ts), fail_join p k H ss mid g' G' round more)
 
--- a round that fails, where all the others then stay as they are
+-- a round that fails, if all the others then stay as they are
 fail_row : (p : Program) (g : List Bool) (ss : List (List Frame)) → FailsInRound p g ss
     → (g' : List Bool) × (length g' ≡ length g) × ((G : List (List Bool)) → FailThreads p (g ∷ G) ss (g' ∷ G))
 fail_row p g [] h = absurd h

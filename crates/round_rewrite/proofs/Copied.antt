@@ -10,7 +10,7 @@ module _ (w : Naming Name Name Name Name) (last : ℕ) (f : ℕ → Name → Nam
   copied_behind (j ∷ ks) k =
       ap (λ ns. map (f j) xs ++ ns) (copied_behind ks k) ∙ sym (append_assoc (map (f j) xs) (copied w last f xs ks) (map (f k) xs))
 
-  -- the names for one more round are put behind those for the rounds before
+  -- the names for one more round are appended to those for the rounds before
   pub copied_next : (start k round : ℕ) (old now new : List Name) → round ≡ start + k
       → now ≡ old ++ copied w last f xs (numbers start k)
       → new ≡ now ++ map (f round) xs → new ≡ old ++ copied w last f xs (numbers start (k + 1))

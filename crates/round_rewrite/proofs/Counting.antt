@@ -60,7 +60,7 @@ and_false : (x : Bool) → (x && false) ≡ false
 and_false true = refl
 and_false false = refl
 
--- two numbers are the same where their halves and their low bits are
+-- two numbers are the same if their halves and their low bits are
 same_digits : (a b r s : ℕ) → r < 2 → s < 2 → same (2 * a + r) (2 * b + s) ≡ (same a b && lit r (is_one s))
 same_digits a b zero zero hr hs =
     same_alike (2 * a + 0) (2 * b + 0) a b (λ e. omega arith) (λ e. omega arith) ∙ sym (and_true (same a b))
@@ -79,7 +79,7 @@ same_halves k q =
     let eq : q ≡ 2 * (q / 2) + q % 2 = omega arith in
     ap₂ same ek eq ∙ same_digits (k / 2) (q / 2) (k % 2) (q % 2) (omega arith) (omega arith)
 
--- a number, with 1 added where there is a carry
+-- a number, with 1 added if there is a carry
 abbrev plus : ℕ → Bool → ℕ
 plus q true = suc q
 plus q false = q
@@ -305,7 +305,7 @@ outside_bits at (suc m) =
     subst Outside (sym (reverse_first (global (at + m)) (bits_from at m)))
     (outside_both (reverse (bits_from at m)) (global (at + m) ∷ []) (outside_bits at m) tt)
 
--- a frame keeps its places where globals are written
+-- a frame keeps its places if globals are written
 pub frame_kept : (xs : List Place) (vs L : List Bool) → Outside xs → written_locals xs vs L ≡ L
 frame_kept [] vs L h = refl
 frame_kept (x ∷ xs) [] L h = refl

@@ -16,7 +16,7 @@ use Rattle.round_rewrite.proofs.Plain.{World, PlainAfter}
 use Rattle.round_rewrite.proofs.Leading.{Leads, Never, unstep, Later, later_now}
 use Rattle.round_rewrite.specs.Limits.{most_rounds}
 
--- other temporaries, of which those behind the first d are as they were
+-- other temporaries, of which those after the first d are as they were
 abbrev pub Redrawn : ℕ → List Bool → List Bool → Type 0
 Redrawn d tmp tmp' = (length tmp' ≡ length tmp) × ((i : ℕ) → d ≤ i → bit tmp' i ≡ bit tmp i)
 
@@ -57,7 +57,7 @@ module _ (w : World) (n last own c : ℕ) (fs : List Frame) (Q : State → Type 
         ),
       )
 
-  -- a run from the draw is one from behind it, with some temporaries
+  -- a run from the draw is one from after it, with some temporaries
   abbrev pub Drew : ℕ → List Bool → List Bool → List Bool → ℕ → Code → Type 0
   Drew N X l tmp d t = (M : ℕ) × (tmp' : List Bool) × (M ≤ N) × Redrawn d tmp tmp'
       × PlainAfter w M (state X (frame c (l ++ tmp') t ∷ fs)) Q

@@ -34,7 +34,7 @@ module _ (w : Naming tree.Name tree.Name tree.Name tree.Name) (last : ℕ) where
       by_deed (repeat r a) e =
           ap (λ t. prologue w last i.mark (loop plain (side w last r) (join (rewritten w last a) (prologue w last plain done)) t)) e
 
-  -- a block rewritten from nothing, with others behind it
+  -- a block rewritten from nothing, with others after it
   pub block_whole : {M N : Type 0} (start new : List (Stmt M)) (body items : List (Stmt N)) → start ≡ [] → body ≡ items
       → Lays start new (λ k. forms w last (items_of body) k) → (k : TextBlock)
       → all_before (items_of new) k ≡ join (rewritten w last (block_of items)) k
@@ -59,7 +59,7 @@ module _ (w : Naming tree.Name tree.Name tree.Name tree.Name) (last : ℕ) where
       → Lays a b (λ k. bare_form w last (deed_of core) k)
   by_core a b core d e l k = l k ∙ ap (λ x. all_before (items_of a) (bare_form w last x k)) (sym e)
 
-  -- the same of a list that came where memory did not run out
+  -- the same for a list that came if memory did not run out
   pub core_is : {M N V E : Type 0} (r : Result V E) (items : V → List (Stmt M)) (a : List (Stmt M)) (core : Core N)
       (d : Deed) → d ≡ deed_of core → IfOk r (λ v. Lays a (items v) (λ k. bare_form w last d k))
       → IfOk r (λ v. Lays a (items v) (λ k. bare_form w last (deed_of core) k))

@@ -26,7 +26,7 @@ use Rattle.round_rewrite.proofs.Frames.{source_with, put_given, Waits, put_resul
 use Rattle.round_rewrite.proofs.Frames.{takes_room}
 use Rattle.resolved.proofs.Each.{each_at}
 
--- an open call that has new values and goes on in the same procedure
+-- an open call that has new values and continues in the same procedure
 pub good_with : (p : Program) (last : ℕ) (a : Activation) (l tmp : List Bool) (d : ℕ) (rest rest' : Code)
     → (h : Good p last (both a rest)) → length l ≡ length a.l → Redrawn d a.tmp tmp → d ≤ temporaries is_global h.routine.body
     → Fits p.routines p.globals a.own (temporaries is_global h.routine.body) rest'
@@ -43,7 +43,7 @@ good_with p last a l tmp d rest rest' h el drawn le fits = record {
   fits = fits;
 }
 
--- an open call that waits for this, and then goes on elsewhere in the same procedure
+-- an open call that waits for this, and then continues elsewhere in the same procedure
 good_on : (p : Program) (last : ℕ) (b : Both) (awaits : Option Place) (rest' : Code) → (h : Good p last b)
     → Waits p.globals b.own (temporaries is_global h.routine.body) awaits
     → Fits p.routines p.globals b.own (temporaries is_global h.routine.body) rest'
@@ -60,7 +60,7 @@ good_on p last b awaits rest' h waits fits = record {
   fits = fits;
 }
 
--- an open call that goes on elsewhere in the same procedure
+-- an open call that continues elsewhere in the same procedure
 pub good_rest : (p : Program) (last : ℕ) (a : Activation) (rest rest' : Code) → (h : Good p last (both a rest))
     → Fits p.routines p.globals a.own (temporaries is_global h.routine.body) rest' → Good p last (both a rest')
 good_rest p last a rest rest' h fits = good_on p last (both a rest) None rest' h tt fits
@@ -92,13 +92,13 @@ pub put_branch : (p : Program) (last own : ℕ) (v : Bool) (x y t : Code)
 put_branch p last own true x y t = put-join (places p.globals last own) last x t
 put_branch p last own false x y t = put-join (places p.globals last own) last y t
 
--- what a `while` goes on with fits
+-- what a `while` continues with fits
 pub loop_fits : (p : Program) (own d : ℕ) (v : Bool) (k : Mark Label) (r : RightSide Place) (x t : Code)
     → Fits p.routines p.globals own d (loop k r x t) → Fits p.routines p.globals own d (cond v (join x (loop k r x t)) t)
 loop_fits p own d true k r x t h = throughout-join (Roomy p.routines p.globals own d) (SideInScope p.globals own) x (loop k r x t) h.1 h
 loop_fits p own d false k r x t h = h.2
 
--- what a `while` goes on with, rewritten
+-- what a `while` continues with, rewritten
 pub put_loop : (p : Program) (last own : ℕ) (v : Bool) (k : Mark Label) (r : RightSide Place) (x t : Code)
     → put_rest p last own (cond v (join x (loop k r x t)) t)
     ≡ cond v
@@ -157,7 +157,7 @@ module _ (setting : Setting) (now : Moment setting.p.globals setting.last) (m : 
     pub last_leads : (a : Activation) → Leads w (state X (stack p last [] m)) Q → Leads w (state X (top p last a done [] m)) Q
     last_leads a (k, h) = (suc k, h)
 
-    -- a frame leaves, where stop is 0, and its caller gets the result
+    -- a frame leaves, if stop is 0, and its caller gets the result
     pub pop_leads : (a : Activation) → Good p last (both a done) → (d : Both) → Good p last d → (bs : List Both)
         → Leads w
         (state X
@@ -178,19 +178,19 @@ module _ (setting : Setting) (now : Moment setting.p.globals setting.last) (m : 
         )
 
     module _ (R : State → Type 0) where
-      -- what has to be shown of the states that the step leads to
+      -- what must be shown of the states that the step leads to
       abbrev pub Next : Type 0
       Next = (g' : List Bool) (bs : List Both) → length g' ≡ p.globals → GoodStack p last bs → R (state g' (map source bs))
           → Leads w (state (turned now g') (stack p last bs m)) Q
 
-      -- where the step leaves the globals as they are
+      -- if the step leaves the globals as they are
       same_globals : Next → (bs : List Both) → GoodStack p last bs → R (state (row C q) (map source bs))
           → Leads w (state X (stack p last bs m)) Q
       same_globals next bs good r =
           subst (λ z. Leads w (state z (stack p last bs m)) Q) (unturned now) (next (row C q) bs (row_long now) good r)
 
       module _ (next : Next) (bs : List Both) (good : AllGood p last bs) where
-        -- where the step is a jump
+        -- if the step is a jump
         jump_leads : (a : Activation) (rest : Code) (x : Label) (o : Option Code)
             → (h : Good p last (both a rest)) → rest_from x h.routine.body done ≡ o
             → AtRest o (λ t. R (state (row C q) (frame a.c (source_values a) t ∷ map source bs)))
@@ -201,7 +201,7 @@ module _ (setting : Setting) (now : Moment setting.p.globals setting.last) (m : 
         jump_leads a rest x (Some found) h e at =
             same_globals next (both a found ∷ bs) (refl, jump_good p last a rest x found fits h e, good) at
 
-        -- where the step is a call, whose caller is then `d`
+        -- if the step is a call, whose caller is then `d`
         call_leads : (d : Both) (q' : ℕ) (es : List (Expression Place)) (o : Option Routine)
             → slice_get p.routines q' ≡ o → Good p last d → AreInScope p.globals d.own es
             → AtRoutine o (λ r. length es ≤ r.places)
@@ -265,7 +265,7 @@ module _ (setting : Setting) (now : Moment setting.p.globals setting.last) (m : 
                   ∷ callers p last (d ∷ bs) m)) Q)) (sym (isw.enters_is q')) z.1,
             )
 
-        -- a step of the top frame, behind its prologue
+        -- a step of the top frame, after its prologue
         pub step_leads : (a : Activation) (rest : Code) → Good p last (both a rest)
             → put_rest p last a.own rest ≡ prologue (naming a.own) last plain (inner p last a.own rest)
             → StepsTo p (state (row C q) (frame a.c (source_values a) rest ∷ map source bs)) R

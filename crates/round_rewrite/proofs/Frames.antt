@@ -26,7 +26,7 @@ Roomy routines n own d s = SimpleInScope routines n own s × (draws_of is_global
 abbrev pub Fits : List Routine → ℕ → ℕ → ℕ → Code → Type 0
 Fits routines n own d b = Throughout (Roomy routines n own d) (SideInScope n own) b
 
--- what is so throughout two blocks is so throughout both, joined
+-- what holds throughout two blocks holds throughout both, joined
 pub throughout-join : (S : Simple Place ℕ Label → Type 0) (R : RightSide Place → Type 0) (a b : Code) → Throughout S R a
     → Throughout S R b
     → Throughout S R (join a b)
@@ -48,7 +48,7 @@ there_first : (P : Code → Type 0) (o u : Option Code) → IfThere P o → IfTh
 there_first P None u h k = k
 there_first P (Some x) u h k = h
 
--- what is so throughout a body is so throughout each rest that a jump finds
+-- what holds throughout a body holds throughout each rest that a jump finds
 pub throughout-rest : (S : Simple Place ℕ Label → Type 0) (R : RightSide Place → Type 0) (x : Label) (b k : Code) → Throughout S R b
     → Throughout S R k → IfThere (Throughout S R) (rest_from x b k)
 throughout-rest S R x done k hb hk = tt
@@ -95,8 +95,8 @@ roomy routines n own d (choose m r a b t) h room = (
 roomy routines n own d (loop m r a t) h room =
     (h.0, roomy routines n own d a h.1 (omega arith), roomy routines n own d t h.2 (omega arith))
 
--- An open call: its procedure, how many places it has of its own, their values, the result behind them, if the
--- procedure gives one, and what the rewritten frame has behind the places: the temporaries, and the result once more.
+-- An open call: its procedure, how many places it has of its own, their values, the result after them, if the
+-- procedure gives one, and what the rewritten frame has after the places: the temporaries, and the result once more.
 pub record Activation : Type 0 where
   pub c : ℕ
   pub own : ℕ
@@ -176,7 +176,7 @@ abbrev pub given_values : Option Place → Bool → List Bool → List Bool
 given_values None v L = L
 given_values (Some x) v L = written_locals (x ∷ []) (v ∷ []) L
 
--- the variable is in scope, and the first temporary is there where it is a global
+-- the variable is in scope, and the first temporary is there if it is a global
 abbrev pub Waits : ℕ → ℕ → ℕ → Option Place → Type 0
 Waits n own d None = Unit {0}
 Waits n own d (Some x) = PlaceInScope n own x × (takes is_global (Some x) ≤ d)
@@ -198,12 +198,12 @@ module _ (p : Program) (last : ℕ) where
   abbrev pub room_of : {b : Both} → Good b → ℕ
   room_of h = temporaries is_global h.routine.body
 
-  -- the same of all frames
+  -- the same for all frames
   abbrev pub AllGood : List Both → Type 0
   AllGood [] = Unit {0}
   AllGood (b ∷ bs) = Good b × AllGood bs
 
-  -- the same of a whole stack, whose top frame waits for nothing
+  -- the same for a whole stack, whose top frame waits for nothing
   abbrev pub GoodStack : List Both → Type 0
   GoodStack [] = Unit {0}
   GoodStack (b ∷ bs) = (b.awaits ≡ None) × Good b × AllGood bs
@@ -212,7 +212,7 @@ module _ (p : Program) (last : ℕ) where
   abbrev pub put_rest : ℕ → Code → Code
   put_rest own rest = put (places p.globals last own) last rest
 
-  -- the rewritten rest behind its prologue
+  -- the rewritten rest after its prologue
   abbrev pub inner : ℕ → Code → Code
   inner own done = done
   inner own (one k s t) = statement (places p.globals last own) last s (put_rest own t)
@@ -222,7 +222,7 @@ module _ (p : Program) (last : ℕ) where
       loop plain (side (places p.globals last own) last r)
       (join (put_rest own x) (prologue (places p.globals last own) last plain done)) (put_rest own t)
 
-  -- what a caller has to do behind its test of `stop`: where a global waits, it gets the value first
+  -- what a caller has to do after its test of `stop`: if a global waits, it gets the value first
   abbrev pub behind : ℕ → Option Place → Code → Code
   behind own None t = t
   behind own (Some x) t = cond (is_global x) (received (places p.globals last own) last x t) t
@@ -232,14 +232,14 @@ module _ (p : Program) (last : ℕ) where
   put_target own None = None
   put_target own (Some x) = Some (receiver (places p.globals last own) last x)
 
-  -- the rewritten frames below the top one: each tests `stop` when it goes on
+  -- the rewritten frames below the top one: each tests `stop` when it continues
   abbrev pub callers : List Both → Code → List Frame
   callers [] m = frame 0 [] m ∷ []
   callers (b ∷ bs) m =
       caller_frame (suc b.c) (put_values b.activation) (put_target b.own b.awaits)
       (stop_test (places p.globals last b.own) last (behind b.own b.awaits (put_rest b.own b.rest))) ∷ callers bs m
 
-  -- the rewritten frames, where the top one has this to do
+  -- the rewritten frames, if the top one has this to do
   abbrev pub top : Activation → Code → List Both → Code → List Frame
   top a rest bs m = frame (suc a.c) (put_values a) rest ∷ callers bs m
 
@@ -248,7 +248,7 @@ module _ (p : Program) (last : ℕ) where
   site C S shape a bs m =
       record { C = C; S = S; shape = shape; c = suc a.c; own = a.own; L = put_values a; fs = callers bs m }
 
-  -- the same of a caller that has got a value, whatever it is
+  -- the same for a caller that has got a value, whatever it is
   abbrev pub frame_site : (C S : List (List Bool)) → Shape p.globals last C S → Both → List Bool → List Both → Code
       → Site p.globals last
   frame_site C S shape d L bs m =
@@ -285,7 +285,7 @@ bit_zeros zero i = refl
 bit_zeros (suc n) zero = refl
 bit_zeros (suc n) (suc i) = bit_zeros n i
 
--- zeros behind zeros
+-- zeros after zeros
 pub zeros-add : (a b : ℕ) → zeros (a + b) ≡ zeros a ++ zeros b
 zeros-add zero b = ap zeros (Rattle.std.proofs.Common.zero-add b)
 zeros-add (suc a) b = ap zeros (Rattle.std.proofs.Common.suc-add a b) ∙ ap (λ z. false ∷ z) (zeros-add a b)
@@ -297,14 +297,14 @@ fresh_more own d vs h =
     ap (λ k. vs ++ zeros k) e
     ∙ (ap (λ z. vs ++ z) (zeros-add (own - length vs) d) ∙ sym (append_assoc vs (zeros (own - length vs)) (zeros d)))
 
--- the result behind other values
+-- the result after other values
 behind_places : (gives : Bool) (l more : List Bool) (i : ℕ) → i ≡ length l → length more ≡ cond gives 1 0
     → cond gives (bit (l ++ more) i) false ≡ bit more 0
 behind_places true l more i e h = bit_right l more i 0 (omega arith)
 behind_places false l [] i e h = refl
 behind_places false l (x ∷ more) i e h = absurd (omega arith)
 
--- the same behind temporaries
+-- the same after temporaries
 behind_temporaries : (gives : Bool) (l tmp more : List Bool) (i d : ℕ) → i ≡ length l + d → length more ≡ cond gives 1 0
     → bit tmp d ≡ bit more 0 → cond gives (bit (l ++ tmp) i) false ≡ bit more 0
 behind_temporaries true l tmp more i d e h same = bit_right l tmp i d e ∙ same

@@ -1,4 +1,4 @@
--- A rewritten block gives a value where the block does.
+-- A rewritten block gives a value if the block does.
 use Rattle.std.proofs.Common.{◌≡◌, ℕ, zero, suc, Bool, true, false, ◌||◌, cond, List, [], ◌∷◌, refl, sym, ◌∙◌}
 use Rattle.std.proofs.Common.{ap, ap₂}
 use Rattle.language.specs.Tree.{Simple, skip, assign, assert, assume, goto, leave, call, leave_with, call_for, Block, done, one, choose}

@@ -31,7 +31,7 @@ bad_single n last g (frame c l (one m s t)) f' fs h = h
 bad_single n last g (frame c l (choose m r a b t)) f' fs h = h
 bad_single n last g (frame c l (loop m r a t)) f' fs h = h
 
--- the first procedure has a first step where it is not over
+-- the first procedure has a first step if it is not over
 pub unstep_main : (w : World) (n last N : ℕ) (g l : List Bool) (m : Mark Label) (s : Simple Place ℕ Label) (t : Code)
     → PlainAfter w N (state g (frame 0 l (one m s t) ∷ [])) (Bad n last)
     → (M : ℕ) × (N ≡ suc M) × PlainSteps w (state g (frame 0 l (one m s t) ∷ [])) (λ u. PlainAfter w M u (Bad n last))

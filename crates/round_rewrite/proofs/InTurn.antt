@@ -1,11 +1,11 @@
--- Parts that stand one behind the other in front of a rest, one for each of a list, as the guesses and the checks do.
+-- Parts that come one after the other in front of a rest, one for each of a list, as the guesses and the checks do.
 use Rattle.std.proofs.Common.{◌≡◌, ℕ, ◌+◌, List, [], ◌∷◌, ◌++◌, sym, ◌∙◌, ap, subst}
 use Rattle.language.specs.Sequential.{numbers}
 use Rattle.round_rewrite.proofs.Pushed.{numbers_next}
 
 module _ {K T : Type 0} (parts : List K → T → T) (part : K → T → T) (none : (t : T) → parts [] t ≡ t)
     (more : (k : K) (ks : List K) (t : T) → parts (k ∷ ks) t ≡ part k (parts ks t)) where
-  -- the last part stands right in front of the rest
+  -- the last part comes directly before the rest
   behind : (ks : List K) (k : K) (t : T) → parts (ks ++ k ∷ []) t ≡ parts ks (part k t)
   behind [] k t = more k [] t ∙ (ap (part k) (none t) ∙ sym (none (part k t)))
   behind (j ∷ ks) k t = more j (ks ++ k ∷ []) t ∙ (ap (part j) (behind ks k t) ∙ sym (more j ks (part k t)))
@@ -22,7 +22,7 @@ module _ {K T : Type 0} (parts : List K → T → T) (part : K → T → T) (non
   keep P each [] t h = subst P (sym (none t)) h
   keep P each (k ∷ ks) t h = subst P (sym (more k ks t)) (each k (parts ks t) (keep P each ks t h))
 
--- the parts for one number more
+-- the parts for one more number
 pub one_behind : {T : Type 0} (parts : List ℕ → T → T) (part : ℕ → T → T) → ((t : T) → parts [] t ≡ t)
     → ((k : ℕ) (ks : List ℕ) (t : T) → parts (k ∷ ks) t ≡ part k (parts ks t)) → (start k n : ℕ) → start + k ≡ n
     → (t : T)

@@ -114,7 +114,7 @@ pub long-append : (n : ℕ) (a b : List (List Bool)) → Long n a → Long n b �
 long-append n [] b ha hb = hb
 long-append n (r ∷ a) b ha hb = (ha.0, long-append n a b ha.1 hb)
 
--- the bits of a round, where this one is the last, then stop and bad
+-- the bits of a round, if this one is the last, then stop and bad
 abbrev pub bits_of : ℕ → ℕ → Bool → Bool → List Bool
 bits_of last q s b = in_bits (round_bits last) q (s ∷ b ∷ [])
 
@@ -128,7 +128,7 @@ pub record Shape (n last : ℕ) (C S : List (List Bool)) : Type 0 where
   pub rounds : length C ≡ suc last
   pub guesses : length S ≡ last
 
--- the globals in a round, where stop is 0: the rows and the saved guesses, the round, and bad
+-- the globals in a round, if stop is 0: the rows and the saved guesses, the round, and bad
 pub record Moment (n last : ℕ) : Type 0 where
   pub C : List (List Bool)
   pub S : List (List Bool)
@@ -140,7 +140,7 @@ pub record Moment (n last : ℕ) : Type 0 where
 abbrev pub globals_at : {n last : ℕ} (now : Moment n last) → List Bool
 globals_at {n} {last} now = lay now.C now.S (bits_of last now.q false now.b)
 
--- the same globals, but that the round's row is h
+-- the same globals, except that the round's row is h
 abbrev pub turned : {n last : ℕ} (now : Moment n last) → List Bool → List Bool
 turned {n} {last} now h = lay (with_row now.C now.q h) now.S (bits_of last now.q false now.b)
 
@@ -173,7 +173,7 @@ bits_with n last C S bits j v h =
     ∙ ap (λ z. flat C ++ z) (with_right (flat S) bits (length (flat S) + j) j v refl)
 
 module _ (n last : ℕ) (C S : List (List Bool)) (shape : Shape n last C S) where
-  -- the bits stand behind the rows and the guesses
+  -- the bits come after the rows and the guesses
   pub has_bits : (q : ℕ) (s b : Bool) → HasBits (lay C S (bits_of last q s b)) (bits_at n last) (round_bits last) q (s ∷ b ∷ [])
   has_bits q s b j = bits_bit n last C S (bits_of last q s b) j shape
 

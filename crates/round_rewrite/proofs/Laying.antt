@@ -1,4 +1,4 @@
--- Statements put behind others.
+-- Statements appended to others.
 use Rattle.std.proofs.Common.{◌≡◌, List, [], ◌∷◌, ◌++◌, refl, ◌∙◌, ap, option_map}
 use Rattle.std.proofs.lemmas.List.{map-append}
 use Rattle.language.specs.Tree as tree

@@ -12,7 +12,7 @@ use Rattle.round_rewrite.proofs.InTurn.{one_behind}
 
 module _ {M X Y : Type 0} (seen : X → Y) (f : List Y → TextBlock → TextBlock) where
   module _ (g : Y → TextBlock → TextBlock) (step : (y : Y) (ys : List Y) (k : TextBlock) → f (y ∷ ys) k ≡ g y (f ys k)) where
-    -- one more of a list is put behind what stands
+    -- one more of a list is appended to what is there
     pub each_more : (xs : List X) (i : ℕ) (x : X) → i < length xs → x ≡ get_or xs i x → (old new : List (Stmt M))
         → Lays old new (g (seen x)) → (whole : TextBlock → TextBlock)
         → ((rest : TextBlock) → all_before (items_of old) (f (map seen (drop i xs)) rest) ≡ whole rest) → (rest : TextBlock)
@@ -25,7 +25,7 @@ module _ {M X Y : Type 0} (seen : X → Y) (f : List Y → TextBlock → TextBlo
         (sym (drop_more xs i x lt ∙ ap (λ y. y ∷ drop (i + 1) xs) (sym is)))
         ∙ so rest))
 
-  -- all of a list are put behind what stood
+  -- all of a list are appended to what was there
   pub each_end : ((k : TextBlock) → f [] k ≡ k) → (xs : List X) (i : ℕ) → length xs ≤ i → (new : List (Stmt M))
       (whole : TextBlock → TextBlock)
       → ((rest : TextBlock) → all_before (items_of new) (f (map seen (drop i xs)) rest) ≡ whole rest) → (rest : TextBlock)

@@ -29,7 +29,7 @@ not_later : (t : List ℕ) (pre : List Name) (x : Name) (rest : List Name) → i
 not_later t [] x rest h = (none_cons (same_text t x.text) (is_declared t rest) h).0
 not_later t (p ∷ pre) x rest h = not_later t pre x rest (none_cons (same_text t p.text) (is_declared t (pre ++ x ∷ rest)) h).1
 
--- a name is none of those before it
+-- a name is not one of those before it
 not_before : (pre : List Name) (x : Name) (rest : List Name) → AreDistinct (pre ++ x ∷ rest) → is_declared x.text pre ≡ false
 not_before [] x rest h = refl
 not_before (p ∷ pre) x rest h =
@@ -65,7 +65,7 @@ module _ (t : Tree) (gs ps : List Name) (last : ℕ) (gs_free : AreFree gs) (dis
   abbrev P : Naming Place Place ℕ ℕ
   P = places n last 0
 
-  -- the names' copies and guesses stand at those of the places
+  -- the names' copies and guesses are at those of the places
   abbrev Matches : List Name → List Place → Type 0
   Matches [] [] = Unit {0}
   Matches [] (y ∷ ys) = ⊥

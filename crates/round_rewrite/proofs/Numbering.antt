@@ -1,4 +1,4 @@
--- Where the printed names stand among the rewritten program's globals, formals, locals and temporaries.
+-- Where the printed names are among the rewritten program's globals, formals, locals and temporaries.
 use Rattle.std.proofs.Common.{◌≡◌, ℕ, zero, suc, ◌+◌, ◌*◌, ◌<◌, ◌≤◌, Bool, true, false, cond, List, [], ◌∷◌}
 use Rattle.std.proofs.Common.{◌++◌, length, map, refl, ◌∙◌, ap, ap₂, arith, length-append}
 use Rattle.language.specs.Tree.{Name}
@@ -18,7 +18,7 @@ pub number_left : (t : List ℕ) (xs ys : List Name) → is_declared t xs ≡ tr
     → (number_of t (xs ++ ys) ≡ number_of t xs) × (is_declared t (xs ++ ys) ≡ true)
 number_left t xs ys h = (number_first t xs ys h, declared_first t xs ys h)
 
--- a text that has two underscores is no declared name
+-- a text that has two underscores is not a declared name
 pub not_free : (a s : List ℕ) (xs : List Name) → AreFree xs → is_declared (a ++ 95 ∷ 95 ∷ s) xs ≡ false
 not_free a s [] h = refl
 not_free a s (x ∷ xs) h = ap (λ c. cond c true (is_declared (a ++ 95 ∷ 95 ∷ s) xs)) (free_differs x.text a s h.0)
@@ -73,7 +73,7 @@ module _ (w : Naming Name Name Name Name) (last : ℕ) (f : ℕ → Name → Nam
       let r = in_row sp x k ys in
       (ap₂ (λ c d. cond c true d) (sp.alike k x y) r.0, ap₂ (λ c d. cond c 0 (suc d)) (sp.alike k x y) r.1)
 
-  -- the name of round j + d stands d rows on
+  -- the name of round j + d is d rows on
   pub in_rows : Spelled f → (x : Name) → is_declared x.text xs ≡ true → (d j m : ℕ) → d < m → j + m ≤ most_rounds
       → (is_declared (f (j + d) x).text (rows j m) ≡ true)
       × (number_of (f (j + d) x).text (rows j m) ≡ d * length xs + number_of x.text xs)

@@ -1,4 +1,4 @@
--- The printed names stand at their places.
+-- The printed names are at their places.
 use Rattle.std.proofs.Common.{◌≡◌, ℕ, zero, suc, ◌+◌, ◌*◌, ◌<◌, ◌≤◌, true, false, cond, List, [], ◌∷◌}
 use Rattle.std.proofs.lemmas.List.{length-map, length-reverse}
 use Rattle.std.proofs.Common.{◌++◌, length, map, reverse, codes, refl, sym, ◌∙◌, ap, ap₂, arith, append_assoc, length-append}
@@ -67,7 +67,7 @@ pub length-bit_names : (count : ℕ) → length (reverse (bit_names count)) ≡ 
 length-bit_names count =
     length-reverse (bit_names count) ∙ (length-map (numbers 0 count) bit_name ∙ length-numbers 0 count)
 
--- the globals that stand last
+-- the globals that come last
 abbrev pub last_names : List Name
 last_names = named (codes "stop__") ∷ named (codes "bad__") ∷ []
 
@@ -84,7 +84,8 @@ length-globals last xs =
     length-append (first ++ second ++ bits) last_names
     ∙ (ap (λ z. z + 2) (e ∙ ap₂ (λ x y. x + y) (d ∙ ap₂ (λ x y. x + y) a b) c) ∙ omega arith)
 
--- Where a bit's name, `stop__` and `bad__` stand among the names behind the globals' own: the bits from the highest on.
+-- Where a bit's name, `stop__` and `bad__` are among the names after the globals' own: the bits from the highest
+-- on.
 number_bit : (m j i : ℕ) → 2 ≤ m → m ≤ 3 → suc (j + i) ≡ m
     → number_of (bit_name j).text (reverse (bit_names m) ++ last_names) ≡ i
 number_bit zero j i h h' e = absurd (omega arith)
@@ -148,7 +149,7 @@ module _ (vocabulary : Vocabulary) where
   length-B : length B ≡ last * length gs
   length-B = length-rows (names []) last save_name gs 1 last
 
-  -- a name with two underscores that is no temporary is no formal, local or temporary
+  -- a name with two underscores that is not a temporary is not a formal or a local either
   outside : (a s : List ℕ) → ((i : ℕ) → same_text (a ++ 95 ∷ 95 ∷ s) (drawn_name i).text ≡ false)
       → is_declared (a ++ 95 ∷ 95 ∷ s) (own ++ temps) ≡ false
   outside a s h = (number_right (a ++ 95 ∷ 95 ∷ s) own temps (not_free a s own own_free)).1
@@ -260,7 +261,7 @@ module _ (vocabulary : Vocabulary) where
   places_from ps' j (suc m) e =
       ap₂ (λ x xs. x ∷ xs) (bit_place ps' j m (omega arith)) (places_from ps' (suc j) m (omega arith))
 
-  -- the bits stand at their places
+  -- the bits are at their places
   pub bits_placed : (ps' : List Name)
       → map (place_of (wider ps')) (bit_names (round_bits last)) ≡ bits_from (bits_at (length gs) last) (round_bits last)
   bits_placed ps' = places_from ps' 0 (round_bits last) (omega arith)

@@ -158,7 +158,7 @@ map-first f None y = refl
 map-first f (Some a) y = refl
 
 module _ {A B C : Type 0} (f : A → C) (g : B → C) where
-  -- two searches that agree where the label stands and behind it
+  -- two searches that agree where the label stands and after it
   pub found : (c : Bool) (x : A) (y : B) (o : Option A) (u : Option B) → f x ≡ g y
       → option_map f o ≡ option_map g u → option_map f (cond c (Some x) o) ≡ option_map g (cond c (Some y) u)
   found true x y o u e h = ap Some e

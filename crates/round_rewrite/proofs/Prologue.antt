@@ -80,7 +80,7 @@ module _ (w : World) {n last : ℕ} (small : last < most_rounds) (site : Site n 
   abbrev risen : ℕ → List Bool
   risen q = reverse (low_first (round_bits last) (suc q))
 
-  -- the state behind that write
+  -- the state after that write
   rise_writes : (m q : ℕ) (b : Bool) (t : Code) →
       PlainAfter w m
       (state (written_globals rise_targets (risen q) (now q false b)) (frame c (written_locals rise_targets (risen q) L) t ∷ fs)) Q
@@ -171,7 +171,7 @@ module _ (w : World) {n last : ℕ} (small : last < most_rounds) (site : Site n 
       let (m, e, k) = unstep w Q N _ _ fs never h in
       went (later w Q (on (now q false b) t) N m e (stop_back never m q false b t k))
 
-  -- what a run ends in after one step more
+  -- what a run ends in after one more step
   shorter : (N m q : ℕ) (b : Bool) (t : Code) → N ≡ suc m → Exits m q b t → Exits N q b t
   shorter N m q b t e (rose lt r) = rose lt (later w Q _ N m e r)
   shorter N m q b t e (went r) = went (later w Q _ N m e r)
@@ -213,7 +213,7 @@ module _ (w : World) {n last : ℕ} (small : last < most_rounds) (site : Site n 
           (stop_test (places n last own) last t)) (one plain skip (stop_test (places n last own) last t)))) Q
       branches m q b v t h = h
 
-  -- every run from a prologue rises, goes on or stops
+  -- every run from a prologue rises, continues or stops
   pub exits : Never Q fs → (N q : ℕ) (b : Bool) (t : Code) → q ≤ last
       → PlainAfter w N (on (now q false b) (prologue (places n last own) last plain t)) Q → Exits N q b t
   unfolding stop_branch

@@ -26,7 +26,7 @@ pub by_test : {A : Type 0} (c : Bool) → (c ≡ true → A) → (c ≡ false �
 by_test true f g = f refl
 by_test false f g = g refl
 
--- what stands behind a statement needs no more temporaries than both
+-- what comes after a statement needs no more temporaries than both
 pub rest_room : {V P L : Type 0} (is_shared : V → Bool) (d : ℕ) (m : Mark L) (c : Simple V P L) (k : Block V P L)
     → temporaries is_shared (one m c k) ≤ d → temporaries is_shared k ≤ d
 rest_room is_shared d m c k h = omega arith
@@ -92,7 +92,7 @@ module _ (t : Tree) (vocabulary : Vocabulary) (ps' : List Name)
   bd : place_of s' (named (codes "bad__")) ≡ global (bad_at (length gs) last)
   bd = bad_place vocabulary ps'
 
-  -- where a variable is hidden by no formal or local
+  -- if a variable is hidden by no formal or local
   shared_place : (x : Name) → is_declared x.text own ≡ false → place_of s x ≡ global (number_of x.text gs)
   shared_place x h = ap (λ c. cond c (local (number_of x.text own)) (global (number_of x.text gs))) h
 

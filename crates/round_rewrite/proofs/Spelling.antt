@@ -107,7 +107,7 @@ save_no_copy x y k j hk hj = same_text_false _ _ (λ e.
     (append_assoc x (95 ∷ 95 ∷ []) (115 ∷ []) ∙ (r.1 ∙ sym (append_assoc y (95 ∷ []) (95 ∷ [])))) in
     let z : ◌≡◌ {A = ℕ} 115 95 = r2.0 in omega arith)
 
--- a text that ends in an underscore is no copy and no guess
+-- a text that ends in an underscore is neither a copy nor a guess
 pub low_no_copy : (a y : List ℕ) (j : ℕ) → j < most_rounds
     → same_text (a ++ 95 ∷ []) (y ++ 95 ∷ 95 ∷ decimal (suc j)) ≡ false
 low_no_copy a y j hj = same_text_false _ _ (λ e.

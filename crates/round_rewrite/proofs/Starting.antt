@@ -36,7 +36,7 @@ turns_keep p n (g ∷ G) s (h ∷ H) s' long (mid, run, more) =
     let r = turns_keep p n G mid H s' long.1 more in
     ((run_keeps p g h s mid run ∙ long.0, r.0), ap suc r.1)
 
--- the same of all threads in turn
+-- the same for all threads in turn
 pub threads_keep : (p : Program) (n : ℕ) (G : List (List Bool)) (ss : List (List Frame)) (H : List (List Bool)) (ss' : List (List Frame))
     → Long n G → Threads p G ss H ss' → Long n H × (length H ≡ length G)
 threads_keep p n G [] H [] long e = (subst (Long n) (sym e) long, ap length e)
@@ -47,7 +47,7 @@ threads_keep p n G (s ∷ ss) H (s' ∷ ss') long (K, ts, more) =
     let r = threads_keep p n K ss H ss' k.0 more in
     (r.0, r.1 ∙ k.1)
 
--- the same of threads of which one fails
+-- the same for threads of which one fails
 pub fails_keep : (p : Program) (n : ℕ) (G : List (List Bool)) (ss : List (List Frame)) (H : List (List Bool)) → Long n G
     → FailThreads p G ss H → Long n H × (length H ≡ length G)
 fails_keep p n G [] H long h = absurd h
@@ -132,7 +132,7 @@ module _ (setting : Setting) (S : List (List Bool)) (saves : AreRows setting.p.g
   zeros_outside =
       outside_both bit_targets (global (stop_at p.globals last) ∷ []) (outside_bits (bits_at p.globals last) (round_bits last)) tt
 
-  -- these writes lead to round 0, where stop is 0
+  -- these writes lead to round 0, if stop is 0
   zero_writes : (G : List (List Bool)) → Shape p.globals last G S → (q : ℕ) (s b : Bool)
       → written_globals zero_targets zero_values (lay G S (bits_of last q s b)) ≡ lay G S (bits_of last 0 false b)
   zero_writes G shape q s b =
@@ -142,7 +142,7 @@ module _ (setting : Setting) (S : List (List Bool)) (saves : AreRows setting.p.g
       ∙ (ap (λ z. with_bit z (stop_at p.globals last) false) (bits_written p.globals last G S shape 0 q s b)
       ∙ stop_with p.globals last G S shape 0 s b false))
 
-  -- the state behind these writes
+  -- the state after these writes
   zero_state : (G : List (List Bool)) → Shape p.globals last G S → (q : ℕ) (s b : Bool) (k : ℕ) (Q : State → Type 0)
       (t : Code) →
       PlainAfter w k
@@ -188,7 +188,7 @@ module _ (setting : Setting) (S : List (List Bool)) (saves : AreRows setting.p.g
         )
 
   module _ (Q : State → Type 0) (t : Code) where
-    -- the first thread runs, and then what comes behind it
+    -- the first thread runs, and then what comes after it
     first_leads : (c : ℕ) (T : List ℕ) → EachThread p.routines (c ∷ T) → (g : List Bool) (G : List (List Bool))
         → AreRows p.globals (suc last) (g ∷ G) → (x : List Bool) (H : List (List Bool)) (s' : List Frame)
         → Turns p (g ∷ G) (starting_stack p.routines c) (x ∷ H) s' → (b : Bool)

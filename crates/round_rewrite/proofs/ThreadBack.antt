@@ -20,7 +20,7 @@ use Rattle.round_rewrite.proofs.Frames.{source_given, given_good}
 use Rattle.round_rewrite.proofs.Backward.{Begins, moved, failed, moved_here, step_back, last_back, pop_back, unwind_back, never_below}
 use Rattle.round_rewrite.proofs.Turns.{Turns, FailTurns, idle, step_turns, step_fails, no_steps}
 
--- the rows before and behind the round's row, and the saved guesses, have their numbers and lengths
+-- the rows before and after the round's row, and the saved guesses, have their numbers and lengths
 pub record Zip (n last : ℕ) (pre post S : List (List Bool)) : Type 0 where
   pub pre_long : Long n pre
   pub post_long : Long n post
@@ -51,11 +51,11 @@ zip_next n last pre post S g h z e = record {
   guesses = z.guesses;
 }
 
--- one row more
+-- one more row
 pub length-next : (pre : List (List Bool)) (g : List Bool) → length (pre ++ g ∷ []) ≡ suc (length pre)
 length-next pre g = length-append pre (g ∷ []) ∙ omega arith
 
--- where a thread is in the rows: those before, the globals in its round, and that all fit, with those behind
+-- where a thread is in the rows: those before, the globals in its round, and that all fit, with those after
 pub record Seat (n last : ℕ) (S post : List (List Bool)) : Type 0 where
   pub pre : List (List Bool)
   pub g : List Bool
@@ -87,7 +87,7 @@ moment {n} {last} {S} {post} r b = record {
   within = (let c : length r.pre + length post ≡ last = r.zip.count in omega arith);
 }
 
--- Where the rewritten program stands in a thread: every frame at the start of its rest, or a caller behind its call,
+-- Where the rewritten program is in a thread: every frame at the start of its rest, or a caller after its call,
 -- whose global has still to get the value, while in the source the frame called is finished.
 pub data Stand : Type 0 where
   level : List Both → Stand
@@ -106,7 +106,7 @@ module _ (setting : Setting) (S : List (List Bool)) (m : Code) (Q : State → Ty
   abbrev Seated : List (List Bool) → Type 0
   Seated post = Seat p.globals last S post
 
-  -- where a run of the rewritten program stands
+  -- where a run of the rewritten program is
   abbrev put_stand : Stand → List Frame
   put_stand (level bs) = stack p last bs m
   put_stand (landing a d i t bs) =
@@ -139,7 +139,7 @@ module _ (setting : Setting) (S : List (List Bool)) (m : Code) (Q : State → Ty
     pub turns : ((bad ≡ b) × ((s' : List Frame) × Turns p (r.g ∷ post) s (g' ∷ post') s'))
         ⊎ ((bad ≡ true) × FailTurns p (r.g ∷ post) s (g' ∷ post'))
 
-  -- what is claimed of runs of fewer than f steps, from where the top frame stands at the start of its rest
+  -- what is claimed of runs of fewer than f steps, from where the top frame is at the start of its rest
   abbrev Rec : ℕ → Type 0
   Rec f = (N : ℕ) → N < f → (post : List (List Bool)) (r : Seated post) (b : Bool) (s : Stand) → GoodStand s
       → PlainAfter w N (state (globals_at (moment r b)) (put_stand s)) Q → Ends N post r b (map source (frames_of s))
@@ -246,7 +246,7 @@ module _ (setting : Setting) (S : List (List Bool)) (m : Code) (Q : State → Ty
           turns = inr (refl, inl (here, no_steps p (state r.g here), fails', refl));
         })
 
-    -- a run that goes on in the next row
+    -- a run that continues in the next row
     rose_back : (N : ℕ) → N < f → (post : List (List Bool)) (r : Seated post) (b : Bool) (s : Stand) → GoodStand s
         → length r.pre < last
         → PlainAfter w N (state (lay (r.pre ++ r.g ∷ post) S (bits_of last (suc (length r.pre)) false b)) (put_stand s)) Q
@@ -300,7 +300,7 @@ module _ (setting : Setting) (S : List (List Bool)) (m : Code) (Q : State → Ty
         abbrev result : Bool
         result = bit a.more 0
 
-        -- its going, in the source
+        -- its removal, in the source
         given_step : (d : Both) → Good p last d
             → given_back (result_of (slice_get p.routines a.c) (source_values a)) (row now.C now.q) (map source (d ∷ bs))
             ≡ state (given_globals result d.awaits (row now.C now.q))
@@ -391,7 +391,7 @@ module _ (setting : Setting) (S : List (List Bool)) (m : Code) (Q : State → Ty
       level_back a None t bs e h good run = top_back a t bs h good run
       level_back a (Some x) t bs e h good run = cc
 
-      -- a run from where the thread stands
+      -- a run from where the thread is
       stand_back : (s : Stand) → GoodStand s → PlainAfter w N (state (globals_at now) (put_stand s)) Q
           → Ends N post r b (map source (frames_of s))
       stand_back (level []) good run = ended N post r (length r.pre) false b [] run

@@ -35,7 +35,7 @@ module _ (setting : Setting) (S : List (List Bool)) (m : Code) (Q : State → Ty
   At C q s b fs = Leads w (state (lay C S (bits_of last q s b)) fs) Q
 
   module _ (C : List (List Bool)) (shape : Shape p.globals last C S) (b : Bool) where
-    -- frames that leave where stop is 1, whatever values they have
+    -- frames that leave if stop is 1, whatever values they have
     unwind : (c : ℕ) (L : List Bool) (bs : List Both) (q : ℕ) → At C q true b (frame 0 [] m ∷ [])
         → At C q true b (frame c L done ∷ callers p last bs m)
     unwind c L [] q (k, h) = (suc k, h)
@@ -70,7 +70,7 @@ module _ (setting : Setting) (S : List (List Bool)) (m : Code) (Q : State → Ty
       stops_rest bs leaves a (choose k r x y t) h = stops_at q a _ bs (out true)
       stops_rest bs leaves a (loop k r x t) h = stops_at q a _ bs (out true)
 
-      -- the same of a caller that has got its value
+      -- the same for a caller that has got its value
       stops_caller : (bs : List Both) → ((a : Activation) → Good p last (both a done) → At C q false b (top p last a done bs m))
           → (a : Activation) (o : Option Place) (rest : Code) → Good p last (both a rest)
           → At C q false b (top p last a (behind p last a.own o (put_rest p last a.own rest)) bs m)
@@ -109,7 +109,7 @@ module _ (setting : Setting) (S : List (List Bool)) (m : Code) (Q : State → Ty
         prologue_rises w small (site p last C S shape a bs m) Q q b t (omega arith)
         (catch_up d (suc q) r (omega arith) within a t bs h)
 
-    -- behind the prologue, with the round's bits
+    -- after the prologue, with the round's bits
     go_in : (q r : ℕ) → q ≤ r → r ≤ last → (a : Activation) (t : Code) (bs : List Both) → At C r false b (top p last a t bs m)
         → At C q false b (top p last a (prologue (places p.globals last a.own) last plain t) bs m)
     go_in q r le within a t bs h =
@@ -127,7 +127,7 @@ module _ (setting : Setting) (S : List (List Bool)) (m : Code) (Q : State → Ty
     abbrev now_at : (g : List Bool) → length g ≡ p.globals → Moment p.globals last
     now_at g eg = moment (reseat r g eg) b
 
-    -- where a row's run may go on
+    -- where a row's run may continue
     abbrev pub Onward : List Bool → List Frame → Type 0
     Onward h mid = (q : ℕ) → q ≤ length r.pre → (bs : List Both) → GoodStack p last bs → map source bs ≡ mid
         → length h ≡ p.globals
@@ -140,7 +140,7 @@ module _ (setting : Setting) (S : List (List Bool)) (m : Code) (Q : State → Ty
         → AfterSteps p k (state g (map source bs)) (λ u. u ≡ state h mid) → At (rows g) q false b (stack p last bs m)
 
     module _ (k : ℕ) (h' : List Bool) (mid : List Frame) (rec : RecRow k h' mid) where
-      -- a step behind the prologue, and then the k steps
+      -- a step after the prologue, and then the k steps
       busy : (g : List Bool) → (eg : length g ≡ p.globals) → (a : Activation) (rest : Code) (bs : List Both)
           → Good p last (both a rest) → AllGood p last bs
           → put_rest p last a.own rest ≡ prologue (places p.globals last a.own) last plain (inner p last a.own rest)
@@ -156,7 +156,7 @@ module _ (setting : Setting) (S : List (List Bool)) (m : Code) (Q : State → Ty
           (sym (row_middle r.pre g post)) steps)
 
       module _ (g : List Bool) (eg : length g ≡ p.globals) (q : ℕ) (le : q ≤ length r.pre) where
-        -- the globals where the round's bits lag behind
+        -- the globals when the round's bits lag behind
         abbrev lower : Moment p.globals last
         lower = record {
           C = rows g;
@@ -172,7 +172,7 @@ module _ (setting : Setting) (S : List (List Bool)) (m : Code) (Q : State → Ty
           abbrev result : Bool
           result = bit a.more 0
 
-          -- what a finished frame's going leads to, and then the k steps
+          -- what the removal of a finished frame leads to, and then the k steps
           given_steps : (d : Both) → Good p last d
               → StepsTo p (state g (map source (both a done ∷ d ∷ bs))) (λ t. AfterSteps p k t (λ u. u ≡ state h' mid))
               → AfterSteps p k
@@ -294,7 +294,7 @@ module _ (setting : Setting) (S : List (List Bool)) (m : Code) (Q : State → Ty
     fail_inner g eg a (choose d v x y t) bs good f out = absurd f
     fail_inner g eg a (loop d v x t) bs good f out = absurd f
 
-    -- the same where the round's bits lag behind
+    -- the same when the round's bits lag behind
     fail_top : (g : List Bool) → (eg : length g ≡ p.globals) → (q : ℕ) → q ≤ length r.pre
         → (a : Activation) (rest : Code) (bs : List Both) → Good p last (both a rest)
         → Fails (state g (map source (both a rest ∷ bs)))
@@ -316,7 +316,7 @@ module _ (setting : Setting) (S : List (List Bool)) (m : Code) (Q : State → Ty
     fail_waiting g eg q le a None rest bs e good f out = fail_top g eg q le a rest bs good f out
     fail_waiting g eg q le a (Some x) rest bs e good f out = cc
 
-    -- the same of a stack
+    -- the same for a stack
     pub fail_on : (g : List Bool) → (eg : length g ≡ p.globals) → (q : ℕ) → q ≤ length r.pre → (bs : List Both)
         → GoodStack p last bs
         → Fails (state g (map source bs)) → At (rows g) (length r.pre) true true (frame 0 [] m ∷ [])

@@ -1,4 +1,4 @@
--- Nobody calls the first procedure of a rewritten program, so it is entered once, with every value 0.
+-- No procedure calls the first procedure of a rewritten program, so it is entered once, with every value 0.
 use Rattle.std.proofs.Common.{◌≡◌, ℕ, zero, suc, ◌+◌, Bool, true, false, cond, List, [], ◌∷◌, map, Option, Some, None}
 use Rattle.std.proofs.Common.{slice_get, refl, sym, ◌∙◌, subst}
 use Rattle.language.specs.Tree.{var, RightSide, Simple, skip, assign, assert, assume, goto, leave, call, leave_with, call_for, Mark, done}
@@ -195,7 +195,7 @@ module _ (p : Program) (bodies : (c : ℕ) → RoutineAway (slice_get p.routines
       let (t, run, ht) = step_away s (λ t. AfterSteps p n t (λ v. v ≡ u)) h a in
       run_away n t u ht run
 
--- nobody asks for the first procedure
+-- no procedure asks for the first procedure
 pub never_asked : (last : ℕ) (p : Program) (c : ℕ) (a : Valuation) → Asks (in_text_order (rewritten_program last p)) c 0 a → ⊥
 never_asked last p c a (g, l, rest, fs, (n, run), calls) =
     let main_away : Away (numbered 1 (main (places p.globals last 0) last (all_globals p.globals) p.threads)) =

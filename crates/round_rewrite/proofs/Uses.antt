@@ -1,5 +1,5 @@
--- Which variables the parts of the rewritten statements use, where D is to hold of each of them and S holds of those of
--- the source.
+-- Which variables the parts of the rewritten statements use, where D is to hold for each of them and S holds for
+-- those of the source.
 use Rattle.std.proofs.Common.{◌≡◌, ℕ, zero, suc, ◌+◌, ◌/◌, ◌%◌, ◌≤◌, ◌<◌, true, false, cond, not, List, []}
 use Rattle.std.proofs.Common.{◌∷◌, ◌++◌, Some, length, map, reverse, codes, refl, sym, ◌∙◌, ap, subst, ap₂, arith}
 use Rattle.std.proofs.Common.{length-append}
@@ -17,7 +17,7 @@ use Rattle.round_rewrite.specs.Names.{named, bit_names, copy_name, drawn_name, n
 use Rattle.round_rewrite.proofs.Counting.{reverse_first}
 use Rattle.round_rewrite.proofs.Resolved.{by_test}
 
--- what holds of each of two lists holds of each of both
+-- what holds for each of two lists holds for each of both
 pub each_both : {X : Type 0} (P : X → Type 0) (xs ys : List X) → Each P xs → Each P ys → Each P (xs ++ ys)
 each_both P [] ys h g = g
 each_both P (x ∷ xs) ys h g = (h.0, each_both P xs ys h.1 g)
@@ -35,7 +35,7 @@ pub any_uses : {X : Type 0} (D : Name → Type 0) (xs : List X) → Each D (vari
 any_uses D [] = tt
 any_uses D (x ∷ xs) = any_uses D xs
 
--- what holds of each name that is written holds of each in the list of them
+-- what holds for each name that is written holds for each in the list of them
 pub written_each : {X : Type 0} (D : Name → Type 0) (P : X → Type 0) (f : X → Name) (xs : List X) → ((x : X) → P x → D (f x))
     → Each P xs
     → Each D (map f xs)
@@ -152,7 +152,8 @@ sides_even own last j (x ∷ xs) (value v ∷ rs) =
     (sides_even own last j xs rs)
     ∙ sym (length-append there (sides N last j xs rs)))))
 
--- D holds of the names of the bits, of `stop__` and `bad__`, of the copies of globals, of locals and of temporaries
+-- D holds for the names of the bits, of `stop__` and `bad__`, of the copies of globals, of locals and of
+-- temporaries
 pub record Held (own : List Name) (last d : ℕ) (D S : Name → Type 0) : Type 0 where
   pub bits : Each D (bit_names (round_bits last))
   pub stop : D (named (codes "stop__"))
@@ -284,7 +285,7 @@ module _ (own : List Name) (last d : ℕ) (D S : Name → Type 0) (held : Held o
       let more : 1 ≤ d = subst (λ c. cond (not c) 1 0 ≤ d) e room in
       subst (λ c. D (cond (not c) (drawn_name 0) x)) (sym e) (held.drawn 0 (omega arith)))
 
-  -- a property of what stands behind the call, from that of the write to the copies, where a global gets the value
+  -- a property of what comes after the call, from that of the write to the copies, if a global gets the value
   pub landing_has : (P : Block Name Name Name → Type 0) (x : Name) (k : Block Name Name Name) → S x
       → takes (names own).is_shared (Some x) ≤ d → P k
       → ((xs : List Name) (rs : List (RightSide Name)) → 0 < length xs → length xs ≡ length rs → Each D xs

@@ -66,7 +66,7 @@ module _ (t : Tree) (last n : ℕ) (is : global_count (length t.globals) last �
       ap (λ b. 0 + cond b 1 0)
       (gives_main Name (names []) last t.globals (map (λ (line : ThreadLine). line.name) t.threads))
 
-  -- the program is narrow where the globals are at most 64 and each procedure of the source is when it is rewritten
+  -- the program is narrow if the globals are at most 64 and each procedure of the source is when it is rewritten
   pub narrow : n ≤ most_places → AreNarrow last t t.procedures → IsNarrow last t
   narrow few e =
       let w = wide in
@@ -93,7 +93,7 @@ module _ (t : Tree) (last n : ℕ) (is : global_count (length t.globals) last �
   narrow_more (x ∷ ss) zero s lt is e h = (subst (λ y. rewritten_width last t (proc_of y) ≤ most_places) is h, tt)
   narrow_more (x ∷ ss) (suc i) s lt is e h = (e.0, narrow_more ss i s (omega arith) is e.1 h)
 
-  -- a procedure that is too wide is none of those that are narrow
+  -- a procedure that is too wide is not one of those that are narrow
   pub wide_stands : (ps : List Procedure) (i : ℕ) (p : Procedure) → slice_get ps i ≡ Some p →
       most_places < rewritten_width last t p →
       AreNarrow last t ps → ⊥

@@ -64,7 +64,7 @@ temporary_declared (suc e) j (suc d) lt =
     (subst (λ k. is_declared (drawn_name k).text (map drawn_name (numbers (suc j) d)) ≡ true) z
     (temporary_declared e (suc j) d (omega arith)))
 
--- what holds of each statement of two blocks holds of each of both joined
+-- what holds for each statement of two blocks holds for each of both joined
 each_join : (P : Statement → Type 0) (a b : Block Name Name Name) → Each P (statements_of a) → Each P (statements_of b)
     → Each P (statements_of (join a b))
 each_join P done b h g = g

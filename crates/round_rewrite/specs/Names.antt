@@ -7,7 +7,7 @@ use Rattle.language.specs.Step.{Program}
 use Rattle.round_rewrite.specs.Limits.{last_of, round_bits}
 use Rattle.round_rewrite.specs.Table.{Naming, numbers, temporaries, rewritten, main, globals}
 
--- a name that stands in no text
+-- a name that occurs in no text
 abbrev pub named : List ℕ → Name
 named text = record { text = text; at = 0 }
 
@@ -47,7 +47,7 @@ names own = record {
   called = λ p. p;
 }
 
--- a procedure rewritten: its temporaries stand after its locals
+-- a procedure rewritten: its temporaries come after its locals
 abbrev pub rewritten_procedure : ℕ → Procedure → Procedure
 rewritten_procedure last procedure =
     let own = procedure.formals ++ procedure.locals in

@@ -24,13 +24,13 @@ abbrev pub AreNarrow : ℕ → Tree → List Procedure → Type 0
 AreNarrow last tree = EachProcedure (λ (p : Procedure). rewritten_width last tree p ≤ most_places)
 
 -- The first procedure of the source that has more than 128 places in the rewritten tree, with the offset of its name
--- and its places; none where all have at most 128.
+-- and its places; none if all have at most 128.
 abbrev pub IsFirstWide : ℕ → Tree → Option Wide → Type 0
 IsFirstWide last tree None = AreNarrow last tree tree.procedures
 IsFirstWide last tree (Some wide) =
     (i : ℕ) × (p : Procedure) × (slice_get tree.procedures i ≡ Some p) × (p.name.at ≡ wide.at)
     × (wide.places ≡ rewritten_width last tree p) × (most_places < wide.places) × AreNarrow last tree (take i tree.procedures)
 
--- the same of the tree rewritten for K rounds
+-- the same for the tree rewritten for K rounds
 abbrev pub IsFirstWideFor : ℕ → Tree → Option Wide → Type 0
 IsFirstWideFor rounds tree wide = IsFirstWide (last_of rounds) tree wide

@@ -10,12 +10,12 @@ abbrev pub is_global : Place → Bool
 is_global (global i) = true
 is_global (local i) = false
 
--- where the copies for a round stand, for this number of globals
+-- where the copies for a round are, for this number of globals
 abbrev pub copy_at : ℕ → ℕ → Place → Place
 copy_at globals round (global i) = global (round * globals + i)
 copy_at globals round (local i) = local i
 
--- where the guesses saved for a round stand, behind the copies for all rounds
+-- where the guesses saved for a round are, after the copies for all rounds
 abbrev pub save_at : ℕ → ℕ → ℕ → Place → Place
 save_at globals last zero place = place
 save_at globals last (suc round) (global i) = global (suc last * globals + (round * globals + i))
@@ -25,13 +25,13 @@ save_at globals last (suc round) (local i) = local i
 abbrev pub bits_at : ℕ → ℕ → ℕ
 bits_at globals last = suc last * globals + last * globals
 
--- behind them stand the bits of the round, the highest first: a given number from a place on, as a list with the low
+-- after them come the bits of the round, the highest first: a given number from a place on, as a list with the low
 -- bit first
 abbrev pub bits_from : ℕ → ℕ → List Place
 bits_from at zero = []
 bits_from at (suc count) = global (at + count) ∷ bits_from at count
 
--- behind the bits stand stop and bad
+-- after the bits come stop and bad
 abbrev pub stop_at : ℕ → ℕ → ℕ
 stop_at globals last = bits_at globals last + round_bits last
 

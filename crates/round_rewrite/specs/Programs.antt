@@ -1,4 +1,4 @@
--- What callers see of a number of rounds, and of the fault that stands in place of a rewritten program.
+-- What callers see of a number of rounds, and of the fault that is returned instead of a rewritten program.
 use Rattle.std.specs.Prelude.{ℕ, suc, ◌≡◌, ◌⊎◌}
 use Rattle.language.specs.Tree.{Tree}
 use Rattle.round_rewrite.specs.Narrow.{IsNarrowFor}
@@ -10,7 +10,7 @@ use Rattle.round_rewrite.specs.declared.rounds.Rounds.{Rounds}
 abbrev pub count_of : Rounds → ℕ
 count_of rounds = suc rounds.last
 
--- The fault that is answered for a tree: its rewriting for K rounds is too wide, and then it is, or memory ran
+-- The fault that is returned for a tree: its rewriting for K rounds is too wide, and then it is, or memory ran
 -- out, and then it is not.
 abbrev pub IsFaultOf : ℕ → Tree → RewriteFault → Type 0
 IsFaultOf rounds tree answer =

@@ -63,7 +63,7 @@ draws is_shared (x ∷ xs) [] = 0
 draws is_shared (x ∷ xs) (any ∷ rs) = cond (is_shared x) (suc (draws is_shared xs rs)) (draws is_shared xs rs)
 draws is_shared (x ∷ xs) (value operand ∷ rs) = draws is_shared xs rs
 
--- how many temporaries the value of a call takes: one where a global gets it
+-- how many temporaries the value of a call takes: one if a global gets it
 abbrev pub takes : {V : Type 0} → (V → Bool) → Option V → ℕ
 takes is_shared None = 0
 takes is_shared (Some x) = cond (is_shared x) 1 0
@@ -85,7 +85,7 @@ module _ {V W P Q : Type 0} (naming : Naming V W P Q) (last : ℕ) where
   abbrev pub in_round : ℕ → Expression W
   in_round round = has_value round (naming.bits last)
 
-  -- the copy of a variable for the round, where the round is at most this one
+  -- the copy of a variable for the round, if the round is at most this one
   abbrev pub joined : ℕ → V → Expression W
   joined zero variable = two and (in_round 0) (var (naming.copy 0 variable))
   joined (suc round) variable = two or (joined round variable) (two and (in_round (suc round)) (var (naming.copy (suc round) variable)))
@@ -94,14 +94,14 @@ module _ {V W P Q : Type 0} (naming : Naming V W P Q) (last : ℕ) where
   abbrev pub read : V → Expression W
   read variable = cond (naming.is_shared variable) (joined last variable) (var (naming.kept variable))
 
-  -- an expression, with each read put so
+  -- an expression, with each read rewritten in this way
   abbrev pub expression : Expression V → Expression W
   expression (const truth) = const truth
   expression (var variable) = read variable
   expression (negation operand) = negation (expression operand)
   expression (two operator left right) = two operator (expression left) (expression right)
 
-  -- a right side, with each read put so
+  -- a right side, with each read rewritten in this way
   abbrev pub side : RightSide V → RightSide W
   side any = any
   side (value operand) = value (expression operand)
@@ -147,31 +147,31 @@ module _ {V W P Q : Type 0} (naming : Naming V W P Q) (last : ℕ) where
     drawing (suc n) rest =
         one plain (assign (map naming.drawn (numbers 0 (suc n))) (each any (numbers 0 (suc n)))) rest
 
-    -- go on where `stop` is 0, else leave
+    -- continue if `stop` is 0, otherwise leave
     abbrev pub stop_test : Block W Q L → Block W Q L
     stop_test rest = choose plain (value (var naming.stop)) (one plain leave done) (one plain skip done) rest
 
-    -- the body of the prologue's loop: on to the next round, where there is one
+    -- the body of the prologue's loop: on to the next round, if there is one
     abbrev pub rise : Block W Q L
     rise =
         one plain (assume (value (negation (in_round last))))
         (one plain (assign (reverse (naming.bits last)) (reverse (raised (naming.bits last)))) done)
 
-    -- the prologue: rise by any number of rounds, stop or not, and leave where `stop` is 1
+    -- the prologue: rise by any number of rounds, stop or not, and leave if `stop` is 1
     abbrev pub prologue : Mark L → Block W Q L → Block W Q L
     prologue mark rest =
         loop mark any rise
         (choose plain any (one plain (assign (naming.stop ∷ []) (value (const true) ∷ [])) done) (one plain skip done)
         (stop_test rest))
 
-    -- Behind the call whose value a global gets: in a round that may be a later one, the global gets what the call
+    -- After the call whose value a global gets: in a round that may be a later one, the global gets what the call
     -- has left in the first temporary.
     abbrev pub received : V → Block W Q L → Block W Q L
     received x rest =
         prologue plain
         (one plain (assign (map (λ k. naming.copy k x) rounds) (map (written (var (naming.drawn 0)) x) rounds)) rest)
 
-    -- a statement that holds no others, behind its prologue
+    -- a statement that holds no others, after its prologue
     abbrev pub statement : Simple V P L → Block W Q L → Block W Q L
     statement skip rest = one plain skip rest
     statement (assign xs rs) rest = drawing (draws naming.is_shared xs rs) (one plain (assign (targets xs rs) (sides 0 xs rs)) rest)

@@ -1,4 +1,4 @@
--- What a writer stands for, and what it is to put statements behind others.
+-- What a writer stands for, and what it means to append statements to others.
 use Rattle.std.specs.Prelude.{◌≡◌, ◌≤◌, ◌+◌, ℕ, zero, suc, length, Bool, max, cond, true, List, [], ◌∷◌}
 use Rattle.std.specs.Prelude.{◌++◌, map, codes}
 use Rattle.language.specs.Tree as tree
@@ -21,7 +21,7 @@ naming_of writer = names (names_of writer.formals.now ++ names_of writer.locals.
 abbrev pub TextBlock : Type 0
 TextBlock = Block tree.Name tree.Name tree.Name
 
--- Statements have been put behind those that stood there: with any others behind them, they read as `form` does
+-- Statements have been appended to those that stood there: with any others after them, they read as `form` does
 -- with the others.
 abbrev pub Lays : {A : Type 0} → List (Stmt A) → List (Stmt A) → (TextBlock → TextBlock) → Type 0
 Lays old new form = (rest : TextBlock) → all_before (items_of new) rest ≡ all_before (items_of old) (form rest)
@@ -30,7 +30,7 @@ Lays old new form = (rest : TextBlock) → all_before (items_of new) rest ≡ al
 abbrev pub line_names : List tree.ThreadLine → List tree.Name
 line_names ts = map (λ (line : tree.ThreadLine). line.name) ts
 
--- what is carried out of the bits of the round up to this one where 1 is added
+-- what is carried out of the bits of the round up to this one if 1 is added
 abbrev pub carried : ℕ → tree.Expression tree.Name
 carried zero = var (bit_name 0)
 carried (suc number) = two and (var (bit_name (suc number))) (carried number)

@@ -69,7 +69,7 @@ impl<'a, N: Allocator, A: Allocator + Copy> Writer<'a, N, A> {
         }
     }
 
-    /// Puts the copies of a global for each round behind targets.
+    /// Appends the copies of a global for each round to targets.
     #[tactic(auto, using(crate::proofs::Pushed::pushed))]
     pub fn copies(&self, x: &Name<N>, into: &mut Vec<Name<A>, A>) -> Result<(), AllocError>
         ensures { IfOk result
@@ -83,7 +83,7 @@ impl<'a, N: Allocator, A: Allocator + Copy> Writer<'a, N, A> {
         Ok(())
     }
 
-    /// Puts the targets of an assignment behind others: all copies of a global, a local itself.
+    /// Appends the targets of an assignment to others: all copies of a global, a local itself.
     pub fn targets(
         &self,
         xs: &[Name<N>],
@@ -110,7 +110,7 @@ impl<'a, N: Allocator, A: Allocator + Copy> Writer<'a, N, A> {
         }
     }
 
-    /// Puts what the copies of a global get, where the global gets a temporary, behind right sides.
+    /// Appends what the copies of a global get, if the global gets a temporary, to right sides.
     #[tactic(auto, using(crate::proofs::Pushed::pushed))]
     pub fn drawn_sides(
         &self,
@@ -131,7 +131,7 @@ impl<'a, N: Allocator, A: Allocator + Copy> Writer<'a, N, A> {
         Ok(())
     }
 
-    /// Puts what the copies of a global get, where the global gets an expression, behind right sides.
+    /// Appends what the copies of a global get, if the global gets an expression, to right sides.
     #[tactic(auto, using(crate::proofs::Pushed::pushed))]
     fn value_sides(
         &self,
@@ -151,7 +151,7 @@ impl<'a, N: Allocator, A: Allocator + Copy> Writer<'a, N, A> {
         Ok(())
     }
 
-    /// Puts the right sides of an assignment behind others; the first temporary that is free has this number.
+    /// Appends the right sides of an assignment to others; the first temporary that is free has this number.
     pub fn sides(
         &self,
         number: usize,

@@ -1,4 +1,4 @@
-//! Statements put behind others.
+//! Statements appended to others.
 
 ghost use Rattle.std.specs.Prelude.{◌≡◌, IfOk, option_map};
 ghost use Rattle.language.specs.Tree.{done};
@@ -9,7 +9,7 @@ ghost use Rattle.round_rewrite.specs.Table.{plain};
 use std::alloc::{AllocError, Allocator};
 use trees::{Core, Name, Stmt};
 
-/// Puts a statement behind others.
+/// Appends a statement to others.
 #[tactic(auto, using(crate::proofs::Laying::lays_pushed))]
 pub fn push_marked<A: Allocator>(
     label: Option<Name<A>>,
@@ -25,7 +25,7 @@ pub fn push_marked<A: Allocator>(
     Ok(())
 }
 
-/// Puts a statement without a label behind others.
+/// Appends a statement without a label to others.
 pub fn push<A: Allocator>(core: Core<A>, into: &mut Vec<Stmt<A>, A>) -> Result<(), AllocError>
     ensures { IfOk result
         (λ _. Lays into.old.items into.new.items (λ k. marked_before plain (deed_of core) k)) }

@@ -22,7 +22,7 @@ pub fn constant<A: Allocator>(bit: bool) -> Rhs<A>
     Rhs::Value(Expr::Const(bit))
 }
 
-/// Puts a name that stands in no text behind others.
+/// Appends a name that occurs in no text to others.
 pub fn push_name<A: Allocator + Copy>(
     alloc: &A,
     text: &str,
@@ -35,7 +35,7 @@ pub fn push_name<A: Allocator + Copy>(
     Ok(list)
 }
 
-/// Puts a right side behind others.
+/// Appends a right side to others.
 fn push_side<A: Allocator>(side: Rhs<A>, into: Vec<Rhs<A>, A>) -> Result<Vec<Rhs<A>, A>, AllocError>
     ensures { IfOk result (λ v. rhss_of v.items ≡ rhss_of into.items ++ rhs_of side ∷ []) }
 {
@@ -44,7 +44,7 @@ fn push_side<A: Allocator>(side: Rhs<A>, into: Vec<Rhs<A>, A>) -> Result<Vec<Rhs
     Ok(list)
 }
 
-/// That a variable gets 1.
+/// The assignment of 1 to a variable.
 fn set<A: Allocator + Copy>(alloc: &A, text: &str) -> Result<Core<A>, AllocError>
     ensures { IfOk result
         (λ c. deed_of c ≡ simple (assign (named text.now ∷ []) (value (const true) ∷ []))) }
@@ -54,7 +54,7 @@ fn set<A: Allocator + Copy>(alloc: &A, text: &str) -> Result<Core<A>, AllocError
     Ok(Core::Assign(targets, sides))
 }
 
-/// That two variables get 1.
+/// The assignment of 1 to two variables.
 fn set_both<A: Allocator + Copy>(
     alloc: &A,
     first: &str,
@@ -91,7 +91,7 @@ pub fn stop_choice<A: Allocator + Copy>(alloc: &A) -> Result<Core<A>, AllocError
     Ok(Core::If(Rhs::Any, yes, no))
 }
 
-/// What an assert becomes: where its right side is 0, `bad__` and `stop__` are raised, and the procedure is left.
+/// What an assert becomes: if its right side is 0, `bad__` and `stop__` are raised, and the procedure is left.
 pub fn checked<A: Allocator + Copy>(alloc: &A, side: Rhs<A>) -> Result<Core<A>, AllocError>
     ensures { IfOk result (λ c. deed_of c ≡ failing (rhs_of side)) }
 {
@@ -102,7 +102,7 @@ pub fn checked<A: Allocator + Copy>(alloc: &A, side: Rhs<A>) -> Result<Core<A>, 
     Ok(Core::If(side, yes, no))
 }
 
-/// Puts the `count` lowest variables of the round's number behind others, the highest bit first.
+/// Appends the `count` lowest variables of the round's number to others, the highest bit first.
 pub fn push_bits<A: Allocator + Copy>(
     alloc: &A,
     count: u8,
@@ -118,7 +118,7 @@ pub fn push_bits<A: Allocator + Copy>(
     Ok(list)
 }
 
-/// What is carried out of the bits of the round's number up to this one where 1 is added.
+/// What is carried out of the bits of the round's number up to this one if 1 is added.
 fn carry<A: Allocator + Copy>(alloc: &A, number: u8) -> Result<Expr<A>, AllocError>
     ensures { IfOk result (λ e. expr_of e ≡ carried number) }
 {
@@ -142,7 +142,7 @@ fn next_bit<A: Allocator + Copy>(alloc: &A, number: u8) -> Result<Expr<A>, Alloc
     operation(alloc, Op::Xor, bit, below)
 }
 
-/// So many bits of the next round's number, the highest bit first.
+/// A given number of bits of the next round's number, the highest bit first.
 fn next_bits<A: Allocator + Copy>(alloc: &A, count: u8) -> Result<Vec<Rhs<A>, A>, AllocError>
     ensures { IfOk result (λ v. rhss_of v.items ≡ reverse (raised (bit_names count))) }
 {
@@ -156,7 +156,7 @@ fn next_bits<A: Allocator + Copy>(alloc: &A, count: u8) -> Result<Vec<Rhs<A>, A>
 impl<'a, N: Allocator, A: Allocator + Copy> Writer<'a, N, A> {
     ghost use Rattle.round_rewrite.specs.Writing.{naming_of};
 
-    /// That the round's number grows by 1.
+    /// The assignment that raises the round's number by 1.
     fn next_round(&self) -> Result<Core<A>, AllocError>
         ensures { IfOk result (λ c. deed_of c
             ≡ simple
@@ -169,7 +169,7 @@ impl<'a, N: Allocator, A: Allocator + Copy> Writer<'a, N, A> {
         Ok(Core::Assign(targets, sides))
     }
 
-    /// That there is a next round.
+    /// The `assume` that there is a next round.
     fn not_last(&self) -> Result<Core<A>, AllocError>
         ensures { IfOk result
             (λ c. deed_of c ≡ simple (assume (value (negation

@@ -76,7 +76,7 @@ pub fn operation<A: Allocator + Copy>(
     Ok(Expr::Two(op, left, right))
 }
 
-/// That a bit of the round's number has this value: itself where that is 1, its negation where it is 0.
+/// The test that a bit of the round's number has this value: itself if that is 1, its negation if it is 0.
 fn literal<A: Allocator + Copy>(alloc: &A, value: u8, number: u8) -> Result<Expr<A>, AllocError>
     ensures { IfOk result (λ e. expr_of e ≡ literal value (bit_name number)) }
 {
@@ -88,7 +88,7 @@ fn literal<A: Allocator + Copy>(alloc: &A, value: u8, number: u8) -> Result<Expr
     }
 }
 
-/// That the bits of the round's number from `number` to `above` places higher have this value.
+/// The test that the bits of the round's number from `number` to `above` places higher have this value.
 fn has_value<A: Allocator + Copy>(
     alloc: &A,
     value: u8,
@@ -118,7 +118,7 @@ impl<'a, N: Allocator, A: Allocator + Copy> Writer<'a, N, A> {
         !declares(self.formals, text) && !declares(self.locals, text)
     }
 
-    /// That the round is `round`.
+    /// The test that the round is `round`.
     pub fn at(&self, round: u8) -> Result<Expr<A>, AllocError>
         ensures { IfOk result
             (λ e. expr_of e ≡ in_round (naming_of self.now) self.now.rounds.last round) }
@@ -126,7 +126,7 @@ impl<'a, N: Allocator, A: Allocator + Copy> Writer<'a, N, A> {
         has_value(self.alloc, round, 0, self.rounds.bits() - 1)
     }
 
-    /// The copy of a global for the round, where the round is this one.
+    /// The copy of a global for the round, if the round is this one.
     fn active(&self, round: u8, x: &Name<N>) -> Result<Expr<A>, AllocError>
         requires { round < most_rounds }
         ensures { IfOk result (λ e. expr_of e ≡ two Rattle.language.specs.Tree.and
@@ -168,7 +168,7 @@ impl<'a, N: Allocator, A: Allocator + Copy> Writer<'a, N, A> {
         }
     }
 
-    /// An expression, with each read of a global put so.
+    /// An expression, with each read of a global rewritten in this way.
     pub fn expression(&self, e: &Expr<N>) -> Result<Expr<A>, AllocError>
         ensures { IfOk result
             (λ r. expr_of r
@@ -189,7 +189,7 @@ impl<'a, N: Allocator, A: Allocator + Copy> Writer<'a, N, A> {
         }
     }
 
-    /// A right side, with each read of a global put so.
+    /// A right side, with each read of a global rewritten in this way.
     pub fn side(&self, r: &Rhs<N>) -> Result<Rhs<A>, AllocError>
         ensures { IfOk result
             (λ s. rhs_of s ≡ side (naming_of self.now) self.now.rounds.last (rhs_of r.now)) }
@@ -200,7 +200,7 @@ impl<'a, N: Allocator, A: Allocator + Copy> Writer<'a, N, A> {
         }
     }
 
-    /// Arguments, with each read of a global put so.
+    /// Arguments, with each read of a global rewritten in this way.
     pub fn arguments(&self, es: &[Expr<N>]) -> Result<Vec<Expr<A>, A>, AllocError>
         ensures { IfOk result
             (λ v. exprs_of v.items ≡ map (expression (naming_of self.now) self.now.rounds.last)
@@ -213,7 +213,7 @@ impl<'a, N: Allocator, A: Allocator + Copy> Writer<'a, N, A> {
         Ok(list)
     }
 
-    /// The copy of a global for a round, where the round is another one.
+    /// The copy of a global for a round, if the round is another one.
     fn kept(&self, x: &Name<N>, round: u8) -> Result<Expr<A>, AllocError>
         requires { round < most_rounds }
         ensures { IfOk result
@@ -227,7 +227,7 @@ impl<'a, N: Allocator, A: Allocator + Copy> Writer<'a, N, A> {
         operation(self.alloc, Op::And, other, copy)
     }
 
-    /// What the copy of a global for a round gets where the global gets `value`: in that round the value, in every
+    /// What the copy of a global for a round gets if the global gets `value`: in that round the value, in every
     /// other its own.
     pub fn written(&self, value: Expr<A>, x: &Name<N>, round: u8) -> Result<Rhs<A>, AllocError>
         requires { round < most_rounds }

@@ -10,7 +10,7 @@ pub enum RewriteFault {
     /// temporaries and the result.
     #[error("14 too wide")]
     TooWide,
-    /// A growth was refused.
+    /// An allocation was refused.
     #[error("15 memory")]
     Memory,
 }

@@ -11,7 +11,7 @@ use crate::rounds::Rounds;
 use std::alloc::{AllocError, Allocator};
 use trees::Name;
 
-/// Puts the copies of the globals for every round behind names.
+/// Appends the copies of the globals for every round to names.
 fn all_copies<N: Allocator, A: Allocator + Copy>(
     alloc: &A,
     rounds: Rounds,
@@ -29,7 +29,7 @@ fn all_copies<N: Allocator, A: Allocator + Copy>(
     Ok(list)
 }
 
-/// Puts the guesses that are saved for every round from the second on behind names.
+/// Appends the guesses that are saved for every round from the second on to names.
 fn all_saves<N: Allocator, A: Allocator + Copy>(
     alloc: &A,
     rounds: Rounds,

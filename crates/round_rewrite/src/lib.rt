@@ -42,16 +42,16 @@ pub use rounds::Rounds;
 pub use width::{Wide, too_wide};
 
 /// The rewriting theorem, over the names that are printed: for 1 to 8 rounds, a tree whose names are declared, and
-/// widths of at most 128, some run within the rounds fails an assert exactly where `main__` of the rewritten tree can
-/// end with `bad__` being 1.
+/// widths of at most 128, some run within the rounds fails an assert if and only if `main__` of the rewritten tree
+/// can end with `bad__` being 1.
 pub fn rewriting_keeps_failures()
     ensures { (t : Tree) (rounds : ℕ) → IsRewritable t → IsNarrowFor rounds t → 1 ≤ rounds
         → rounds ≤ most_rounds
         → KeepsTree rounds t }
 {}
 
-/// The same of resolved programs: the rewriting over places keeps exactly the failing asserts, with no
-/// bound on widths.
+/// The same for resolved programs: the rewriting over places keeps exactly the failing asserts, with no bound
+/// on widths.
 pub fn rewriting_keeps_failures_of_resolved_programs()
     ensures { (p : Program) (rounds : ℕ) → FitsScopes p → 1 ≤ rounds → rounds ≤ most_rounds
         → KeepsFailures rounds p }

@@ -13,7 +13,7 @@ use crate::names::{again, numbered};
 use std::alloc::{AllocError, Allocator};
 use trees::{Name, Rhs};
 
-/// Puts names once more behind others.
+/// Appends copies of names to others.
 pub fn all_again<N: Allocator, A: Allocator + Copy>(
     alloc: &A,
     xs: &[Name<N>],
@@ -28,7 +28,7 @@ pub fn all_again<N: Allocator, A: Allocator + Copy>(
     Ok(list)
 }
 
-/// Puts the names with a mark and a round's number behind names.
+/// Appends the names with a mark and a round's number to names.
 fn numbered_all<N: Allocator, A: Allocator + Copy>(
     alloc: &A,
     mark: &str,
@@ -48,7 +48,7 @@ fn numbered_all<N: Allocator, A: Allocator + Copy>(
     Ok(list)
 }
 
-/// Puts the copies of globals for a round behind names.
+/// Appends the copies of globals for a round to names.
 pub fn copies<N: Allocator, A: Allocator + Copy>(
     alloc: &A,
     round: u8,
@@ -62,7 +62,7 @@ pub fn copies<N: Allocator, A: Allocator + Copy>(
     numbered_all(alloc, "__", round, xs, into)
 }
 
-/// Puts the guesses of globals that are saved for a round behind names.
+/// Appends the guesses of globals that are saved for a round to names.
 pub fn saves<N: Allocator, A: Allocator + Copy>(
     alloc: &A,
     round: u8,

@@ -18,7 +18,7 @@ use crate::rounds::Rounds;
 use std::alloc::{AllocError, Allocator};
 use trees::{Core, Name, Op, Rhs, Stmt, Thread};
 
-/// Puts the guess of the globals for one round, saved, behind others.
+/// Appends the guess of the globals for one round, saved, to others.
 fn guess<N: Allocator, A: Allocator + Copy>(
     alloc: &A,
     last: u8,
@@ -42,7 +42,7 @@ fn guess<N: Allocator, A: Allocator + Copy>(
     push(Core::Assign(kept, values), into)
 }
 
-/// Puts the guesses of the globals for every round from the second on behind others.
+/// Appends the guesses of the globals for every round from the second on to others.
 fn guesses<N: Allocator, A: Allocator + Copy>(
     alloc: &A,
     rounds: Rounds,
@@ -58,7 +58,7 @@ fn guesses<N: Allocator, A: Allocator + Copy>(
     Ok(())
 }
 
-/// That the round and `stop__` get 0.
+/// The assignment of 0 to the round and `stop__`.
 fn reset<A: Allocator + Copy>(alloc: &A, rounds: Rounds) -> Result<Core<A>, AllocError>
     ensures { IfOk result (λ c. deed_of c
         ≡ simple (assign (reset_targets (names []) rounds.last)
@@ -70,7 +70,7 @@ fn reset<A: Allocator + Copy>(alloc: &A, rounds: Rounds) -> Result<Core<A>, Allo
     Ok(Core::Assign(targets, sides))
 }
 
-/// Puts the threads, one after the other, behind others.
+/// Appends the threads, one after the other, to others.
 fn starts<N: Allocator, A: Allocator + Copy>(
     alloc: &A,
     rounds: Rounds,
@@ -88,7 +88,7 @@ fn starts<N: Allocator, A: Allocator + Copy>(
     Ok(())
 }
 
-/// That a round's guess of a global is what the round before ended with.
+/// The `assume` that a round's guess of a global is what the round before ended with.
 fn agrees<N: Allocator, A: Allocator + Copy>(
     alloc: &A,
     round: u8,
@@ -106,7 +106,7 @@ fn agrees<N: Allocator, A: Allocator + Copy>(
     Ok(Core::Assume(Rhs::Value(same)))
 }
 
-/// Puts the check that a round ended with the guess for the next one behind others.
+/// Appends the check that a round ended with the guess for the next one to others.
 fn check<N: Allocator, A: Allocator + Copy>(
     alloc: &A,
     last: u8,
@@ -125,7 +125,7 @@ fn check<N: Allocator, A: Allocator + Copy>(
     Ok(())
 }
 
-/// Puts the checks of every round but the last behind others.
+/// Appends the checks of every round but the last to others.
 fn checks<N: Allocator, A: Allocator + Copy>(
     alloc: &A,
     rounds: Rounds,

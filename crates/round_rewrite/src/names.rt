@@ -9,7 +9,7 @@ ghost use Rattle.round_rewrite.specs.Limits.{most_rounds};
 use std::alloc::{AllocError, Allocator};
 use trees::Name;
 
-/// A name that stands in no text.
+/// A name that occurs in no text.
 pub fn fixed<A: Allocator>(alloc: A, text: &str) -> Result<Name<A>, AllocError>
     ensures { IfOk result (λ n. name_of n ≡ named text.now) }
 {
@@ -28,7 +28,7 @@ pub fn bit<A: Allocator>(alloc: A, number: u8) -> Result<Name<A>, AllocError>
     }
 }
 
-/// The name once more.
+/// A copy of the name.
 pub fn again<N: Allocator, A: Allocator>(alloc: A, x: &Name<N>) -> Result<Name<A>, AllocError>
     ensures { IfOk result (λ n. name_of n ≡ name_of x.now) }
 {
@@ -36,7 +36,7 @@ pub fn again<N: Allocator, A: Allocator>(alloc: A, x: &Name<N>) -> Result<Name<A
     Ok(Name { text, at: x.at })
 }
 
-/// The name of a global with a mark and a round's number behind it; the round is counted from 0, the number from 1.
+/// The name of a global with a mark and a round's number after it; the round is counted from 0, the number from 1.
 pub fn numbered<N: Allocator, A: Allocator>(
     alloc: A,
     x: &Name<N>,

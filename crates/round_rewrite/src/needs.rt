@@ -20,7 +20,7 @@ fn larger(a: usize, b: usize) -> usize
 impl<'a, N: Allocator, A: Allocator + Copy> Writer<'a, N, A> {
     ghost use Rattle.round_rewrite.specs.Writing.{naming_of};
 
-    /// How many temporaries the value of a call takes: one where a global gets it.
+    /// How many temporaries the value of a call takes: one if a global gets it.
     fn takes(&self, receiver: Option<&Name<N>>) -> usize
         ensures { result ≡ takes (naming_of self.now).is_shared
             (option_map (λ r. name_of r.now) receiver.entry) }

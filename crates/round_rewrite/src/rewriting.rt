@@ -51,19 +51,20 @@ fn written<N: Allocator, A: Allocator + Copy>(
     })
 }
 
-/// Rewrites a checked program for a number of rounds into a sequential program. `TooWide` comes exactly where some
-/// procedure of it has more than 128 places, and takes no memory; `Memory` where a growth was refused.
+/// Rewrites a checked program for a number of rounds into a sequential program. `TooWide` comes if and only if
+/// some procedure of it has more than 128 places, and takes no memory; `Memory` if an allocation was refused.
 pub fn rewrite<N: Allocator, A: Allocator + Copy>(
     alloc: &A,
     checked: &Checked<N>,
     rounds: Rounds,
 ) -> Result<Sequential<A>, RewriteFault>
-    // What is answered is the program of the table.
+    // What is returned is the program of the table.
     ensures rewritten { IfOk result
         (λ s. sequential_tree s ≡ rewritten_for (count_of rounds) (checked_tree checked.now)) }
-    // The source is unsafe within the rounds exactly where some pair of `main__` of that program has `bad__`.
+    // The source is unsafe within the rounds if and only if some pair of `main__` of that program has
+    // `bad__`.
     ensures keeps { IfOk result (λ s. KeepsTree (count_of rounds) (checked_tree checked.now)) }
-    // It is a tree of the grammar where the source is.
+    // It is a tree of the grammar if the source is.
     ensures grammar { InGrammar (checked_tree checked.now)
         → IfOk result (λ s. InGrammar (sequential_tree s)) }
     // A fault is that the program is too wide, and then it is, or that memory ran out, and then it is not.

@@ -16,7 +16,7 @@ pub struct Rounds {
 impl Rounds {
     ghost use Rattle.round_rewrite.specs.Programs.{count_of};
 
-    /// So many rounds; `None` where there are none, or more than `MOST_ROUNDS`.
+    /// A given number of rounds; `None` if it is 0 or more than `MOST_ROUNDS`.
     pub fn new(rounds: u8) -> Option<Rounds>
         ensures some { IsSome result ↔ (1 ≤ rounds) × (rounds ≤ most_rounds) }
         ensures count { IfSome result (λ r. count_of r ≡ rounds) }

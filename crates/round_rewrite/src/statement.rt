@@ -18,7 +18,7 @@ use trees::{Core, Expr, Name, Rhs, Stmt};
 impl<'a, N: Allocator, A: Allocator + Copy> Writer<'a, N, A> {
     ghost use Rattle.round_rewrite.specs.Writing.{naming_of};
 
-    /// Puts the prologue of a statement with this label and offset behind others.
+    /// Appends the prologue of a statement with this label and offset to others.
     fn prologue(
         &self,
         label: Option<Name<A>>,
@@ -34,7 +34,7 @@ impl<'a, N: Allocator, A: Allocator + Copy> Writer<'a, N, A> {
         push(stop_test(self.alloc)?, into)
     }
 
-    /// Puts the draw of a given number of temporaries, if any, behind others.
+    /// Appends the draw of a given number of temporaries, if any, to others.
     fn drawing(&self, number: usize, into: &mut Vec<Stmt<A>, A>) -> Result<(), AllocError>
         requires { number < 2 ^ 63 }
         ensures { IfOk result (λ _. Lays into.old.items into.new.items
@@ -48,7 +48,7 @@ impl<'a, N: Allocator, A: Allocator + Copy> Writer<'a, N, A> {
         push(Core::Assign(targets, sides), into)
     }
 
-    /// Puts what an assignment is rewritten to behind others.
+    /// Appends the rewriting of an assignment to others.
     fn assignment(
         &self,
         xs: &[Name<N>],
@@ -68,7 +68,7 @@ impl<'a, N: Allocator, A: Allocator + Copy> Writer<'a, N, A> {
         push(Core::Assign(targets, sides), into)
     }
 
-    /// Puts what a call is rewritten to behind others.
+    /// Appends the rewriting of a call to others.
     fn call(
         &self,
         p: &Name<N>,
@@ -86,7 +86,7 @@ impl<'a, N: Allocator, A: Allocator + Copy> Writer<'a, N, A> {
         push(stop_test(self.alloc)?, into)
     }
 
-    /// Puts what a return of a value is rewritten to behind others.
+    /// Appends the rewriting of a return of a value to others.
     fn given(&self, e: &Expr<N>, into: &mut Vec<Stmt<A>, A>) -> Result<(), AllocError>
         ensures { IfOk result (λ _. Lays into.old.items into.new.items
             (λ k.
@@ -108,7 +108,7 @@ impl<'a, N: Allocator, A: Allocator + Copy> Writer<'a, N, A> {
         }
     }
 
-    /// Puts what gives a global the value of a call, behind a prologue of its own, behind others.
+    /// Appends what gives a global the value of a call, after a prologue of its own, to others.
     fn received(&self, x: &Name<N>, into: &mut Vec<Stmt<A>, A>) -> Result<(), AllocError>
         ensures { IfOk result (λ _. Lays into.old.items into.new.items
             (λ k. received (naming_of self.now) self.now.rounds.last (name_of x.now) k)) }
@@ -121,7 +121,7 @@ impl<'a, N: Allocator, A: Allocator + Copy> Writer<'a, N, A> {
         push(Core::Assign(targets, sides), into)
     }
 
-    /// Puts what comes behind the call for a value, where a global gets it, behind others.
+    /// Appends what comes after the call for a value, if a global gets it, to others.
     fn landing(&self, x: &Name<N>, into: &mut Vec<Stmt<A>, A>) -> Result<(), AllocError>
         ensures { IfOk result (λ _. Lays into.old.items into.new.items
             (λ k.
@@ -135,7 +135,7 @@ impl<'a, N: Allocator, A: Allocator + Copy> Writer<'a, N, A> {
         }
     }
 
-    /// Puts what a call for a value is rewritten to behind others.
+    /// Appends the rewriting of a call for a value to others.
     fn call_for(
         &self,
         x: &Name<N>,
@@ -156,7 +156,7 @@ impl<'a, N: Allocator, A: Allocator + Copy> Writer<'a, N, A> {
         self.landing(x, into)
     }
 
-    /// The label once more.
+    /// A copy of the label.
     fn label(&self, label: &Option<Name<N>>) -> Result<Option<Name<A>>, AllocError>
         ensures { IfOk result (λ l. option_map name_of l ≡ option_map name_of label.now) }
     {
@@ -166,7 +166,7 @@ impl<'a, N: Allocator, A: Allocator + Copy> Writer<'a, N, A> {
         }
     }
 
-    /// Puts what statements are rewritten to behind others.
+    /// Appends the rewriting of statements to others.
     #[cycle(rewriting)]
     fn block(&self, stmts: &[Stmt<N>], into: &mut Vec<Stmt<A>, A>) -> Result<(), AllocError>
         ensures { IfOk result (λ _. Lays into.old.items into.new.items
@@ -191,7 +191,7 @@ impl<'a, N: Allocator, A: Allocator + Copy> Writer<'a, N, A> {
         Ok(list)
     }
 
-    /// Puts a `goto` behind others.
+    /// Appends a `goto` to others.
     fn jump(&self, l: &Name<N>, into: &mut Vec<Stmt<A>, A>) -> Result<(), AllocError>
         ensures { IfOk result (λ _. Lays into.old.items into.new.items
             (λ k. statement (naming_of self.now) self.now.rounds.last (goto (name_of l.now)) k)) }
@@ -200,7 +200,7 @@ impl<'a, N: Allocator, A: Allocator + Copy> Writer<'a, N, A> {
         push(Core::Goto(label), into)
     }
 
-    /// Puts what an assert is rewritten to behind others.
+    /// Appends the rewriting of an assert to others.
     fn asserted(&self, r: &Rhs<N>, into: &mut Vec<Stmt<A>, A>) -> Result<(), AllocError>
         ensures { IfOk result (λ _. Lays into.old.items into.new.items
             (λ k. statement (naming_of self.now) self.now.rounds.last (assert (rhs_of r.now)) k)) }
@@ -209,7 +209,7 @@ impl<'a, N: Allocator, A: Allocator + Copy> Writer<'a, N, A> {
         push(core, into)
     }
 
-    /// Puts what an assume is rewritten to behind others.
+    /// Appends the rewriting of an assume to others.
     fn assumed(&self, r: &Rhs<N>, into: &mut Vec<Stmt<A>, A>) -> Result<(), AllocError>
         ensures { IfOk result (λ _. Lays into.old.items into.new.items
             (λ k. statement (naming_of self.now) self.now.rounds.last (assume (rhs_of r.now)) k)) }
@@ -218,7 +218,7 @@ impl<'a, N: Allocator, A: Allocator + Copy> Writer<'a, N, A> {
         push(Core::Assume(test), into)
     }
 
-    /// Puts what an `if` is rewritten to behind others.
+    /// Appends the rewriting of an `if` to others.
     #[cycle(rewriting)]
     fn branch(
         &self,
@@ -237,7 +237,7 @@ impl<'a, N: Allocator, A: Allocator + Copy> Writer<'a, N, A> {
         push(Core::If(test, yes, no), into)
     }
 
-    /// Puts what a `while` is rewritten to behind others.
+    /// Appends the rewriting of a `while` to others.
     #[cycle(rewriting)]
     fn repeat(
         &self,
@@ -256,7 +256,7 @@ impl<'a, N: Allocator, A: Allocator + Copy> Writer<'a, N, A> {
         push(Core::While(test, body), into)
     }
 
-    /// Puts what one statement is rewritten to, without its prologue, behind others.
+    /// Appends the rewriting of one statement, without its prologue, to others.
     #[cycle(rewriting)]
     fn core(&self, core: &Core<N>, into: &mut Vec<Stmt<A>, A>) -> Result<(), AllocError>
         ensures { IfOk result (λ _. Lays into.old.items into.new.items

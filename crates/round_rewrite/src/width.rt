@@ -92,7 +92,7 @@ pub(crate) fn is_narrow<N: Allocator, A: Allocator + Copy>(
 }
 
 /// Which procedure of a checked program is too wide for K rounds: the first, in the order of the source, that has
-/// more than 128 places when it is rewritten. It takes no memory. `rewrite` answers `TooWide` where there is one.
+/// more than 128 places when it is rewritten. It takes no memory. `rewrite` returns `TooWide` if there is one.
 pub fn too_wide<N: Allocator, A: Allocator + Copy>(
     alloc: &A,
     checked: &Checked<N>,

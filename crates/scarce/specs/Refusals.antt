@@ -1,4 +1,4 @@
--- Which allocations are refused. They are numbered from 1, in the order in which they are asked.
+-- Which allocations are refused. They are numbered from 1, in the order in which they are requested.
 use Rattle.std.specs.Prelude.{ℕ, ◌≤◌, ◌<◌}
 use Rattle.scarce.specs.declared.count.Count.{Count}
 use Rattle.scarce.specs.declared.Scarce.{Scarce}
@@ -11,7 +11,7 @@ IsRefused c number = (c.first ≤ number) × (number ≤ c.last)
 abbrev pub HasRefused : Count → ℕ → Type 0
 HasRefused c asked = (number : ℕ) × ((0 < number) × (number ≤ asked) × IsRefused c number)
 
--- This allocator refuses the allocation of this number.
+-- This allocator refuses the allocation with this number.
 abbrev pub RefusesAllocation : {B : Type 0} → Scarce B → ℕ → Type 0
 RefusesAllocation scarce number = IsRefused scarce.count number
 

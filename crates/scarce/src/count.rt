@@ -3,8 +3,8 @@ ghost use Rattle.scarce.specs.Refusals.{IsRefused, HasRefused};
 
 use std::sync::atomic::{AtomicU64, Ordering};
 
-/// How many allocations were asked, and how many blocks are out, and which allocations are refused: those numbered
-/// `first` to `last`, counted from 1.
+/// How many allocations were requested, how many blocks are in use, and which allocations are refused: those
+/// numbered `first` to `last`, counted from 1.
 #[derive(Drop)]
 pub(crate) struct Count {
     asked: AtomicU64,
@@ -48,8 +48,8 @@ impl Count {
     }
 }
 
-/// Counts one more request, and answers whether it is passed on; its block is then out.
-// It has no clause: what a caller has of it then holds whichever way it answers.
+/// Counts one more request, and returns whether it is passed on; its block is then in use.
+// It has no clause: what a caller knows of it then holds whatever it returns.
 pub(crate) fn permits(count: &Count) -> bool {
     let before = count.asked.fetch_add(1, Ordering::SeqCst);
     let is_passed_on = !count.refuses(before.wrapping_add(1));
@@ -59,7 +59,7 @@ pub(crate) fn permits(count: &Count) -> bool {
     is_passed_on
 }
 
-/// Counts a block that comes back.
+/// Counts a block that is given back.
 pub(crate) fn regains(count: &Count) {
     count.out.fetch_sub(1, Ordering::SeqCst);
 }

@@ -1,4 +1,4 @@
-//! An allocator for tests, over another one, that refuses one allocation, or every one from some on.
+//! An allocator for tests, over another one, that refuses one allocation, or every one from some number on.
 #![tactic(auto)]
 
 ghost use Rattle.std.specs.Prelude.{◌≡◌, ℕ, ◌≤◌, ◌<◌, ◌^◌, ◌↔◌};
@@ -9,9 +9,10 @@ mod count;
 use count::{Count, permits, regains};
 use std::alloc::{AllocError, Allocator};
 
-/// An allocator that counts what is asked of it and refuses some of it. What it does not refuse it passes on to `B`.
+/// An allocator that counts what is requested of it and refuses some of it. What it does not refuse it passes on to
+/// `B`.
 ///
-/// Share it by `&`: a `&Scarce<B>` is an allocator, and threads may hold one each where `B` is `Sync`.
+/// Share it by `&`: a `&Scarce<B>` is an allocator, and threads may hold one each if `B` is `Sync`.
 pub struct Scarce<B: Allocator> {
     inner: B,
     count: Count,
@@ -41,13 +42,14 @@ impl<B: Allocator> Scarce<B> {
         }
     }
 
-    /// How many allocations were asked so far, with those that were refused. The growth of a block is one.
+    /// How many allocations were requested so far, including those that were refused. The growth of a block
+    /// counts as one.
     pub fn asked(&self) -> u64 {
         self.count.asked()
     }
 
-    /// How many blocks are out: those of the requests that were passed on, less those that came back. One that `B`
-    /// refuses counts as a block that never comes back.
+    /// How many blocks are in use: those of the requests that were passed on, less those that were given back. A
+    /// request that `B` refuses counts as a block that is never given back.
     pub fn live(&self) -> u64 {
         self.count.out()
     }

@@ -1,4 +1,4 @@
--- The least offset that is answered at the members of a list.
+-- The least offset that is returned for the members of a list.
 use Rattle.std.proofs.Common.{◌≡◌, ℕ, ◌+◌, ◌<◌, ◌≤◌, List, [], ◌∷◌, ◌++◌, length, map}
 use Rattle.std.proofs.Common.{drop, get_or, Option, None, inl, inr, refl, sym, ◌∙◌, ap, subst}
 use Rattle.std.proofs.lemmas.List.{drop_more, drop_all}
@@ -10,7 +10,7 @@ use denote.Ref.{Bor}
 use Rattle.scopes.specs.Find.{AnyOf, Finds, earlier_of, Earliest, EarliestTo}
 use Rattle.scopes.proofs.Found.{either_way, none_after, none_before, both_of, moved, nowhere, same, any_append, any_left, any_right}
 
--- a loop over a list: its begin, one member more, and the end
+-- a loop over a list: its begin, one more member, and the end
 pub begin_list : {X : Type 0} {R : X → Option ℕ → Type 0} {xs : List X} → EarliestTo R xs 0 None
 begin_list {X} {R} {xs} = record { goes = λ r h. subst (λ o. Earliest R xs o) (sym (none_before (λ n. n) r)) h }
 
@@ -30,14 +30,14 @@ end_list {X} {R} xs i a le k =
     subst (λ o. Earliest R xs o) (none_after (λ n. n) a)
     (k.goes None (subst (λ l. Earliest R l None) (sym (drop_all i xs le)) refl))
 
--- where each answer is the least offset in a member, the earliest is the least in any
+-- if each answer is the least offset in a member, the earliest is the least in any
 in_any : {X Y : Type 0} {R : X → Option ℕ → Type 0} (P : Y → ℕ → Type 0) (f : X → Y) (xs : List X) (r : Option ℕ)
     → ((x : X) (a : Option ℕ) → R x a → Finds (λ n. P (f x) n) a) → Earliest R xs r
     → Finds (λ n. AnyOf (λ y. P y n) (map f xs)) r
 in_any P f [] r each h = subst (λ o. Finds (λ n. ⊥) o) (sym h) (nowhere (λ n q. q))
 in_any P f (x ∷ xs) r each (a, b, p, q, e) = both_of a b r e (each x a p) (in_any P f xs b each q)
 
--- what holds at a reference to a member holds of the member
+-- what holds at a reference to a member holds for the member
 shown : {F X T Y : Type 0} (g : Shared F (Bor X × Unit {0}) T) (s : F) (P : Y → ℕ → Type 0) (f : X → Y)
     (mk : Option ℕ → T)
     → ((y : Bor X) (a : Option ℕ) → g.post s (y, tt) (mk a) → Finds (λ n. P (f y.now) n) a)
@@ -65,7 +65,7 @@ pub found_in_ok : {F X Y E : Type 0} (g : Shared F (Bor X × Unit {0}) (Result (
     → IfOk r (λ o. Finds (λ n. AnyOf (λ y. P y n) (map f xs)) o)
 found_in_ok g s P f xs r each h = IfOk-weaker r _ _ (λ o. found_at_ok g s P f xs o each) h
 
--- what is found in a member's own list is found in all of these lists, one behind the other
+-- what is found in a member's own list is found in all of these lists, one after the other
 pub flat : {Y Z : Type 0} (P : Z → ℕ → Type 0) (all : List Y → List Z) (g : Y → List Z) (ys : List Y) (r : Option ℕ)
     → all [] ≡ [] → ((y : Y) (ys : List Y) → all (y ∷ ys) ≡ g y ++ all ys)
     → Finds (λ n. AnyOf (λ y. AnyOf (λ z. P z n) (g y)) ys) r → Finds (λ n. AnyOf (λ z. P z n) (all ys)) r

@@ -33,7 +33,7 @@ pub less_inside : {A : Type 0} (l : List (Stmt A)) (i : ℕ) (s : Stmt A) → i 
     → 2 * held (deed_of s.core) + 2 < 2 * statements (block_of l) + 1
 less_inside l i s lt is = let part = smaller l i s lt is in omega (arith, part)
 
--- a loop that puts statements behind others
+-- a loop that appends statements to others
 pub one_more : {A : Type 0} (l : List (Stmt A)) (i : ℕ) (s : Stmt A) (old new w : List Statement)
     → i < length l → s ≡ get_or l i s → old ++ statements_of (block_of (drop i l)) ≡ w
     → new ≡ old ++ (statement_of s ∷ inside (deed_of s.core))
@@ -51,7 +51,7 @@ pub no_more : {A : Type 0} (l : List (Stmt A)) (i : ℕ) (old w : List Statement
 no_more {A} l i old w le h =
     sym (append-nil old) ∙ ap (λ (x : List (Stmt A)). old ++ statements_of (block_of x)) (sym (drop_all i l le)) ∙ h
 
--- what stands behind others in the end: the statement, and behind it its two blocks
+-- what is appended to others in the end: the statement, and then its two blocks
 pub after_two : (into pushed one two : List Statement) (s : Statement) (i a b : List Statement) → pushed ≡ into ++ (s ∷ [])
     → one ≡ pushed ++ a → two ≡ one ++ b → i ≡ a ++ b → two ≡ into ++ (s ∷ i)
 after_two into pushed one two s i a b e f h k =
@@ -61,7 +61,7 @@ after_two into pushed one two s i a b e f h k =
     again : ((into ++ (s ∷ [])) ++ a) ++ b ≡ into ++ (s ∷ (a ++ b))
     again = ap (λ (x : List Statement). x ++ b) (append_assoc into (s ∷ []) a) ∙ append_assoc into (s ∷ a) b
 
--- three lists of names, put one behind the other
+-- three lists of names, put one after the other
 pub gathered : {X : Type 0} {Y : Type 0} (h : X → Y) (n f o k : List Y) (d1 d2 d3 x1 x2 x3 : List X)
     → k ≡ o ++ map h d3 → o ≡ f ++ map h d2 → f ≡ n ++ map h d1 → n ≡ [] → d1 ≡ x1 → d2 ≡ x2 → d3 ≡ x3 →
     (map h x1 ++ map h x2) ++ map h x3 ≡ k
@@ -70,7 +70,7 @@ gathered {X} {Y} h n f o k d1 d2 d3 x1 x2 x3 a b c e p q r =
     ∙ ap (λ (l : List X). (map h l ++ map h d2) ++ map h d3) p ∙ ap (λ (l : List X). (map h x1 ++ map h l) ++ map h d3) q
     ∙ ap (λ (l : List X). (map h x1 ++ map h x2) ++ map h l) r)
 
--- a loop that puts the statements of procedures behind others
+-- a loop that appends the statements of procedures to others
 pub one_procedure : {A : Type 0} (l : List (Proc A)) (i : ℕ) (p : Proc A) (old new w : List Statement)
     → i < length l → p ≡ get_or l i p → old ++ statements_of_all (procs_of (drop i l)) ≡ w
     → new ≡ old ++ statements_of (proc_of p).body

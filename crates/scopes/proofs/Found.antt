@@ -98,7 +98,7 @@ takes_latter {X} key x y lt = go (nat_le (key x) (key y)) refl
     go true e = absurd (let le : key x ≤ key y = search rules in omega arith)
     go false e = refl
 
--- of two that may be there, the one that is taken
+-- of two optional things, the one that is taken
 pub ruleset lesser_steps = (none_before, none_after, takes_former, takes_latter)
 
 pub begin : {P : ℕ → Type 0} → FoundSoFar P P None
@@ -117,7 +117,7 @@ weaker a to back k = record { goes = λ r h. k.goes r (same r to back h) }
 pub finish : {W R : ℕ → Type 0} (a : Option ℕ) → FoundSoFar W R a → ((n : ℕ) → R n → ⊥) → Finds W a
 finish {W} a k h = subst (λ (o : Option ℕ). Finds W o) (none_after (λ n. n) a) (k.goes None (nowhere h))
 
--- a name's offset is the answer, where a fact holds that does not speak of offsets
+-- a name's offset is the answer, if a fact holds that does not mention offsets
 pub here : {Q : Type 0} (m : ℕ) → Q → Finds (λ n. (m ≡ n) × Q) (Some m)
 here m q = only m (refl, q) (λ k h. h.0)
 
@@ -178,7 +178,7 @@ compared a b m x n y r e f g h =
     moved (λ b k. (b ≡ k) × (x ≢ y)) a b r e
     (moved (λ x k. (a ≡ k) × (x ≢ y)) m x r f (moved (λ y k. (a ≡ k) × (m ≢ y)) n y r g h))
 
--- what follows of an answer, where there is one
+-- what follows from an answer, if there is one
 pub on_ok : {E : Type 0} (P Q : Option ℕ → Type 0) (r : Result (Option ℕ) E) → ((o : Option ℕ) → P o → Q o) → IfOk r P
     → IfOk r Q
 on_ok P Q (Ok o) f h = f o h

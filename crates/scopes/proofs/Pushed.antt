@@ -1,4 +1,4 @@
--- Loops that put one after the other behind what is there, or look for a name.
+-- Loops that append one after the other, or look for a name.
 use Rattle.std.proofs.Common.{◌≡◌, ℕ, ◌+◌, ◌<◌, ◌≤◌, List, [], ◌∷◌, ◌++◌, length, map, drop, get_or, Bool, true, false, cond, Option, Some}
 use Rattle.std.proofs.Common.{option_map, sym, ◌∙◌, ap, append_assoc, append-nil}
 use Rattle.std.proofs.lemmas.List.{map-append, drop_more, drop_all}
@@ -12,7 +12,7 @@ use Rattle.scopes.specs.Faults.{named}
 use Rattle.scopes.proofs.Heads.{label_is}
 use denote.Ref.{Bor}
 
--- what is put behind nothing is all there is
+-- what is appended to nothing is all there is
 pub behind_none : {X Y Z : Type 0} (f : X → Y) (g : List Z → List Y) {got : List Y} {first : List X} {d x : List Z}
     → got ≡ map f first ++ g d → first ≡ [] → d ≡ x → got ≡ g x
 behind_none f g {got} {first} {d} {x} e none same = e ∙ ap (λ l. map f l ++ g d) none ∙ ap g same
@@ -31,7 +31,7 @@ pub all_pushed : {Y Z : Type 0} (h : Y → Z) (old : List Z) (l : List Y) (i : �
     → old ++ map h (drop i l) ≡ w → old ≡ w
 all_pushed h old l i w le so = sym (append-nil old) ∙ (sym (ap (λ m. old ++ map h m) (drop_all i l le)) ∙ so)
 
--- one more statement's label, where it has one
+-- one more statement's label, if it has one
 pub labelled : {A : Type 0} (ss : List (Bor (Stmt A))) (i : ℕ) (s : Bor (Stmt A)) (old new w : List Name)
     → i < length ss → s ≡ get_or ss i s → new ≡ old ++ label_of (option_map name_of s.now.label)
     → old ++ labels_of (lent_statements (drop i ss)) ≡ w → new ++ labels_of (lent_statements (drop (i + 1) ss)) ≡ w

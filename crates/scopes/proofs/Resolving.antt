@@ -99,7 +99,7 @@ target_there t p h called labelled = (
   IfSome_then (jump_of h) labelled (λ l k. rest_there (scope_of t p) l.text p.body done k),
 )
 
--- a tree resolves where each statement works and each thread starts
+-- a tree resolves if each statement works and each thread starts
 pub working_resolves : (t : Tree) → Each
     (λ (p : Procedure). Each (λ (s : Statement). Works t p s.head) (statements_of p.body)) t.procedures
     → Each (Starts t.procedures) t.threads → Resolves t

@@ -81,7 +81,7 @@ all_declared : (s : Scope) (xs : List Name) → Each (Declared s) xs → AllDecl
 all_declared s [] h = tt
 all_declared s (x ∷ xs) h = (h.0, all_declared s xs h.1)
 
--- what holds of each of two lists that stand one behind the other
+-- what holds for each of two lists, one after the other
 apart : {X : Type 0} (P : X → Type 0) (xs ys : List X) → Each P (xs ++ ys) → Each P xs × Each P ys
 apart P xs ys h = (each_left P xs ys h, each_right P xs ys h)
 

@@ -1,4 +1,4 @@
--- Names that come again, by what was seen before.
+-- Names that occur again, by what was seen before.
 use Rattle.std.proofs.Common.{◌≡◌, ℕ, ◌+◌, ◌<◌, ◌≤◌, Bool, true, false, cond, ◌||◌, List, [], ◌∷◌, ◌++◌, length, map, take, drop, get_or}
 use Rattle.std.proofs.Common.{Option, None, ◌⊎◌, inl, inr, refl, sym, ◌∙◌, ap, ap₂, subst}
 use Rattle.std.specs.Prelude.{if◌then◌else◌}
@@ -49,7 +49,7 @@ one_added x true b = refl
 one_added x false true = refl
 one_added x false false = refl
 
--- with one name more the set has one text more
+-- with one more name the set has one more text
 pub texts_more : {S : Type 0} (s t : IndexSet (Bor (List ℕ)) S) (v : Bor (List ℕ)) (ns : List Name) (n : Name) → v.now ≡ n.text
     → t.keys ≡ insert_key (λ x y. bytes_eq x.now y.now) s.keys v → AreTexts s ns → AreTexts t (ns ++ n ∷ [])
 texts_more {S} s t v ns n e k h x =
@@ -125,7 +125,7 @@ pub one_taken : {X : Type 0} {Y : Type 0} (f : X → Y) (xs : List X) (i : ℕ) 
 one_taken {X} f xs i x lt is = ap (map f) (take_more xs i x lt ∙ ap (λ (y : X). take i xs ++ y ∷ []) (sym is))
     ∙ map-append f (take i xs) (x ∷ [])
 
--- a loop that looks for names that come again, by what was seen: one name more, and the end
+-- a loop that looks for names that occur again, by what was seen: one more name, and the end
 pub next_seen : {W : ℕ → Type 0} {X : Type 0} (f : X → Name) (xs : List X) (i : ℕ) (x : X) (a b r : Option ℕ)
     → i < length xs → x ≡ get_or xs i x → r ≡ earlier_of a b
     → FoundSoFar W (IsAgain (map f (take i xs)) (map f (drop i xs))) a

@@ -1,4 +1,4 @@
--- What a checked tree's statements and names are: each fact, where the fault that denies it stands nowhere.
+-- What a checked tree's statements and names are: each fact, if the fault that contradicts it stands nowhere.
 use Rattle.std.proofs.Common.{◌≡◌, ◌≢◌, ℕ, suc, Bool, true, false, cond, List, [], ◌∷◌, ◌++◌, length, Option, Some}
 use Rattle.std.proofs.Common.{None, ◌⊎◌, inl, inr, refl}
 use Rattle.std.specs.Prelude.{slice_get, IfSome}
@@ -27,7 +27,7 @@ pub nowhere_in : {X : Type 0} (P : X → ℕ → Type 0) (xs : List X) → ((n :
 nowhere_in P [] h = tt
 nowhere_in P (x ∷ xs) h = ((λ n p. h n (inl p)), nowhere_in P xs (λ n q. h n (inr q)))
 
--- a text is declared in one of two lists, where it is in one after the other
+-- a text is declared in one of two lists, if it is in one after the other
 pub in_either : (x : List ℕ) (xs ys : List Name) → is_declared x (xs ++ ys) ≡ true → (is_declared x xs ≡ true) ⊎ (is_declared x ys ≡ true)
 in_either x [] ys h = inr h
 in_either x (n ∷ ns) ys h = go (same_text x n.text) h (in_either x ns ys)

@@ -1,11 +1,11 @@
--- Which faults stand in a tree, and which of them is answered.
+-- Which faults stand in a tree, and which of them is returned.
 use Rattle.std.specs.Prelude.{◌≡◌, ℕ, ◌<◌, ◌≤◌, ◌⊎◌}
 use Rattle.language.specs.Tree.{Tree}
 use Rattle.scopes.specs.declared.fault.ScopeFault.{ScopeFault}
 use Rattle.scopes.specs.declared.fault.ScopeFault.TheVariants as fault
 use Rattle.scopes.specs.Faults.{Undeclared, DeclaredTwice, WrongCount, BadThread, BadLabel, Reserved, TooMany}
 
--- the fault stands in the tree at its place; want of memory is no fault of a tree
+-- the fault stands in the tree at its place; lack of memory is not a fault of a tree
 abbrev pub FaultStands : Tree → ScopeFault → Type 0
 FaultStands tree (fault.Undeclared at) = Undeclared tree at
 FaultStands tree (fault.DeclaredTwice at) = DeclaredTwice tree at
@@ -38,7 +38,7 @@ offset (fault.Reserved at) = at
 offset (fault.TooMany at) = at
 offset fault.Memory = 0
 
--- one fault is answered before another: its offset is less, or it is the same and its number is not greater
+-- one fault is returned before another: its offset is less, or it is the same and its number is not greater
 abbrev pub ComesFirst : ScopeFault → ScopeFault → Type 0
 ComesFirst first other = (offset first < offset other) ⊎ ((offset first ≡ offset other) × (number first ≤ number other))
 

@@ -10,16 +10,16 @@ use Rattle.scopes.specs.Find.{AnyOf}
 use Rattle.resolved.specs.There.{IsThere, names}
 use Rattle.resolved.specs.Statements.{Statement, statements_of, statements_of_all, used_by, labels_of}
 
--- the first procedure of this name, where there is one
+-- the first procedure of this name, if there is one
 abbrev pub named : List ℕ → List Procedure → Option Procedure
 named text [] = None
 named text (procedure ∷ procedures) = cond (same_text text procedure.name.text) (Some procedure) (named text procedures)
 
--- a name stands at the offset, and none of the lists declares it
+-- a name is at the offset, and none of the lists declares it
 abbrev pub IsUnknown : List Name → ℕ → Name → Type 0
 IsUnknown names offset name = (name.at ≡ offset) × (is_declared name.text names ≡ false)
 
--- some of the names stands at the offset, and none of the first list declares it
+-- some of the names is at the offset, and none of the first list declares it
 abbrev pub AnyUnknown : List Name → List Name → ℕ → Type 0
 AnyUnknown names xs offset = AnyOf (λ x. IsUnknown names offset x) xs
 
@@ -27,11 +27,12 @@ AnyUnknown names xs offset = AnyOf (λ x. IsUnknown names offset x) xs
 abbrev pub known : Tree → Procedure → List Name
 known tree procedure = (procedure.formals ++ procedure.locals) ++ tree.globals
 
--- a called procedure that stands at the offset and has no declaration
+-- a called procedure that is at the offset and has no declaration
 abbrev pub CallsUnknown : List Procedure → ℕ → Head Name Name Name → Type 0
 CallsUnknown procedures offset head = IsThere (callee_of head) (λ callee. (callee.at ≡ offset) × (named callee.text procedures ≡ None))
 
--- a statement has at the offset a variable that is none of these, or calls a procedure that has no declaration
+-- a statement has at the offset a variable that is not one of these, or calls a procedure that has no
+-- declaration
 abbrev pub IsUndeclaredIn : List Name → List Procedure → Statement → ℕ → Type 0
 IsUndeclaredIn variables ps statement offset = AnyUnknown variables (used_by statement.head) offset ⊎ CallsUnknown ps offset statement.head
 
@@ -49,21 +50,21 @@ abbrev pub Repeated : List Name → ℕ → Type 0
 Repeated [] offset = ⊥
 Repeated (x ∷ xs) offset = AnyOf (λ (y : Name). (y.at ≡ offset) × (same_text x.text y.text ≡ true)) xs ⊎ Repeated xs offset
 
--- a name at the offset comes again among the formals and locals of a procedure, or among the targets of an assignment
--- in it
+-- a name at the offset occurs again among the formals and locals of a procedure, or among the targets of an
+-- assignment in it
 abbrev pub IsTwiceIn : Procedure → ℕ → Type 0
 IsTwiceIn procedure offset = Repeated (procedure.formals ++ procedure.locals) offset
     ⊎ AnyOf (λ s. Repeated (targets_of s.head) offset) (statements_of procedure.body)
 
--- a name at the offset comes again among the globals, the procedures, the formals and locals of one procedure, or the
--- targets of one assignment
+-- a name at the offset occurs again among the globals, the procedures, the formals and locals of one procedure, or
+-- the targets of one assignment
 abbrev pub DeclaredTwice : Tree → ℕ → Type 0
 DeclaredTwice tree offset =
     Repeated tree.globals offset
     ⊎ (Repeated (names tree.procedures) offset
     ⊎ AnyOf (λ p. IsTwiceIn p offset) tree.procedures)
 
--- where a list of targets begins: at its first, or where it is empty, where the statement does
+-- where a list of targets begins: at its first, or if it is empty, where the statement does
 abbrev pub first_at : ℕ → List Name → ℕ
 first_at otherwise [] = otherwise
 first_at otherwise (x ∷ xs) = x.at
@@ -110,25 +111,25 @@ StartsNowhere ps line offset = (line.name.at ≡ offset) × (CanStart (named lin
 abbrev pub BadThread : Tree → ℕ → Type 0
 BadThread tree offset = AnyOf (λ line. StartsNowhere tree.procedures line offset) tree.threads
 
--- a goto that stands at the offset names none of these labels
+-- a goto that is at the offset names none of these labels
 abbrev pub GoesNowhere : List Name → ℕ → Head Name Name Name → Type 0
 GoesNowhere labels offset head = IsThere (jump_of head) (IsUnknown labels offset)
 
--- a goto of the procedure names at the offset none of its labels, or a label of it comes again at the offset
+-- a goto of the procedure names at the offset none of its labels, or a label of it occurs again at the offset
 abbrev pub MislabelledIn : ℕ → Procedure → Type 0
 MislabelledIn offset procedure =
     AnyOf (λ (s : Statement). GoesNowhere (labels_of (statements_of procedure.body)) offset s.head) (statements_of procedure.body)
     ⊎ Repeated (labels_of (statements_of procedure.body)) offset
 
--- a goto names at the offset no label of its procedure, or a label of a procedure comes again at the offset
+-- a goto names at the offset no label of its procedure, or a label of a procedure occurs again at the offset
 abbrev pub BadLabel : Tree → ℕ → Type 0
 BadLabel tree offset = AnyOf (MislabelledIn offset) tree.procedures
 
--- two underscores stand side by side in the text
+-- the text has two underscores in a row
 abbrev pub HasTwoUnderscores : List ℕ → Type 0
 HasTwoUnderscores text = (k : ℕ) × (slice_index text k ≡ 95) × (slice_index text (k + 1) ≡ 95)
 
--- one of the names stands at the offset and has two underscores in a row
+-- one of the names is at the offset and has two underscores in a row
 abbrev pub IsReserved : List Name → ℕ → Type 0
 IsReserved xs offset = AnyOf (λ (x : Name). (x.at ≡ offset) × HasTwoUnderscores x.text) xs
 
@@ -144,7 +145,7 @@ Reserved tree offset =
     ⊎ (IsReserved (names tree.procedures) offset
     ⊎ AnyOf (ReservedIn offset) tree.procedures)
 
--- the 32nd procedure has its name at the offset, the 9th thread line stands at the offset, or the 1,001st statement of
+-- the 32nd procedure has its name at the offset, the 9th thread line is at the offset, or the 1,001st statement of
 -- the whole text does
 abbrev pub TooMany : Tree → ℕ → Type 0
 TooMany tree offset =

@@ -6,27 +6,27 @@ abbrev pub AnyOf : {X : Type 0} → (X → Type 0) → List X → Type 0
 AnyOf P [] = ⊥
 AnyOf P (x ∷ xs) = P x ⊎ AnyOf P xs
 
--- what may be there, as a list of one or none
+-- an optional thing, as a list of one or none
 abbrev pub as_list : {X : Type 0} → Option X → List X
 as_list None = []
 as_list (Some x) = x ∷ []
 
--- nothing, where no number has the property; else the least that has it
+-- nothing, if no number has the property; else the least that has it
 abbrev pub IsLeast : (ℕ → Type 0) → Option ℕ → Type 0
 IsLeast P None = (n : ℕ) → P n → ⊥
 IsLeast P (Some n) = P n × ((m : ℕ) → P m → n ≤ m)
 
--- the answer is the least number with the property, or nothing where no number has it
+-- the answer is the least number with the property, or nothing if no number has it
 pub record Finds (P : ℕ → Type 0) (answer : Option ℕ) : Type 0 where
   pub least : IsLeast P answer
 
--- of two things that may be there, the one with the lesser key, and at one key the former
+-- of two optional things, the one with the lesser key, and if the keys are equal the first
 unfoldable pub lesser_by : {X : Type 0} → (X → ℕ) → Option X → Option X → Option X
 lesser_by key None b = b
 lesser_by key (Some x) None = Some x
 lesser_by key (Some x) (Some y) = cond (nat_le (key x) (key y)) (Some x) (Some y)
 
--- the lesser of two numbers that may be there
+-- the lesser of two optional numbers
 abbrev pub earlier_of : Option ℕ → Option ℕ → Option ℕ
 earlier_of a b = lesser_by (λ n. n) a b
 

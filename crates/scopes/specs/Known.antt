@@ -12,6 +12,6 @@ use denote.Ref.{Bor}
 abbrev pub AreTexts : {S : Type 0} → IndexSet (Bor (List ℕ)) S → List Name → Type 0
 AreTexts set ns = (text : List ℕ) → contains_by (λ k. bytes_eq text k.now) set ≡ is_declared text ns
 
--- a name at the offset has the text of one before it, where some names come before the list
+-- a name at the offset has the text of one before it, if some names come before the list
 abbrev pub IsAgain : List Name → List Name → ℕ → Type 0
 IsAgain before ns offset = AnyOf (λ (y : Name). (y.at ≡ offset) × (is_declared y.text before ≡ true)) ns ⊎ Repeated ns offset

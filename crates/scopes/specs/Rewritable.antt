@@ -12,7 +12,7 @@ abbrev pub begins_low : List ℕ → Bool
 begins_low [] = false
 begins_low (byte ∷ text) = nat_eq byte 95
 
--- two underscores stand in a row in the text
+-- the text has two underscores in a row
 abbrev pub has_double : List ℕ → Bool
 has_double [] = false
 has_double (byte ∷ text) = (nat_eq byte 95 && begins_low text) || has_double text
@@ -72,7 +72,7 @@ pub record SimpleDeclared (tree : Tree) (scope : Scope) (statement : Simple Name
   pub callee : IfSome (callee_of (plain statement)) (λ callee. (is_declared callee.text scope.procedures ≡ true)
       × HasRoom (slice_get tree.procedures (number_of callee.text scope.procedures)) (length (arguments_of (plain statement))))
 
--- so it is for each statement of the block
+-- this holds for each statement of the block
 abbrev pub BlockDeclared : Tree → Scope → Block Name Name Name → Type 0
 BlockDeclared tree scope done = Unit {0}
 BlockDeclared tree scope (one mark statement rest) = SimpleDeclared tree scope statement × BlockDeclared tree scope rest

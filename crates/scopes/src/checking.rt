@@ -20,7 +20,7 @@ use crate::undeclared::first_undeclared;
 use std::alloc::{AllocError, Allocator};
 use trees::Program;
 
-/// The fault that is answered of those that stand in a program.
+/// Which of the faults that stand in a program is returned.
 fn first_fault<A: Allocator + Copy>(
     alloc: &A,
     program: &Program<A>,
@@ -42,14 +42,15 @@ fn first_fault<A: Allocator + Copy>(
     Ok(sooner(through_reserved, many))
 }
 
-/// Checks the scopes of a program: the program is given back, checked, where none of the faults stands in it. Of
-/// several faults that stand, the one with the least offset is answered, and at one offset the one with the least
-/// number; `Memory` comes where a growth was refused. What the check needs besides the program is taken from `alloc`.
+/// Checks the scopes of a program: the program is returned, checked, if none of the faults stands in it. Of several
+/// faults that stand, the one with the least offset is returned, and if offsets are equal the one with the least
+/// number; `Memory` is returned if an allocation was refused. What the check needs besides the program is allocated
+/// by `alloc`.
 pub fn check<A: Allocator + Copy>(alloc: A, program: Program<A>) -> Result<Checked<A>, ScopeFault>
     // What is checked is the program that came in, and no fault stands in it.
     ensures checked { IfOk result
         (λ c. (checked_program c ≡ program) × IsChecked (tree_of program)) }
-    // A fault that is answered stands at its place, and it is the first that does, unless memory ran out.
+    // A fault that is returned stands at its place, and it is the first that does, unless memory ran out.
     ensures fault { IfErr result (λ f. (f ≡ Memory) ⊎ IsFirstFault (tree_of program) f) }
 {
     match first_fault(&alloc, &program)? {

@@ -14,7 +14,7 @@ use crate::undeclared::find;
 use std::alloc::Allocator;
 use trees::{Name, Proc, Program, Stmt};
 
-/// Where the targets of a statement begin; where there are none, where the statement does.
+/// Where the targets of a statement begin; if there are none, where the statement begins.
 pub fn start<A: Allocator>(stmt: &Stmt<A>, targets: &[Name<A>]) -> u32
     ensures { result ≡ first_at stmt.now.at (names_of targets.now) }
 {
@@ -24,7 +24,7 @@ pub fn start<A: Allocator>(stmt: &Stmt<A>, targets: &[Name<A>]) -> u32
     }
 }
 
-/// The offset `at`, where the two numbers differ.
+/// The offset `at`, if the two numbers differ.
 #[tactic(auto, using(crate::proofs::Found::here, crate::proofs::Found::not_here))]
 pub fn unequal(at: u32, left: usize, right: usize) -> Option<u32>
     ensures { Finds (λ n. (at ≡ n) × (left ≢ right)) result }
@@ -32,7 +32,7 @@ pub fn unequal(at: u32, left: usize, right: usize) -> Option<u32>
     if left == right { None } else { Some(at) }
 }
 
-/// The offset of an assignment's first target, where its targets and right sides differ in number.
+/// The offset of an assignment's first target, if its targets and right sides differ in number.
 pub fn sides_miscounted<A: Allocator>(stmt: &Stmt<A>) -> Option<u32>
     ensures { Finds (λ n. MiscountsSides n (statement_of stmt.now)) result }
 {
@@ -45,7 +45,7 @@ pub fn sides_miscounted<A: Allocator>(stmt: &Stmt<A>) -> Option<u32>
     }
 }
 
-/// The offset of a called name, where the arguments and the formals of what is called differ in number.
+/// The offset of a called name, if the arguments and the formals of what is called differ in number.
 pub fn arguments_miscounted<A: Allocator>(procs: &[Proc<A>], stmt: &Stmt<A>) -> Option<u32>
     ensures { Finds
         (λ n. MiscountsArguments (procs_of procs.now) n (statement_of stmt.now).head) result }
@@ -55,7 +55,7 @@ pub fn arguments_miscounted<A: Allocator>(procs: &[Proc<A>], stmt: &Stmt<A>) -> 
     unequal(callee.at, proc.formals.len(), stmt.core.arguments().len())
 }
 
-/// The offset of the first target or of the called name, where the two sides of a statement differ in number.
+/// The offset of the first target or of the called name, if the two sides of a statement differ in number.
 pub fn miscounted<A: Allocator>(procs: &[Proc<A>], stmt: &Stmt<A>) -> Option<u32>
     ensures { Finds (λ n. Miscounts (procs_of procs.now) n (statement_of stmt.now)) result }
 {
@@ -73,7 +73,7 @@ pub fn miscounted_in<A: Allocator + Copy>(alloc: &A, procs: &[Proc<A>], proc: &P
 }
 
 /// The least offset of an assignment's first target, or of a called name, whose two sides differ in number; nothing
-/// where none do. An error is a refused growth.
+/// if none do. An error is a refused allocation.
 pub(crate) fn first_wrong_count<A: Allocator + Copy>(alloc: &A, program: &Program<A>) -> Answer
     ensures { IfOk result (λ r. Finds (λ n. WrongCount (tree_of program.now) n) r) }
 {

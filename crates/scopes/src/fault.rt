@@ -9,8 +9,8 @@ pub enum ScopeFault {
     /// The variable or the called procedure at this place has no declaration.
     #[error("6 undeclared at {0}")]
     Undeclared(u32),
-    /// The name at this place comes again among the globals, the procedures, the formals and locals of one procedure,
-    /// or the targets of one assignment.
+    /// The name at this place occurs again among the globals, the procedures, the formals and locals of one
+    /// procedure, or the targets of one assignment.
     #[error("7 declared twice at {0}")]
     DeclaredTwice(u32),
     /// The targets that begin at this place and their right sides differ in number, or the arguments and the formals of
@@ -20,7 +20,8 @@ pub enum ScopeFault {
     /// The name at this place, in a thread line, is that of no procedure, or of one with formals.
     #[error("9 bad thread at {0}")]
     BadThread(u32),
-    /// The name at this place, in a `goto`, is no label of its procedure, or it is a label that is defined again.
+    /// The name at this place, in a `goto`, is not a label of its procedure, or it is a label that is defined
+    /// again.
     #[error("10 bad label at {0}")]
     BadLabel(u32),
     /// The declared variable, procedure or label at this place has two underscores in a row.
@@ -29,7 +30,7 @@ pub enum ScopeFault {
     /// The procedure of this name is the 32nd, the thread line at this place the 9th, or the statement the 1,001st.
     #[error("12 too many at {0}")]
     TooMany(u32),
-    /// A growth was refused.
+    /// An allocation was refused.
     #[error("13 memory")]
     Memory,
 }

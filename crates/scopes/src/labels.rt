@@ -29,7 +29,7 @@ pub fn labels<'a, A: Allocator + Copy>(
     Ok(list)
 }
 
-/// The offset of the name in a `goto`, where it is none of the labels.
+/// The offset of the name in a `goto`, if it is not one of the labels.
 pub fn lost<A: Allocator + Copy>(labels: &Known<A>, stmt: &Stmt<A>) -> Option<u32>
     ensures { Finds
         (λ n. GoesNowhere (lent labels.now.names.items) n (statement_of stmt.now).head) result }
@@ -49,8 +49,8 @@ pub fn mislabelled<A: Allocator + Copy>(alloc: &A, proc: &Proc<A>) -> Answer
     Ok(earlier(first, second))
 }
 
-/// The least offset of the name in a `goto` that is no label of its procedure, or of a label that is defined again;
-/// nothing where there is none. An error is a refused growth.
+/// The least offset of the name in a `goto` that is not a label of its procedure, or of a label that is defined
+/// again; nothing if there is none. An error is a refused allocation.
 pub(crate) fn first_bad_label<A: Allocator + Copy>(alloc: &A, program: &Program<A>) -> Answer
     ensures { IfOk result (λ r. Finds (λ n. BadLabel (tree_of program.now) n) r) }
 {

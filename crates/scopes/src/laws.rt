@@ -1,4 +1,4 @@
-//! What holds of every checked tree.
+//! What holds for every checked tree.
 
 ghost use Rattle.language.specs.Tree.{Tree};
 ghost use Rattle.scopes.specs.Checked.{IsChecked};

@@ -1,4 +1,4 @@
-//! The check of scopes: what is checked is meaningful, and each slip is named with its place.
+//! The check of scopes: what is checked is meaningful, and each fault is named with its place.
 #![tactic(auto)]
 
 mod checked;

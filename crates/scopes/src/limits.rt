@@ -74,7 +74,7 @@ pub fn all_statements<'a, A: Allocator + Copy>(
 }
 
 /// The least offset of a 32nd procedure's name, of a 9th thread line or of a 1,001st statement of the whole text;
-/// nothing where there is none. An error is a refused growth.
+/// nothing if there is none. An error is a refused allocation.
 pub(crate) fn first_too_many<A: Allocator + Copy>(alloc: &A, program: &Program<A>) -> Answer
     ensures { IfOk result (λ r. Finds (λ n. TooMany (tree_of program.now) n) r) }
 {

@@ -11,7 +11,7 @@ use crate::search::earliest;
 use std::alloc::{AllocError, Allocator};
 use trees::{Name, Proc};
 
-/// The lesser of two offsets that may be there.
+/// The lesser of two optional offsets.
 #[tactic(auto, using(crate::proofs::Found::lesser_steps))]
 pub fn earlier(a: Option<u32>, b: Option<u32>) -> Option<u32>
     ensures { result ≡ earlier_of a b }
@@ -23,7 +23,7 @@ pub fn earlier(a: Option<u32>, b: Option<u32>) -> Option<u32>
     }
 }
 
-/// Puts references to names behind those that are there.
+/// Appends references to names to those that are there.
 pub fn lend<'a, A: Allocator>(
     names: &'a [Name<A>],
     mut into: Vec<&'a Name<A>, A>,
@@ -56,7 +56,7 @@ pub fn is_same<A: Allocator>(x: &Name<A>, y: &Name<A>) -> bool
     x.text.as_str() == y.text.as_str()
 }
 
-/// Whether two underscores stand side by side in a name.
+/// Whether a name has two underscores in a row.
 pub fn has_two_underscores<A: Allocator>(x: &Name<A>) -> bool
     ensures { IsTrue result ↔ HasTwoUnderscores (name_of x.now).text }
 {

@@ -25,8 +25,8 @@ pub fn reserved_in<A: Allocator + Copy>(alloc: &A, proc: &Proc<A>) -> Answer
     Ok(earlier(first, second))
 }
 
-/// The least offset of a declared variable, procedure or label with two underscores in a row; nothing where none has.
-/// An error is a refused growth.
+/// The least offset of a declared variable, procedure or label with two underscores in a row; nothing if none has. An
+/// error is a refused allocation.
 pub(crate) fn first_reserved<A: Allocator + Copy>(alloc: &A, program: &Program<A>) -> Answer
     ensures { IfOk result (λ r. Finds (λ n. Reserved (tree_of program.now) n) r) }
 {

@@ -7,10 +7,10 @@ ghost use Rattle.scopes.specs.Find.{Earliest};
 use crate::names::earlier;
 use std::alloc::AllocError;
 
-/// The offset that a search found, if any; an error is a refused growth.
+/// The offset that a search found, if any; an error is a refused allocation.
 pub type Answer = Result<Option<u32>, AllocError>;
 
-/// The least of the offsets that `search` answers at the items; nothing where it answers none.
+/// The least of the offsets that `search` returns for the items; nothing if it returns none.
 pub fn earliest<T, F: Fn(&T) -> Option<u32>>(items: &[T], search: F) -> Option<u32>
     requires { F.IsAlwaysCallable search }
     ensures { Earliest (FnReturnsAt F.Fn search) items.now result }
@@ -22,7 +22,7 @@ pub fn earliest<T, F: Fn(&T) -> Option<u32>>(items: &[T], search: F) -> Option<u
     found
 }
 
-/// The same, where a search may fail: its error is answered.
+/// The same, if a search may fail: its error is returned.
 pub fn try_earliest<T, E: Drop, F: Fn(&T) -> Result<Option<u32>, E>>(
     items: &[T],
     search: F,

@@ -1,11 +1,11 @@
-//! Which of two faults is answered.
+//! Which of two faults is returned.
 
 ghost use Rattle.std.specs.Prelude.{◌≡◌};
 ghost use Rattle.scopes.specs.First.{sooner_of};
 
 use crate::fault::ScopeFault;
 
-/// The fault with the lesser offset of two that may be there; at one offset the former.
+/// The fault with the lesser offset of two optional faults; if the offsets are equal, the first.
 #[tactic(auto, using(crate::proofs::Found::lesser_steps))]
 pub fn sooner(a: Option<ScopeFault>, b: Option<ScopeFault>) -> Option<ScopeFault>
     ensures { result ≡ sooner_of a b }

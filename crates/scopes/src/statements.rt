@@ -17,7 +17,7 @@ pub fn statements<'a, A: Allocator + Copy>(
     flatten(&proc.body, Vec::new(*alloc))
 }
 
-/// Puts references to the statements of a block, in the order of the text, behind those that are there.
+/// Appends references to the statements of a block, in the order of the text, to those that are there.
 #[cycle(flattening)]
 pub fn flatten<'a, A: Allocator>(
     stmts: &'a [Stmt<A>],

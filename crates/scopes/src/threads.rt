@@ -17,7 +17,7 @@ pub fn takes_nothing<A: Allocator>(proc: &Proc<A>) -> bool
     proc.formals.as_slice().is_empty()
 }
 
-/// The offset of the name in a thread line, where no thread can start in what it names.
+/// The offset of the name in a thread line, if no thread can start in what it names.
 pub fn cannot_start<A: Allocator>(procs: &[Proc<A>], line: &Thread<A>) -> Option<u32>
     ensures { Finds (StartsNowhere (procs_of procs.now) (thread_of line.now)) result }
 {
@@ -33,7 +33,7 @@ pub fn cannot_start<A: Allocator>(procs: &[Proc<A>], line: &Thread<A>) -> Option
     }
 }
 
-/// The least offset of a name in a thread line that names no procedure, or one with formals; nothing where each
+/// The least offset of a name in a thread line that names no procedure, or one with formals; nothing if each
 /// line names one in which a thread can start.
 pub(crate) fn first_bad_thread<A: Allocator>(program: &Program<A>) -> Option<u32>
     ensures { Finds (λ n. BadThread (tree_of program.now) n) result }

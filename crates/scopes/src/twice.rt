@@ -1,4 +1,4 @@
-//! Names that come twice.
+//! Names that occur twice.
 
 ghost use Rattle.std.specs.Prelude.{◌≡◌, ◌++◌, IfOk};
 ghost use Rattle.language.specs.Parts.{targets_of};
@@ -29,7 +29,7 @@ pub fn proc_names<'a, A: Allocator + Copy>(
     Ok(list)
 }
 
-/// The least offset of a target that comes again in a statement.
+/// The least offset of a target that occurs again in a statement.
 pub fn target_again<A: Allocator + Copy>(alloc: &A, stmt: &Stmt<A>) -> Answer
     ensures { IfOk result
         (λ r. Finds (λ n. Repeated (targets_of (statement_of stmt.now).head) n) r) }
@@ -38,7 +38,7 @@ pub fn target_again<A: Allocator + Copy>(alloc: &A, stmt: &Stmt<A>) -> Answer
     repeated(*alloc, &list)
 }
 
-/// The least offset of a name that comes again in a procedure.
+/// The least offset of a name that occurs again in a procedure.
 pub fn twice_in<A: Allocator + Copy>(alloc: &A, proc: &Proc<A>) -> Answer
     ensures { IfOk result (λ r. Finds (λ n. IsTwiceIn (proc_of proc.now) n) r) }
 {
@@ -49,8 +49,8 @@ pub fn twice_in<A: Allocator + Copy>(alloc: &A, proc: &Proc<A>) -> Answer
     Ok(earlier(first, second))
 }
 
-/// The least offset of a name that comes again among the globals, the procedures, the formals and locals of one
-/// procedure, or the targets of one assignment; nothing where none does. An error is a refused growth.
+/// The least offset of a name that occurs again among the globals, the procedures, the formals and locals of
+/// one procedure, or the targets of one assignment; nothing if none does. An error is a refused allocation.
 pub(crate) fn first_twice<A: Allocator + Copy>(alloc: &A, program: &Program<A>) -> Answer
     ensures { IfOk result (λ r. Finds (λ n. DeclaredTwice (tree_of program.now) n) r) }
 {

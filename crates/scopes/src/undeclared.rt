@@ -57,7 +57,7 @@ pub fn in_rhs<A: Allocator + Copy>(known: &Known<A>, rhs: &Rhs<A>) -> Option<u32
     }
 }
 
-/// The same for a right side that may be there.
+/// The same for an optional right side.
 pub fn in_test<A: Allocator + Copy>(known: &Known<A>, test: Option<&Rhs<A>>) -> Option<u32>
     ensures { Finds
         (AnyUnknown (lent known.now.names.items)
@@ -66,7 +66,7 @@ pub fn in_test<A: Allocator + Copy>(known: &Known<A>, test: Option<&Rhs<A>>) -> 
     in_rhs(known, test?)
 }
 
-/// The same for a variable that may be there.
+/// The same for an optional variable.
 pub fn in_receiver<A: Allocator + Copy>(known: &Known<A>, receiver: Option<&Name<A>>) -> Option<u32>
     ensures { Finds
         (AnyUnknown (lent known.now.names.items)
@@ -85,7 +85,7 @@ pub fn in_targets<A: Allocator + Copy>(known: &Known<A>, stmt: &Stmt<A>) -> Opti
     earlier(assigned, receiver)
 }
 
-/// The same for an expression that may be there.
+/// The same for an optional expression.
 pub fn in_given<A: Allocator + Copy>(known: &Known<A>, given: Option<&Expr<A>>) -> Option<u32>
     ensures { Finds
         (λ n. AnyOf (λ e. AnyUnknown (lent known.now.names.items) (variables_of e) n)
@@ -158,8 +158,8 @@ pub fn of_proc<A: Allocator + Copy>(alloc: &A, program: &Program<A>, proc: &Proc
     Ok(earliest(&stmts, |stmt| of_statement(&known, procs, stmt)))
 }
 
-/// The least offset of a variable or a called procedure that has no declaration; nothing where each has one. An
-/// error is a refused growth.
+/// The least offset of a variable or a called procedure that has no declaration; nothing if each has one. An
+/// error is a refused allocation.
 pub(crate) fn first_undeclared<A: Allocator + Copy>(alloc: &A, program: &Program<A>) -> Answer
     ensures { IfOk result (λ r. Finds (λ n. Undeclared (tree_of program.now) n) r) }
 {

@@ -2,7 +2,7 @@
 
 use std::alloc::{AllocError, Global};
 
-/// Numbers that look as if drawn by lot, the same each time.
+/// Pseudo-random numbers, the same each time.
 #[derive(Clone, Copy)]
 pub struct Lot(u64);
 
@@ -11,7 +11,7 @@ impl Lot {
         Lot(seed)
     }
 
-    /// The next number below a bound; 0 where the bound is 0.
+    /// The next number below a bound; 0 if the bound is 0.
     pub fn below(&mut self, bound: usize) -> usize {
         self.0 = self
             .0
@@ -22,12 +22,12 @@ impl Lot {
     }
 }
 
-/// Whether a byte may stand in a word of the language.
+/// Whether a byte may occur in a word of the language.
 fn is_of_word(byte: u8) -> bool {
     byte.is_ascii_alphanumeric() || byte == b'_'
 }
 
-/// Where the token begins and ends that stands at a place: a word, or one other byte.
+/// Where the token at a place begins and ends: a word, or one other byte.
 fn token_at(text: &[u8], at: usize) -> (usize, usize) {
     let at = at.min(text.len());
     let behind = &text[at..];
@@ -76,7 +76,7 @@ fn changed(alloc: Global, text: &[u8], at: usize, byte: u8) -> Result<Vec<u8>, A
     Ok(broken)
 }
 
-/// A broken text: by turns cut, with one byte changed, with one token doubled, with one dropped.
+/// A broken text: in turn truncated, with one byte changed, with one token doubled, with one dropped.
 pub fn broken(
     alloc: Global,
     text: &[u8],

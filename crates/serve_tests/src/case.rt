@@ -14,7 +14,7 @@ use std::rt::Files;
 use std::sync::Wait;
 use std::thread::Threads;
 
-/// One byte more than a text may have.
+/// One more byte than a text may have.
 const LONG: usize = 65_537;
 
 /// Writes the file `long.bp`.
@@ -23,7 +23,7 @@ pub fn write_long<R: Files + AllocGlobal>(rt: &R) -> io::Result<()> {
     fs::write(rt, "long.bp", text)
 }
 
-/// A text and blanks behind it, to a given number of bytes.
+/// A text and blanks after it, to a given number of bytes.
 fn padded(alloc: Global, text: &str, length: usize) -> Result<Vec<u8>, AllocError> {
     let mut bytes = Vec::new(alloc);
     bytes.extend_from_slice(text.as_bytes())?;
@@ -31,7 +31,7 @@ fn padded(alloc: Global, text: &str, length: usize) -> Result<Vec<u8>, AllocErro
     Ok(bytes)
 }
 
-/// Prints what comes of a case.
+/// Prints the result of a case.
 pub fn answered<R: Files + Print + AllocGlobal + Wait + Threads + Sync>(
     rt: &R,
     line: &str,
@@ -92,7 +92,7 @@ where
     io::writer(rt).write_all(log.as_slice())
 }
 
-/// Prints what comes of a text, asked in one of the ways of the table in `main.rt`.
+/// Prints the result of a text, asked in one of the ways of the table in `main.rt`.
 fn to_text<R: Files + Print + AllocGlobal + Wait + Threads + Sync>(
     rt: &R,
     how: &str,
@@ -131,7 +131,7 @@ fn print_served<R: Print + AllocGlobal + Wait + Threads + Sync>(
     print_reply(rt, status, written.as_slice())
 }
 
-/// Prints what `serve` does with a reader and a writer of these manners.
+/// Prints what `serve` does with a reader and a writer that behave in these ways.
 fn print_streamed<R: Print + AllocGlobal + Wait + Threads + Sync>(
     rt: &R,
     text: &str,

@@ -3,10 +3,10 @@
 /// A kind of line: how it begins, its status, and whether the number of an offset follows.
 pub type Kind = (&'static str, u8, bool);
 
-/// What stands for each line that is of no kind.
+/// What is listed for each line that is of no kind.
 pub const OTHER: &str = "other";
 
-/// All kinds, in the order in which they are told, and `OTHER`.
+/// All kinds, in the order in which they are listed, and `OTHER`.
 pub const KINDS: &[Kind] = &[
     ("safe", 0, false),
     ("unsafe", 1, false),
@@ -26,7 +26,7 @@ pub const KINDS: &[Kind] = &[
     (OTHER, 0, false),
 ];
 
-/// How a line begins, and whether a number follows behind ` at `.
+/// How a line begins, and whether a number follows after ` at `.
 fn head_of(line: &str) -> (&str, bool) {
     match line.split_once(" at ") {
         Some((head, offset)) if is_number(offset) => (head, true),

@@ -1,9 +1,9 @@
-//! Rows of the program's edge: each line of the standard input is a case, and is printed again with what comes of it.
+//! Rows of the program's edge: each line of the standard input is a case, and is printed again with its result.
 //!
 //! | Line | What is printed under it |
 //! |---|---|
 //! | `program: WORDS` | what the program does for the words: the status, and what the standard output and the standard error took |
-//! | `file: WORDS \| TEXT` | the same where `a.bp` is the only file and has this text, in which `\n` stands for a line feed |
+//! | `file: WORDS \| TEXT` | the same if `a.bp` is the only file and has this text, in which `\n` stands for a line feed |
 //! | `broken COUNT: WORDS \| FILES` | how many lines of each kind `serve` writes for COUNT broken texts, made from these files in turn |
 //! | `HOW: WORDS \| TEXT` | the status that `serve` gives, and what the writer took |
 //!
@@ -11,9 +11,9 @@
 //! |---|---|
 //! | `whole` | from memory and to memory |
 //! | `padded to COUNT` | the same, the text followed by blanks to COUNT bytes |
-//! | `one byte a call` | a byte a call, and every other call is interrupted |
-//! | `reader fails after COUNT` | the reader fails once it gave COUNT bytes |
-//! | `writer fails after COUNT` | the writer fails once it took COUNT bytes |
+//! | `one byte a call` | one byte per call, and every other call is interrupted |
+//! | `reader fails after COUNT` | the reader fails after COUNT bytes |
+//! | `writer fails after COUNT` | the writer fails after COUNT bytes |
 //! | `each allocation` | with each allocation refused in turn, which leaves the reply or leads to `no verdict: memory` |
 //!
 //! A line that begins with `#` is a heading, and has no answer. `long.bp` is a file of 65,537 bytes, which the program

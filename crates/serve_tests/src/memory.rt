@@ -9,8 +9,8 @@ use std::io;
 use std::sync::Wait;
 use std::thread::Threads;
 
-/// The status of the reply to a text, and the bytes that are written. A status of 0 or 1 comes with just the reply to
-/// the text.
+/// The status of the reply to a text, and the bytes that are written. A status of 0 or 1 comes with exactly the reply
+/// to the text.
 pub fn served<X: Alloc + Wait + Threads + Sync>(
     rt: &X,
     alloc: Global,

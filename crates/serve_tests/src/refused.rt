@@ -11,7 +11,8 @@ use std::thread::Threads;
 /// More allocations than any case makes.
 const MOST: u64 = 100_000;
 
-/// Whether each refused allocation leaves the reply or leads to the one for want of memory, and some number meets none.
+/// Whether each refused allocation leaves the reply or leads to the one for lack of memory, and some number is never
+/// reached.
 fn is_kept<R: AllocGlobal + Wait + Threads + Sync>(
     rt: &R,
     text: &[u8],

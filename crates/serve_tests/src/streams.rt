@@ -20,7 +20,7 @@ pub const SOUND: Manner = Manner {
     interrupts: false,
 };
 
-/// The calls of a stream so far, and its manner.
+/// The calls of a stream so far, and how it behaves.
 #[derive(Drop)]
 pub struct Calls {
     manner: Manner,
@@ -49,7 +49,7 @@ impl Calls {
         Ok(asked.min(self.manner.most).min(self.manner.left))
     }
 
-    /// So many bytes were given or taken.
+    /// Records that this many bytes were given or taken.
     fn moved(&mut self, count: usize) {
         self.manner.left = self.manner.left.saturating_sub(count);
     }

@@ -7,7 +7,7 @@ use crate::sets::{keeps_each, steps};
 use cases::first_word;
 use std::alloc::{AllocError, Global};
 
-/// Writes what comes of a line.
+/// Writes the result of a line.
 pub fn answer(alloc: Global, out: &mut String, line: &str) -> Result<(), AllocError> {
     match line.split_once(": ") {
         Some(("each allocation", line)) => refused(alloc, out, line),
@@ -15,7 +15,7 @@ pub fn answer(alloc: Global, out: &mut String, line: &str) -> Result<(), AllocEr
     }
 }
 
-/// Writes what comes of a case with ample memory.
+/// Writes the result of a case with ample memory.
 fn plain(alloc: Global, out: &mut String, line: &str) -> Result<(), AllocError> {
     match line.split_once(' ') {
         Some(("set", words)) => steps(alloc, out, words),
@@ -25,7 +25,7 @@ fn plain(alloc: Global, out: &mut String, line: &str) -> Result<(), AllocError> 
     }
 }
 
-/// Writes what comes of a case whose allocations are refused in turn.
+/// Writes the result of a case whose allocations are refused in turn.
 fn refused(alloc: Global, out: &mut String, line: &str) -> Result<(), AllocError> {
     let (head, text) = line.split_once(' ').unwrap_or((line, ""));
     let (number, _) = first_word(text);

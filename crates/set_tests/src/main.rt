@@ -1,16 +1,16 @@
-//! Rows of path sets: each line of the standard input is a case, and is printed again with what comes of it.
+//! Rows of path sets: each line of the standard input is a case, and is printed again with its result.
 //!
 //! | Line | What is printed under it |
 //! |---|---|
-//! | `set STEPS` | what each step on an empty set answers |
+//! | `set STEPS` | what each step on an empty set returns |
 //! | `many N WIDTH POINTS` | whether both kinds of sets answer alike to N triples in no order, of WIDTH bits, POINTS points and 8 entries |
-//! | `many N WIDTH POINTS TURN` | the same, where eight other entries follow after TURN triples each |
-//! | `nodes STEPS` | what each step on an empty set of diagrams answers |
-//! | `each allocation: many N` | whether a set of diagrams takes N triples all the same where each allocation is refused in turn |
-//! | `each allocation: ordered N` | the same of an ordered set |
-//! | `each allocation: set N` | whether an ordered set keeps N triples, and takes none of 20 again, where each allocation is refused in turn: at each refusal it is as it was |
-//! | `each allocation: diagrams N` | the same of a set of diagrams |
-//! | `each allocation: nodes 5.2 STEPS` | what comes of `@5.2` after the other steps where each of its allocations is refused in turn |
+//! | `many N WIDTH POINTS TURN` | the same, if eight other entries follow after TURN triples each |
+//! | `nodes STEPS` | what each step on an empty set of diagrams returns |
+//! | `each allocation: many N` | whether a set of diagrams takes N triples all the same if each allocation is refused in turn |
+//! | `each allocation: ordered N` | the same for an ordered set |
+//! | `each allocation: set N` | whether an ordered set keeps N triples, and takes none of 20 again, if each allocation is refused in turn: at each refusal it is as it was |
+//! | `each allocation: diagrams N` | the same for a set of diagrams |
+//! | `each allocation: nodes 5.2 STEPS` | the result of `@5.2` after the other steps if each of its allocations is refused in turn |
 //!
 //! | Step | What it does |
 //! |---|---|

@@ -1,4 +1,5 @@
-//! Many path edges in both kinds of sets: so many that those of diagrams put what they gather into them.
+//! Many path edges in both kinds of sets: so many that sets of diagrams put what they gather into the
+//! diagrams.
 
 use crate::sets::{contains, insert};
 use cases::first_word;
@@ -31,7 +32,7 @@ fn scattered(shape: Shape, number: u64) -> (Word, usize, Word) {
     (entry, point as usize, kept as Word)
 }
 
-/// Whether two sets have as many members, and the same of the edges of the numbers below this one.
+/// Whether two sets have equally many members, and the same for the edges of the numbers below this one.
 fn have_alike<A: Allocator, B: Allocator, S: PathSet<A>, T: PathSet<B>>(
     one: &S,
     other: &T,
@@ -47,7 +48,7 @@ fn have_alike<A: Allocator, B: Allocator, S: PathSet<A>, T: PathSet<B>>(
     one.len() == other.len()
 }
 
-/// Inserts the edge of a number, again where memory is refused; answers nothing where the set is then no longer like
+/// Inserts the edge of a number, again if memory is refused; returns nothing if the set is then no longer like
 /// another one.
 fn insert_again<A: Allocator, B: Allocator, S: PathSet<A>, T: PathSet<B>>(
     one: &mut S,

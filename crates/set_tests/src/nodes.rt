@@ -6,7 +6,7 @@ use language::Word;
 use path_sets::{DiagramEdges, PathSet};
 use std::alloc::{AllocError, Allocator, Global};
 
-/// Inserts the least multiples of a number, `count` of them; answers how many were new.
+/// Inserts the least multiples of a number, `count` of them; returns how many were new.
 fn insert_multiples<A: Allocator, S: PathSet<A>>(
     set: &mut S,
     spot: Spot,
@@ -20,7 +20,7 @@ fn insert_multiples<A: Allocator, S: PathSet<A>>(
     Ok(set.len().saturating_sub(before))
 }
 
-/// Inserts the valuations of a given number of bits with an even number of ones; answers how many were new.
+/// Inserts the valuations of a given number of bits with an even number of ones; returns how many were new.
 fn insert_even<A: Allocator, S: PathSet<A>>(
     set: &mut S,
     spot: Spot,
@@ -35,7 +35,7 @@ fn insert_even<A: Allocator, S: PathSet<A>>(
     Ok(set.len().saturating_sub(before))
 }
 
-/// Writes what a step answers that only inserts or asks what each set can tell.
+/// Writes what a step returns that only inserts or asks what each set can tell.
 pub fn filling<A: Allocator, S: PathSet<A>>(
     set: &mut S,
     out: &mut String,
@@ -55,7 +55,7 @@ pub fn filling<A: Allocator, S: PathSet<A>>(
     }
 }
 
-/// Writes what a step on a set of diagrams answers.
+/// Writes what a step on a set of diagrams returns.
 fn step_of<A: Allocator + Copy>(
     set: &mut DiagramEdges<A>,
     out: &mut String,
@@ -71,7 +71,7 @@ fn step_of<A: Allocator + Copy>(
     }
 }
 
-/// Writes what each step on a set of diagrams answers.
+/// Writes what each step on a set of diagrams returns.
 fn steps_of<A: Allocator + Copy>(
     set: &mut DiagramEdges<A>,
     out: &mut String,
@@ -83,13 +83,13 @@ fn steps_of<A: Allocator + Copy>(
     Ok(())
 }
 
-/// Writes what each step on an empty set of diagrams in memory of `room` answers.
+/// Writes what each step on an empty set of diagrams in memory of `room` returns.
 fn steps_in<A: Allocator + Copy>(room: A, out: &mut String, words: &str) -> Result<(), AllocError> {
     let mut set: DiagramEdges<A> = PathSet::empty(room);
     steps_of(&mut set, out, words)
 }
 
-/// Writes what each step on an empty set of diagrams answers.
+/// Writes what each step on an empty set of diagrams returns.
 pub fn counts(alloc: Global, out: &mut String, words: &str) -> Result<(), AllocError> {
     steps_in(alloc, out, words)
 }

@@ -1,4 +1,4 @@
-//! Inner nodes that are counted where memory is refused.
+//! Inner nodes that are counted if memory is refused.
 
 use crate::nodes::filling;
 use crate::sets::{Spot, contains, spot_of};
@@ -20,7 +20,8 @@ fn fill<A: Allocator, S: PathSet<A>>(
     Ok(())
 }
 
-/// Whether two sets have as many members, and the same of 1,300 valuations at a point and at the next one.
+/// Whether two sets have equally many members, and the same for 1,300 valuations at a point and at the next
+/// one.
 fn are_alike<A: Allocator, B: Allocator, S: PathSet<A>, T: PathSet<B>>(
     one: &S,
     other: &T,
@@ -37,18 +38,18 @@ fn are_alike<A: Allocator, B: Allocator, S: PathSet<A>, T: PathSet<B>>(
         })
 }
 
-/// What comes of counting the nodes at one point, and of counting them again where the first count is refused memory.
+/// The results of counting the nodes at one point, and of counting them again if the first count is refused memory.
 #[derive(Clone, Copy, PartialEq, Eq)]
 enum Came {
-    /// The first count answers this number.
+    /// The first count returns this number.
     First(u64),
-    /// The first count is refused, the set is as it was, and the second one answers this number.
+    /// The first count is refused, the set is as it was, and the second one returns this number.
     Second(u64),
     /// The set is another one, or the second count is refused too.
     Lost,
 }
 
-/// What comes of it in a set of diagrams that has the members of another set.
+/// The result in a set of diagrams that has the members of another set.
 fn came_of<A: Allocator + Copy, B: Allocator, T: PathSet<B>>(
     set: &DiagramEdges<A>,
     other: &T,
@@ -77,7 +78,7 @@ fn fill_empty<A: Allocator, S: PathSet<A>>(
     fill(alloc, &mut set, words)
 }
 
-/// How many allocations some steps on an empty set of diagrams ask for.
+/// How many allocations some steps on an empty set of diagrams request.
 fn asked_by(alloc: Global, words: &str) -> u64 {
     let scarce = Scarce::refusing(alloc, 0);
     match fill_empty::<_, DiagramEdges<_>>(alloc, &scarce, words) {
@@ -86,7 +87,7 @@ fn asked_by(alloc: Global, words: &str) -> u64 {
     }
 }
 
-/// What comes of it after some steps on a set of diagrams.
+/// The result after some steps on a set of diagrams.
 fn came_after<A: Allocator + Copy, B: Allocator, T: PathSet<B>>(
     alloc: Global,
     set: &mut DiagramEdges<A>,
@@ -112,8 +113,8 @@ fn came_in<A: Allocator + Copy, B: Allocator, T: PathSet<B>>(
     came_after(alloc, &mut set, other, words, spot)
 }
 
-/// Writes what comes of a count where each of its allocations is refused in turn; `asked` of them are asked for in
-/// front of it.
+/// Writes the result of a count if each of its allocations is refused in turn; `asked` of them are requested
+/// before it.
 fn in_turn<B: Allocator, T: PathSet<B>>(
     alloc: Global,
     out: &mut String,
@@ -152,7 +153,7 @@ fn compared<B: Allocator, T: PathSet<B>>(
     in_turn(alloc, out, &other, words, asked_by(alloc, words), spot)
 }
 
-/// Writes it for an entry and a point, and the steps in front of the count.
+/// Writes it for an entry and a point, and the steps before the count.
 pub fn refused_counts(alloc: Global, out: &mut String, words: &str) -> Result<(), AllocError> {
     let (spot, words) = words.split_once(' ').unwrap_or((words, ""));
     let (spot, _) = spot_of(spot);

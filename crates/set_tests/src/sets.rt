@@ -9,13 +9,13 @@ use std::alloc::{AllocError, Allocator, Global};
 /// An entry and a point.
 pub type Spot = (Word, usize);
 
-/// The first word of some numbers with points between them, and the others; 0 where there is none.
+/// The first of several numbers separated by points, as a word, and the rest; 0 if there is none.
 pub fn first_word(text: &str) -> (Word, &str) {
     let (number, others) = text.split_once('.').unwrap_or((text, ""));
     (number.parse::<Word>().unwrap_or(0), others)
 }
 
-/// The entry and the point of two numbers with a point between them, and the numbers behind them.
+/// The entry and the point of two numbers with a point between them, and the numbers after them.
 pub fn spot_of(text: &str) -> (Spot, &str) {
     let (entry, text) = first_word(text);
     let (point, text) = first(text);
@@ -28,7 +28,7 @@ fn triple_of(text: &str) -> (Word, usize, Word) {
     (entry, point, first_word(rest).0)
 }
 
-/// Inserts, where the set is small enough.
+/// Inserts, if the set is small enough.
 pub fn insert<A: Allocator, S: PathSet<A>>(
     set: &mut S,
     edge: (Word, usize, Word),
@@ -43,7 +43,7 @@ pub fn contains<A: Allocator, S: PathSet<A>>(set: &S, edge: (Word, usize, Word))
     set.contains(edge.0, edge.1, edge.2)
 }
 
-/// Writes what each step on an empty ordered set answers, and on one of diagrams where that answers otherwise.
+/// Writes what each step on an empty ordered set returns, and on one of diagrams if that differs.
 pub fn steps(alloc: Global, out: &mut String, words: &str) -> Result<(), AllocError> {
     let mut other = String::new(alloc);
     steps_of::<_, OrderedEdges<_>>(alloc, out, words)?;
@@ -54,7 +54,7 @@ pub fn steps(alloc: Global, out: &mut String, words: &str) -> Result<(), AllocEr
     write!(out, "diagrams: {}", other.as_str())
 }
 
-/// Writes what each step on an empty set of the type `S` answers.
+/// Writes what each step on an empty set of the type `S` returns.
 fn steps_of<A: Allocator, S: PathSet<A>>(
     alloc: A,
     out: &mut String,
@@ -67,7 +67,7 @@ fn steps_of<A: Allocator, S: PathSet<A>>(
     Ok(())
 }
 
-/// Writes what a step on a set answers.
+/// Writes what a step on a set returns.
 pub fn step<A: Allocator, S: PathSet<A>>(
     set: &mut S,
     out: &mut String,
@@ -103,7 +103,7 @@ fn has_below<A: Allocator, S: PathSet<A>>(set: &S, different: u64, number: u64) 
     (0..different).all(|n| contains(set, edge_of(different, n)) == (n < number))
 }
 
-/// Inserts the edge of a number, again where memory is refused; answers whether the set then has it once, and where
+/// Inserts the edge of a number, again if memory is refused; returns whether the set then has it once, and if
 /// memory was refused had all as it was, and no other.
 fn keeps<A: Allocator, S: PathSet<A>>(
     set: &mut S,
@@ -134,7 +134,7 @@ fn keeps_all<A: Allocator, S: PathSet<A>>(set: &mut S, different: u64) -> Result
     Ok(has_below(set, different, different))
 }
 
-/// What comes of the insertions with the allocation of this number refused.
+/// The result of the insertions with the allocation with this number refused.
 #[derive(Clone, Copy, PartialEq, Eq)]
 enum Came {
     /// No allocation was refused, and the set kept its edges.
@@ -145,7 +145,7 @@ enum Came {
     Lost,
 }
 
-/// What comes of it in a set of the type `S`.
+/// The result in a set of the type `S`.
 fn came_of<'a, S: PathSet<&'a Scarce<Global>>>(scarce: &'a Scarce<Global>, different: u64) -> Came {
     let mut set = S::empty(scarce);
     let is_free = scarce.asked() == 0;
@@ -156,7 +156,7 @@ fn came_of<'a, S: PathSet<&'a Scarce<Global>>>(scarce: &'a Scarce<Global>, diffe
     }
 }
 
-/// What is said of a set that keeps its edges, whichever of its allocations is refused, once it is let go.
+/// What is said of a set that keeps its edges, whichever of its allocations is refused, once it is dropped.
 fn said(came: Came, scarce: &Scarce<Global>, nth: u64) -> Option<&'static str> {
     match came {
         _ if scarce.live() > 0 => Some("memory that does not come back"),

@@ -1,4 +1,4 @@
--- What is found by keys after one value more was added to a key.
+-- What is found by keys after one more value was added to a key.
 use Rattle.std.proofs.Common.{◌≡◌, ◌⊎◌, ◌&&◌, Bool, true, false, List, [], ◌∷◌, ◌++◌, inl, inr, refl, sym, subst}
 use Rattle.std.proofs.Common.{nat_eq, true≢false}
 use Rattle.std.specs.Bool.{beq}
@@ -60,7 +60,7 @@ module _ {K V : Type 0} (eq : K → K → Bool) (same : (x y : K) → eq x y ≡
   pub added_is : Member value (after key)
   added_is = subst (Member value) (sym added) (member_right value (before key) (value ∷ []) (inl refl))
 
-  -- nothing stands twice, where the new one was not there
+  -- nothing occurs twice, if the new one was not there
   pub added_once : (Member value (before key) → ⊥) → ((k : K) → NoneTwice (before k)) → (k : K) → NoneTwice (after k)
   added_once new once k = by (eq key k) refl
     where

@@ -20,7 +20,7 @@ use Rattle.summaries.specs.Tabulated.{IsAscending, IsPairBefore, ArePairsAscendi
 use Rattle.summaries.specs.Under.{items_of}
 
 module _ {X : Type 0} where
-  -- a member stands somewhere in the list
+  -- a member is somewhere in the list
   member_contains : (x : X) (xs : List X) → Member x xs → Contains xs x
   member_contains x [] m = absurd m
   member_contains x (y ∷ ys) (inl e) = (0, omega arith, sym e)
@@ -62,7 +62,7 @@ module _ {X : Type 0} where
       by true rest = (all.0, rest)
       by false rest = rest
 
-  -- and each is there once, where the members are
+  -- and each is there once, if the members are
   pub distinct_filter : (eq : X → X → Bool) (p : X → Bool) (xs : List X) → IsDistinct eq xs → IsDistinct eq (filter p xs)
   distinct_filter eq p [] once = once
   distinct_filter eq p (x ∷ xs) once =
@@ -99,7 +99,7 @@ pair_cmp x y = ordering_then (nat_cmp x.a y.a) (ordering_then (nat_cmp x.b y.b) 
 abbrev pub pair_eq : Pair → Pair → Bool
 pair_eq x y = nat_eq x.a y.a && (nat_eq x.b y.b && beq x.r y.r)
 
--- two that are in order and differ are told apart by their first numbers, or by what comes behind them
+-- two that are in order and differ are told apart by their first numbers, or by what comes after them
 first_or_rest : (m n : ℕ) (behind : Ordering) (same : Bool) → is_lt (ordering_then (nat_cmp n m) behind) ≡ false
     → (nat_eq m n && same) ≡ false → (m < n) ⊎ ((m ≡ n) × (is_lt behind ≡ false) × (same ≡ false))
 first_or_rest m n behind same after apart = by (nat_cmp n m) refl after (nat_eq m n) refl apart

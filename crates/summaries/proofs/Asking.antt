@@ -69,7 +69,7 @@ module _ {A G : Type 0} (graph : Graph G) (q : ℕ) (f : Found A) (given : Given
     reached = reaches_more graph (TookMessage f) (TookMessage asked_to) taken_there e.entry e.point e.values
         (sound.edge e.entry e.point e.values there)
 
-    -- what is behind the call is reached
+    -- what is after the call is reached
     pub behind_reached : (t : Triple) →
         OfSome (IsBehind graph (site e.entry e.point e.values)) (under call_eq f.summaries.by_key (call s x)) t →
         GraphReaches graph (TookMessage asked_to) t.entry t.point t.values
@@ -81,7 +81,7 @@ module _ {A G : Type 0} (graph : Graph G) (q : ℕ) (f : Found A) (given : Given
         (sym (is ∙ ap (λ (c : ℕ × ℕ × ℕ). triple e.entry c.2 (resumed_at graph e.point e.values b)) call))
         (returns e.entry e.point e.values s x back b flow reached here enters m)
 
-    -- so, where nothing but that is added, all edges are
+    -- so all edges are, if nothing else is added
     pub ask_only : ((t : Triple) → Member t ds →
         OfSome (IsBehind graph (site e.entry e.point e.values)) (under call_eq f.summaries.by_key (call s x)) t ⊎
         Member t es) →
@@ -163,12 +163,12 @@ module _ {A G : Type 0} (graph : Graph G) (q : ℕ) (f : Found A) (given : Given
         indexed = indexed;
       }
 
--- a call stands where one stands that is the same
+-- a call is where an equal one is
 pub stands_there : (ds : List Call) (k : Call) (at : ℕ) → (x : Call) × (slice_get ds at ≡ Some x) × (call_eq k x ≡ true)
     → slice_get ds at ≡ Some k
 stands_there ds k at (x, here, same) = here ∙ ap Some (sym (same_call k x same))
 
--- a key is put behind those of a list, unless it is among them
+-- a key is appended to those of a list, unless it is among them
 module _ (cs ds : List Call) (k : Call) (keys : ds ≡ insert_key call_eq cs k) where
   pub calls_more : HasMoreBehind cs ds
   calls_more = by (list_any (call_eq k) cs) keys

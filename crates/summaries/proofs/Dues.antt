@@ -1,4 +1,4 @@
--- Messages by numbers are told by what tables call them.
+-- Messages by numbers are determined by what tables call them.
 use Rattle.std.proofs.Common.{◌≡◌, ℕ, refl, sym, ap, ◌∙◌, subst}
 use Rattle.language.specs.Sequential as sequential
 use Rattle.language.specs.Sequential.{starter, caller}
@@ -39,7 +39,7 @@ pub message_is : (d : Due) → due_of (message_of d) ≡ d
 message_is (Entry from a) = ap (λ c. Entry c a) (who_is from)
 message_is (Summary s r a b) = refl
 
--- what a table calls a message tells it
+-- what a table calls a message determines it
 pub due_told : (k : NumberedMessage) (d : Due) → due_of k ≡ d → k ≡ message_of d
 due_told k d e = is_message k ∙ ap message_of e
 
@@ -76,7 +76,7 @@ pub same_summary : (s p a x : ℕ) (b y : Left) → summary_due s a b ≡ summar
 unfolding call_in left_in
 same_summary s p a x b y e = (sym (ap (call_in (call s a)) e), sym (ap (left_in b) e))
 
--- an entry is no summary
+-- an entry is not a summary
 pub apart : (from : Caller) (s a x : ℕ) (b : Left) → Entry from a ≡ summary_due s x b → ⊥
 unfolding IsSummary
 apart from s a x b e = subst IsSummary (sym e) tt

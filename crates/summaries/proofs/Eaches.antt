@@ -42,13 +42,13 @@ module _ {X T : Type 0} (W : X → T → Type 0) where
   each_until xs i d within t (inl w) before = inl (each_at xs i d within t w)
   each_until xs i d within t (inr mid) before = elim (before mid) [ inl first ↦ inl (each_first xs i t first) | inr was ↦ inr was ]
 
--- what holds where there is no item holds where the list is empty
+-- what holds if there is no item holds if the list is empty
 pub where_none : {X P : Type 0} (xs : List X) (b : Bool) → OnFalse b (xs ≡ []) →
     (((x : X) → Member x xs → ⊥) → P) → OnFalse b P
 where_none xs true none p = tt
 where_none xs false none p = p (λ x m. subst (Member x) none m)
 
--- what holds where there is some item holds where the list is not empty
+-- what holds if there is some item holds if the list is not empty
 pub where_some : {X P : Type 0} (xs : List X) (b : Bool) → OnTrue b (xs ≢ []) → ((x : X) → Member x xs → P) → OnTrue b P
 where_some xs false some p = tt
 where_some [] true some p = absurd (some refl)

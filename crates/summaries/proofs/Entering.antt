@@ -80,7 +80,7 @@ module _ {A G : Type 0} (graph : Graph G) (q : ℕ) (f : Found A) (entries : Gro
     pub start_reached : (t : Triple) → t ≡ triple a graph.start a → GraphReaches graph M t.entry t.point t.values
     start_reached t is = subst (λ u. GraphReaches graph M u.entry u.point u.values) (sym is) (starts (who from) a entered)
 
-    -- so, where nothing but that is added, all edges are
+    -- so all edges are, if nothing else is added
     pub enter_only : ((t : Triple) → Member t ds → (t ≡ triple a graph.start a) ⊎ Member t es) → (t : Triple) →
         Member t ds → GraphReaches graph M t.entry t.point t.values
     enter_only =
@@ -122,7 +122,7 @@ module _ {A G : Type 0} (graph : Graph G) (q : ℕ) (f : Found A) (entries : Gro
         added others new)
         placed
 
--- a caller that is new is told nothing yet
+-- a new caller has been told nothing yet
 pub none_told : {A G : Type 0} (graph : Graph G) (q : ℕ) (f : Found A) (es : List Triple) → IsGrounded graph q f es →
     (a : ℕ) (from : rust.Caller) (exits : List ℕ) → exits ≡ under nat_eq f.exits.by_key a →
     (Member from (under nat_eq f.entries.by_key a) → ⊥) →

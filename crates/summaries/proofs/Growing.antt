@@ -35,7 +35,7 @@ known e old new before false is there members longer = record {
   longer = omega (arith, longer);
 }
 
--- an edge that is new stands pending
+-- an edge that is new is pending
 pub added : (e : Edge) (old new : List Triple) (before : List Edge)
     → ((t : Triple) → (Member t new → (t ≡ triple_of e) ⊎ Member t old) × ((t ≡ triple_of e) ⊎ Member t old → Member t new))
     → length new ≡ length old + 1 → Grows (λ t. t ≡ triple_of e) old new before (before ++ e ∷ [])
@@ -80,7 +80,7 @@ both V W U old mid new before between after first second from to = record {
   longer = let e = first.longer in let f = second.longer in omega (arith, e, f);
 }
 
--- one item more
+-- one more item
 pub each_more : {X : Type 0} (W : X → Triple → Type 0) (xs : List X) (x : X) (old mid new : List Triple)
     (before between after : List Edge) →
     Grows (OfSome W xs) old mid before between → Grows (W x) mid new between after → Grows (OfSome W (xs ++ x ∷ [])) old new before after
@@ -88,7 +88,7 @@ each_more W xs x old mid new before between after first second =
     both (OfSome W xs) (W x) (OfSome W (xs ++ x ∷ [])) old mid new before between after first second (each_or_last W xs x)
     (λ t w. elim w [ inl n ↦ each_left W xs (x ∷ []) t n | inr l ↦ each_last W xs x t l ])
 
--- what holds of an error holds of the one that is answered
+-- what holds for an error holds for the one that is answered
 pub fault_of : {F : Type 0} (P : F → Type 0) (r : Result (Unit {0}) F) (fault : F) → IsErrAnd r P → r ≡ Err fault → P fault
 fault_of P r fault told is = subst (λ s. IsErrAnd s P) is told
 
@@ -112,7 +112,7 @@ grows_as V W old new before after to from grows = record {
   longer = grows.longer;
 }
 
--- the place where the run goes on
+-- the place where the run continues
 pub is_at : (e : Edge) (next : Option (ℕ × ℕ)) (n v : ℕ) → next ≡ Some (n, v) → (t : Triple) → t ≡ triple e.entry n v → IsAt e next t
 is_at e next n v is t at = (n, v, is, at)
 
@@ -120,7 +120,7 @@ pub at_is : (e : Edge) (next : Option (ℕ × ℕ)) (n v : ℕ) → next ≡ Som
 at_is e next n v is t (n', v', is', at) = at ∙ ap (λ x. triple e.entry x.0 x.1) (same_Some (n', v') (n, v) (sym is' ∙ is))
 
 module _ {G : Type 0} (flow : Flow G) (e : Edge) where
-  -- one choice more
+  -- one more choice
   pub next_more : (k : ℕ) (t : Triple) → IsNextBefore (k + 1) flow e t → IsNextBefore k flow e t ⊎ IsAt e (next_of flow e.values k) t
   next_more k t (i, less, at) =
       elim (eq-or-lt_of_le {n = i} {m = k} (omega (arith, less))) [
@@ -132,7 +132,7 @@ module _ {G : Type 0} (flow : Flow G) (e : Edge) where
   next_so_far k t (inl (i, less, at)) = (i, omega (arith, less), at)
   next_so_far k t (inr at) = (k, omega arith, at)
 
-  -- what one choice more leads to grows on what those before it lead to
+  -- what one more choice leads to grows on what those before it lead to
   pub one_choice_more : (k : ℕ) (next : Option (ℕ × ℕ)) (old mid new : List Triple) (before between after : List Edge) →
       Grows (IsNextBefore k flow e) old mid before between → next ≡ next_of flow e.values k
       → Grows (IsAt e next) mid new between after →
@@ -148,11 +148,11 @@ module _ {G : Type 0} (flow : Flow G) (e : Edge) where
   pub all_next : (k : ℕ) → last_of flow ≤ k → k ≤ last_of flow → (t : Triple) → IsNext flow e t → IsNextBefore (k + 1) flow e t
   all_next k least most t (i, less, at) = (i, omega (arith, less, least), at)
 
-  -- what comes of some choice so far comes of one
+  -- what results from some choice so far results from one
   pub some_next : (k : ℕ) → k ≤ last_of flow → (t : Triple) → IsNextBefore k flow e t → IsNext flow e t
   some_next k most t (i, less, at) = (i, omega (arith, less, most), at)
 
--- Ok is no fault
+-- Ok is not a fault
 pub ok_err : {T : Type 0} {x : T} {e : TableFault} → Ok x ≡ Err e → ⊥
 ok_err is = cc
 
@@ -160,11 +160,11 @@ ok_err is = cc
 two_faults : EdgeLimit ≡ Memory → ⊥
 two_faults e = cc
 
--- where memory is refused the limit is not passed
+-- if memory is refused the limit is not passed
 pub no_limit : {T : Type 0} (r : Result T TableFault) → IsErrAnd r (λ e. e ≡ Memory) → r ≡ Err EdgeLimit → ⊥
 no_limit r told is = two_faults (subst (λ s. IsErrAnd s (λ e. e ≡ Memory)) is told)
 
--- of an answer that is a fault nothing is said of Ok
+-- for an answer that is a fault, nothing is said about Ok
 pub failed_ok : {T E : Type 0} (Q : Type 0) (P : E → Type 0) (r : Result T E) → IsErrAnd r P → OnOk r Q
 failed_ok Q P (Ok _) told = absurd told
 failed_ok Q P (Err _) told = tt
@@ -179,7 +179,7 @@ module _ {X : Type 0} (W : X → Triple → Type 0) (xs : List X) (i : ℕ) (old
       subst (λ l. Grows (OfSome W l) old new before after) (sym (take_more xs i d within))
       (each_more W (take i xs) (get_or xs i d) old now new before at after first next)
 
-  -- at which the adding fails
+  -- at which adding fails
   pub each_failed : {T U : Type 0} {inner : Result T TableFault} {answer : Result U TableFault} {most : ℕ} (d : X) → i < length xs →
       (new : List Triple) (after : List Edge) → Adds (W (get_or xs i d)) inner most now new at after →
       OnOk answer (Grows (OfSome W xs) old new before after) → (answer ≡ Err EdgeLimit → inner ≡ Err EdgeLimit) →

@@ -4,7 +4,7 @@ use Rattle.std.specs.List.{list_any}
 use Rattle.language.specs.Lists.{Member}
 
 module _ {K : Type 0} (eq : K → K → Bool) where
-  -- a key that is found is in the list, where equal keys are the same
+  -- a key that is found is in the list, if equal keys are the same
   pub found_is_in : ((x y : K) → eq x y ≡ true → x ≡ y) → (k : K) (ks : List K) → list_any (eq k) ks ≡ true →
       Member k ks
   found_is_in same k [] h = absurd (true≢false (sym h))

@@ -32,7 +32,7 @@ module _ {A G : Type 0} (graph : Graph G) (q : ℕ) (f : Found A) (pending : Vec
         (reaches_more graph (TookMessage f) (TookMessage led_to) taken_led e.entry e.point e.values
         (sound.edge e.entry e.point e.values there)) here most next)
 
-    -- so, where nothing but that is added, all edges are
+    -- so all edges are, if nothing else is added
     pub lead_only : ((t : Triple) → Member t ds → IsNext flow e t ⊎ Member t es) → (t : Triple) → Member t ds →
         GraphReaches graph (TookMessage led_to) t.entry t.point t.values
     lead_only = grown_reached graph q f f.entries f.summaries f.given pending es ds (IsNext flow e) taken_led next_reached sound

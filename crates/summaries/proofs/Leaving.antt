@@ -107,7 +107,7 @@ module _ {A G : Type 0} (graph : Graph G) (q : ℕ) (f g : Found A) where
 
 module _ {X : Type 0} (xs ys : List X) (x : X) (new : Member x xs → ⊥) (keys : ys ≡ xs ++ x ∷ []) (at : ℕ)
     (here : slice_get ys at ≡ Some x) where
-  -- the place of what is new is none of those before
+  -- the place of what is new is not one of those before
   pub place_new : at < length xs → ⊥
   place_new near = new (subst (λ y. Member y xs) same (member_at xs x at near))
     where
@@ -119,7 +119,7 @@ module _ {X : Type 0} (xs ys : List X) (x : X) (new : Member x xs → ⊥) (keys
   pub got_new : (y : X) → slice_get xs at ≡ Some y → ⊥
   got_new y is = place_new (slice_get_within xs at y is)
 
--- A pair that is new has a place behind those of the others, which is told to its callers.
+-- A pair that is new has a place after those of the others, which is told to its callers.
 module _ {A : Type 0} (q : ℕ) (f g : Found A) (a : ℕ) (b : Left) (at : ℕ) (callers : List Caller) (old : IsIndexed f)
     (new : Member (pair a b) f.pairs.keys → ⊥) (keys : g.pairs.keys ≡ f.pairs.keys ++ pair a b ∷ [])
     (here : slice_get g.pairs.keys at ≡ Some (pair a b))
@@ -193,7 +193,7 @@ module _ {A : Type 0} (q : ℕ) (f g : Found A) (a : ℕ) (b : Left) (at : ℕ) 
       (λ m (from, is_in, w). let (x, is_told, is) = mail_told q cs g.pairs.keys a b at here from m w in (x, (from, is_in, is_told), is))
       mailed)
 
--- of a pair that is new nobody is told yet
+-- no caller has been told of a new pair yet
 pub none_told : {A : Type 0} (f : Found A) → IsIndexed f → (p : Pair) (ys : List Pair) (at : ℕ) (callers : List Caller) →
     (Member p f.pairs.keys → ⊥) → ys ≡ f.pairs.keys ++ p ∷ [] → slice_get ys at ≡ Some p →
     (x : Sent) → OfSome (IsTold at) callers x → Member x f.given.sent.items → ⊥

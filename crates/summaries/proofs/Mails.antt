@@ -1,4 +1,4 @@
--- The messages given, of which none stands twice, and callers that are known.
+-- The messages given, of which none occurs twice, and callers that are known.
 use Rattle.std.proofs.Common.{zero, suc, take, drop, ◌≡◌, ◌≤◌, ◌<◌, ℕ, Bool, true, false, ◌&&◌, List, [], ◌∷◌}
 use Rattle.std.proofs.Common.{◌++◌, length, if◌then◌else◌, inl, inr, refl, sym, ap, ◌∙◌, subst, true≢false, not, Result}
 use Rattle.std.proofs.Common.{Ok, Err, is_ok, arith}
@@ -42,7 +42,7 @@ module _ (c : Caller) (cs ds : List Caller) (same : cs ≡ ds) (found : Bool)
 
 module _ {K : Type 0} (eq : K → K → Bool) (k : K) (ks after : List K) (added : Bool) (tells : added ≡ not (list_any (eq k) ks))
     (keys : after ≡ insert_key eq ks k) where
-  -- a key that is new stands behind the others
+  -- a key that is new comes after the others
   pub inserted_new : added ≡ true → after ≡ ks ++ k ∷ []
   inserted_new is = keys ∙ by (list_any (eq k) ks) (sym tells ∙ is)
     where
@@ -62,7 +62,7 @@ module _ {K : Type 0} (eq : K → K → Bool) (k : K) (ks after : List K) (added
       by true e = refl
       by false e = absurd (true≢false e)
 
--- nothing stands twice in a list with one more that was not in it
+-- nothing occurs twice in a list with one more that was not in it
 pub none_twice_with : {K : Type 0} (k : K) (ks : List K) → (Member k ks → ⊥) → NoneTwice ks → NoneTwice (ks ++ k ∷ [])
 none_twice_with k [] new once = (λ m. elim m [ ], tt)
 none_twice_with k (x ∷ xs) new (x_once, once) = (
@@ -73,23 +73,23 @@ none_twice_with k (x ∷ xs) new (x_once, once) = (
   none_twice_with k xs (λ m. new (inr m)) once,
 )
 
--- what stands among the first stands in the list
+-- what is among the first is in the list
 member_first : {K : Type 0} (x : K) (n : ℕ) (ks : List K) → Member x (take n ks) → Member x ks
 member_first x n ks m = subst (Member x) (take-append-drop n ks) (member_left x (take n ks) (drop n ks) m)
 
--- so nothing stands twice among the first of a list in which nothing does
+-- so nothing occurs twice among the first of a list in which nothing does
 pub none_twice_first : {K : Type 0} (n : ℕ) (ks : List K) → NoneTwice ks → NoneTwice (take n ks)
 none_twice_first zero ks once = tt
 none_twice_first (suc n) [] once = tt
 none_twice_first (suc n) (x ∷ ks) once = (λ m. once.0 (member_first x n ks m), none_twice_first n ks once.1)
 
--- nothing stands twice where one is added, if it can be
+-- nothing occurs twice when one is added, if it can be
 pub once_after : {K T E : Type 0} (k : K) (ks after : List K) (r : Result T E) →
     after ≡ (if is_ok r then ks ++ k ∷ [] else ks) → (Member k ks → ⊥) → NoneTwice ks → NoneTwice after
 once_after k ks after (Ok _) is new once = subst NoneTwice (sym is) (none_twice_with k ks new once)
 once_after k ks after (Err _) is new once = subst NoneTwice (sym is) once
 
--- what stands behind others is not among them, where nothing stands twice
+-- what comes after others is not among them, if nothing occurs twice
 pub next_new : {K : Type 0} (ks : List K) (n m : ℕ) (k : K) → take m ks ≡ take n ks ++ k ∷ [] → NoneTwice ks → Member k (take n ks) → ⊥
 next_new {K = K} ks n m k more once =
     apart (take n ks) (drop m ks) (subst NoneTwice (sym (ap (λ l. l ++ drop m ks) (sym more) ∙ take-append-drop m ks)) once)
@@ -99,7 +99,7 @@ next_new {K = K} ks n m k more once =
     apart (x ∷ xs) ys (x_once, o) (inl e) = x_once (member_left x (xs ++ k ∷ []) ys (member_right x xs (k ∷ []) (inl (sym e))))
     apart (x ∷ xs) ys (x_once, o) (inr m) = apart xs ys o m
 
--- with more messages behind, those that were answered are the same
+-- with more messages appended, those that were answered are the same
 pub answers_still : {K : Type 0} (ks js : List K) (n m : ℕ) → n ≤ length ks → m ≡ n →
     (more : List K) × (js ≡ ks ++ more) → take m js ≡ take n ks
 answers_still ks js n m within same (more, is) = ap (λ i. take i js) same ∙ ap (take n) is ∙ take-append-le n ks more within

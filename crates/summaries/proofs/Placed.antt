@@ -16,7 +16,7 @@ use Rattle.summaries.specs.Grows.{AddsTo}
 use Rattle.summaries.proofs.Dues.{same_entry, same_summary, apart}
 
 module _ {X : Type 0} where
-  -- what stands at a place stands in the list
+  -- what is at a place is in the list
   pub member_at : (xs : List X) (d : X) (i : ℕ) → i < length xs → Member (get_or xs i d) xs
   member_at [] d i near = absurd (omega (arith, near))
   member_at (x ∷ xs) d zero near = inl refl
@@ -27,13 +27,13 @@ module _ {X : Type 0} where
   member_got xs x i is =
       subst (λ y. Member y xs) (get_or_from_slice_get xs i x x is) (member_at xs x i (slice_get_within xs i x is))
 
-  -- what stands in the list stands at a place
+  -- what is in the list is at a place
   pub place_of : (xs : List X) (x : X) → Member x xs → (i : ℕ) × (slice_get xs i ≡ Some x)
   place_of [] x m = absurd m
   place_of (y ∷ xs) x (inl e) = (0, ap Some (sym e))
   place_of (y ∷ xs) x (inr m) = let (i, is) = place_of xs x m in (suc i, is)
 
-  -- it stands there with others behind
+  -- it is there with others appended
   pub got_still : (xs ys : List X) (x : X) (i : ℕ) → slice_get xs i ≡ Some x → slice_get (xs ++ ys) i ≡ Some x
   got_still xs ys x i is =
       let near = slice_get_within xs i x is in
@@ -41,7 +41,7 @@ module _ {X : Type 0} where
       slice_get-get_or (xs ++ ys) i x (omega (arith, near, longer))
       ∙ ap Some (get_or_append_left xs ys x i near ∙ get_or_from_slice_get xs i x x is)
 
-  -- two places do not hold the same, where nothing stands twice
+  -- two places do not hold the same, if nothing occurs twice
   pub one_place : (xs : List X) (d : X) (i j : ℕ) → NoneTwice xs → i < length xs → j < length xs
       → get_or xs i d ≡ get_or xs j d → i ≡ j
   one_place [] d i j once near there same = absurd (omega (arith, near))
@@ -73,7 +73,7 @@ module _ {X Y : Type 0} (f : X → Y) where
     behind = (map f adds.behind.0, ap (map f) adds.behind.1 ∙ map-append f old adds.behind.0);
   }
 
-  -- images stand twice only where two items have the same
+  -- images occur twice only if two items have the same
   pub once_mapped : (xs : List X) → ((x y : X) → Member x xs → Member y xs → f x ≡ f y → x ≡ y) → NoneTwice xs
       → NoneTwice (map f xs)
   once_mapped [] one once = tt
@@ -84,7 +84,7 @@ module _ {X Y : Type 0} (f : X → Y) where
     once_mapped xs (λ y z m n. one y z (inr m) (inr n)) once.1,
   )
 
--- others stand behind those of a list
+-- others come after those of a list
 abbrev pub HasMoreBehind : {X : Type 0} → List X → List X → Type 0
 HasMoreBehind {X} xs ys = (more : List X) × (ys ≡ xs ++ more)
 
@@ -94,7 +94,7 @@ none_behind xs = ([], sym (append-nil xs))
 
 module _ (q : ℕ) (cs : List Call) (ps : List Pair) where
   module _ (ds : List Call) (rs : List Pair) (calls : HasMoreBehind cs ds) (pairs : HasMoreBehind ps rs) where
-    -- a message that has a place has it with more calls and pairs behind
+    -- a message that has a place has it with more calls and pairs appended
     pub placed_still : (x : Sent) → IsPlaced cs ps x → IsPlaced ds rs x
     placed_still (Asked at) near =
         let longer = ap length calls.1 in let sum = length-append cs calls.0 in omega (arith, near, longer, sum)

@@ -56,7 +56,7 @@ module _ {A G : Type 0} (graph : Graph G) (q : ℕ) (f : Found A) (edges : List 
   unfolding is_worked
   is_left a b (v, reached, is) = subst (HasExit f a) (sym is) ((is_worked a 0 v (is_edge a 0 v reached)).leaves refl)
 
-  -- so, where all of it is reached and sent, the table is quiet
+  -- so, if all of it is reached and sent, the table is quiet
   pub is_exact : IsGrounded graph q f edges → IsExact graph q f edges
   is_exact sound = (
     λ a n v. (is_edge a n v, sound.edge a n v),

@@ -33,7 +33,7 @@ same_led x y e =
     λ j. led_at (exact_unsigned_eq x.entry y.entry entry j) (exact_unsigned_eq x.point y.point point j)
     (exact_unsigned_eq x.values y.values values j)
 
--- where an edge was led that choice 0 leads to the same, each choice leads to an edge
+-- if an edge was led that choice 0 leads to the same, each choice leads to an edge
 pub all_led : {G : Type 0} (graph : Graph G) (es : List Triple) (e : Edge) (x : Led) (flow : Flow G)
     → slice_get graph.flows.items e.point ≡ Some flow → IsLedBy flow e x → IsLed graph es x
     → (t : Triple) → IsNext flow e t → Member t es
@@ -46,7 +46,7 @@ all_led graph es e x flow here (more, entry, point, (m, first)) (w, from, n, the
     (subst (λ u. next_of u from i ≡ Some (to, v)) (sym same) (alike ∙ next)) in
     subst (λ u. Member u es) (sym is) (subst (λ a. Member (triple a to v) es) entry led)
 
--- where each choice leads to an edge, it may be remembered so
+-- if each choice leads to an edge, it may be remembered so
 pub led_now : {G : Type 0} (graph : Graph G) (es : List Triple) (e : Edge) (x : Led) (flow : Flow G)
     → slice_get graph.flows.items e.point ≡ Some flow → IsLedBy flow e x → ((t : Triple) → IsNext flow e t → Member t es)
     → IsLed graph es x

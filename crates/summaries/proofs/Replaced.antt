@@ -21,7 +21,7 @@ module _ {A : Type 0} where
   set_get (z ∷ zs) (suc i) (suc q) y x e =
       elim (set_get zs i q y x e) [ inl h ↦ inl (ap suc h.0, h.1) | inr h ↦ inr (λ n. h.0 (omega (arith, n)), h.1) ]
 
-  -- what holds of each item and of the new one holds of each item then
+  -- what holds for each item and for the new one holds for each item then
   pub each_then : (P : ℕ → A → Type 0) (xs : List A) (i : ℕ) (y : A) → ((q : ℕ) (x : A) → slice_get xs q ≡ Some x → P q x) → P i y
       → (q : ℕ) (x : A) → slice_get (slice_set xs i y) q ≡ Some x → P q x
   each_then P xs i y each new q x e =
@@ -41,7 +41,7 @@ module _ {A : Type 0} where
   pushed_get (z ∷ zs) y zero x e = inr e
   pushed_get (z ∷ zs) y (suc q) x e = elim (pushed_get zs y q x e) [ inl h ↦ inl (ap suc h.0, h.1) | inr h ↦ inr h ]
 
-  -- what holds of each item and of one more holds of each item then
+  -- what holds for each item and for one more holds for each item then
   pub each_pushed : (P : ℕ → A → Type 0) (xs : List A) (y : A) → ((q : ℕ) (x : A) → slice_get xs q ≡ Some x → P q x) → P (length xs) y
       → (q : ℕ) (x : A) → slice_get (xs ++ y ∷ []) q ≡ Some x → P q x
   each_pushed P xs y each new q x e =
@@ -50,7 +50,7 @@ module _ {A : Type 0} where
         | inr h ↦ each q x h
       ]
 
-  -- a list whose images stand at the places of another one, as long, has that one as its images
+  -- a list whose images are at the places of another one of the same length has that one as its images
   pub map_is : {B : Type 0} (f : A → B) (xs : List A) (ys : List B) → length xs ≡ length ys
       → ((q : ℕ) (x : A) → slice_get xs q ≡ Some x → slice_get ys q ≡ Some (f x)) → map f xs ≡ ys
   map_is f [] [] long each = refl

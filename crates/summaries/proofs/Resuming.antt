@@ -69,7 +69,7 @@ module _ {A G : Type 0} (graph : Graph G) (q : ℕ) (f : Found A) (summaries : G
   )
 
   module _ (es ds : List Triple) (sound : IsGrounded graph q f es) where
-    -- what is behind a call is reached
+    -- what is after a call is reached
     pub resumed_reached : (t : Triple) → OfSome (λ y. IsBehind graph y b) (under call_eq f.sites.by_key k) t →
         GraphReaches graph M t.entry t.point t.values
     resumed_reached t (y, m, (s, x, n, (fl, at, en), is)) =
@@ -82,7 +82,7 @@ module _ {A G : Type 0} (graph : Graph G) (q : ℕ) (f : Found A) (summaries : G
         (returns y.asked y.point y.values k.callee k.entered back b flow
         (reaches_more graph (TookMessage f) M taken_resumed y.asked y.point y.values reached) here enters left_so)
 
-    -- so, where nothing but that is added, all edges are
+    -- so all edges are, if nothing else is added
     pub resume_only : ((t : Triple) → Member t ds →
         OfSome (λ y. IsBehind graph y b) (under call_eq f.sites.by_key k) t ⊎ Member t es) → (t : Triple) → Member t ds →
         GraphReaches graph M t.entry t.point t.values

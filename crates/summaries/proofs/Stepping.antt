@@ -149,7 +149,7 @@ module _ {A G : Type 0} (graph : Graph G) (q : ℕ) (f : Found A) (es : List Tri
     led = old.led;
   }
 
--- more edges than a limit are reached, where one beside as many is
+-- more edges than a limit are reached, if one is reached beside as many as the limit
 pub has_more : (limit : ℕ) (es : List Triple) (P : Triple → Type 0) → NoneTwice es → ((t : Triple) → Member t es → P t)
     → (t : Triple)
     → P t → (Member t es → ⊥) → limit ≤ length es → HasMore limit P
@@ -164,7 +164,7 @@ all_reached graph q f g es sound taken t m =
     reaches_more graph (TookMessage f) (TookMessage g) taken t.entry t.point t.values
     (sound.edge t.entry t.point t.values m)
 
--- where the entries and the summaries are the same, so are the messages taken
+-- if the entries and the summaries are the same, so are the messages taken
 pub taken_as : {A : Type 0} (f g : Found A) → ((a : ℕ) → under nat_eq g.entries.by_key a ≡ under nat_eq f.entries.by_key a)
     → ((c : Call) → under call_eq g.summaries.by_key c ≡ under call_eq f.summaries.by_key c) →
     (k : NumberedMessage) → TookMessage f k → TookMessage g k
@@ -207,7 +207,7 @@ module _ {A G : Type 0} (graph : Graph G) (q : ℕ) (f : Found A) (entries : Gro
 
   module _ (es ds : List Triple) (W : Triple → Type 0) (taken : (k : NumberedMessage) → TookMessage f k → TookMessage grown_to k)
       (reached : (t : Triple) → W t → GraphReaches graph (TookMessage grown_to) t.entry t.point t.values) where
-    -- where nothing but what is reached is added, all edges are
+    -- all edges are, if nothing is added but what is reached
     pub grown_reached : IsGrounded graph q f es → ((t : Triple) → Member t ds → W t ⊎ Member t es) →
         (t : Triple) → Member t ds → GraphReaches graph (TookMessage grown_to) t.entry t.point t.values
     grown_reached sound only t m = elim (only t m) [
@@ -253,7 +253,7 @@ module _ {A G : Type 0} (graph : Graph G) (q : ℕ) (f : Found A) (entries : Gro
       indexed = λ old. indexed_as f grown_to refl refl (λ a. refl) (λ x. placed x old) old;
     }
 
--- what follows of two facts where the answer is Ok
+-- what follows from two facts if the answer is Ok
 pub both_ok : {T E P Q R : Type 0} (r : Result T E) → (P → Q → R) → OnOk r P → OnOk r Q → OnOk r R
 both_ok (Ok _) f p q = f p q
 both_ok (Err _) f p q = tt

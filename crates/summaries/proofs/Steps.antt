@@ -48,7 +48,7 @@ number_of_due (Entry Starter a) = (numbered_entry starter a, refl)
 number_of_due (Entry (Proc q) a) = (numbered_entry (caller q) a, refl)
 number_of_due (Summary s r a b) = (numbered_summary s a (left b r), refl)
 
--- what a message's numbers are, where it is the starter's
+-- what a message's numbers are, if it is the starter's
 is_opening : (k : NumberedMessage) → due_of k ≡ Entry Starter 0 → k ≡ numbered_entry starter 0
 is_opening (numbered_entry starter a) e = let same : a ≡ 0 = cc in ap (numbered_entry starter) same
 is_opening (numbered_entry (caller q) a) e = let no : ⊥ = cc in absurd no
@@ -96,7 +96,7 @@ module _ {G A S : Type 0} (members : S → List Triple) (p : Program) (Aside : M
   opening_due t is k e = let (routine, there) = there_too ts p.routines 0 t as_many is in
       starter_due p routine there k e
 
-  -- what a table has taken is due, where it has taken only a message that is due beside what it had
+  -- what a table has taken is due, if it has taken only a message that is due beside what it had
   pub only_due : (q : ℕ) (d : Due) (t t' : Table G A S) → slice_get ts q ≡ Some t → TookOnly d t.found t'.found
       → ((k : NumberedMessage) → due_of k ≡ d → IsNumberOf (IsDue p q) k) → (k : NumberedMessage) →
       TookMessage t'.found k → IsNumberOf (IsDue p q) k
@@ -144,7 +144,7 @@ module _ {G A S : Type 0} (members : S → List Triple) (p : Program) (Aside : M
   pub mail_receiver : (s : ℕ) (d : Due) → ((k : NumberedMessage) → due_of k ≡ d → IsNumberOf (IsDue p s) k) → s < length ts
   mail_receiver s d due = let (k, e) = number_of_due d in is_receiver s k (due k e)
 
-  -- where a table answers, or has nothing to answer
+  -- a table answers, or has nothing to answer
   goes_on : (q : ℕ) (t t' : Table G A S) → slice_get ts q ≡ Some t → IsTable members t' → t'.fault ≡ None → StaysAs t t'
       → TookSame t.found t'.found → Becomes members p q t t'
   goes_on q t t' is table whole stays same = record {
@@ -224,7 +224,7 @@ module _ {G A S : Type 0} (members : S → List Triple) where
       ]
 
 module _ {G A S : Type 0} where
-  -- how many messages the tables may answer still, where each may answer fewer than n
+  -- how many messages the tables may answer still, if each may answer fewer than n
   abbrev pub left_of : ℕ → Table G A S → ℕ
   left_of n t = n - length (answers_of t)
 
@@ -278,7 +278,7 @@ pub limit_told : (fault : TableFault) → verdict.EdgeLimit ≡ no_verdict fault
 limit_told Memory e = let no : ⊥ = cc in absurd no
 limit_told EdgeLimit e = refl
 
--- tables that are new have taken nothing but for the opening
+-- tables that are new have taken nothing except the opening
 pub new_tables : {G A S : Type 0} (members : S → List Triple) (p : Program) (ts : List (Table G A S)) → AreDrawnFrom p (map graph_of ts)
     → AreNew members ts → AreTables members p (λ x. x ≡ opening) ts
 new_tables members p ts drawn new = record {
@@ -291,7 +291,7 @@ new_tables members p ts drawn new = record {
   answers = λ q t x is m. absurd (subst (Member x) (new.fresh q t is).answered m);
 }
 
--- where there are no tables, nothing is left aside
+-- if there are no tables, nothing is left aside
 pub none_aside : {G A S : Type 0} (members : S → List Triple) (p : Program) (Aside : Mail → Type 0) (ts : List (Table G A S))
     → length ts ≡ 0 → AreTables members p Aside ts → AreTables members p (λ x. ⊥) ts
 none_aside members p Aside [] none are = record {

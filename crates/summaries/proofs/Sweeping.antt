@@ -1,4 +1,4 @@
--- What tables hold together where one of them takes or answers a message.
+-- What tables hold together if one of them takes or answers a message.
 use Rattle.std.proofs.Common.{◌≡◌, ◌⊎◌, ℕ, zero, suc, List, [], ◌∷◌, Some, None, slice_get, slice_set, inl, inr, sym, ap, ◌∙◌, subst}
 use Rattle.std.proofs.Math.Seq.{map-set_same}
 use Rattle.std.proofs.lemmas.Option.{get_or_from_slice_get, same_Some}
@@ -20,7 +20,7 @@ use Rattle.summaries.proofs.Replaced.{set_get, each_then}
 use Rattle.std.proofs.Common.{nat_eq}
 use Rattle.path_sets.specs.EdgeLimits.{most_of}
 
--- what is taken stays so where the same was taken
+-- what is taken stays so if the same was taken
 pub same_taken : {A : Type 0} (old new : Found A) → TookSame old new → (k : NumberedMessage) → TookMessage old k → TookMessage new k
 same_taken old new same (numbered_entry from a) h = subst (λ e. Member (caller_of from) (under nat_eq e.by_key a)) (sym same.0) h
 same_taken old new same (numbered_summary s e b) h = subst (λ m. Member b (under call_eq m.by_key (call s e))) (sym same.1) h
@@ -29,7 +29,7 @@ pub same_taken_back : {A : Type 0} (old new : Found A) → TookSame old new → 
 same_taken_back old new same k h = same_taken new old (sym same.0, sym same.1) k h
 
 module _ {G A S : Type 0} where
-  -- what a table has taken it has taken still, where one is replaced by one that has taken as much
+  -- what a table has taken it has taken still, if one is replaced by one that has taken as much
   pub taken_stays : (ts : List (Table G A S)) (i : ℕ) (t t' : Table G A S) → slice_get ts i ≡ Some t →
       ((k : NumberedMessage) → TookMessage t.found k → TookMessage t'.found k)
       → (q : ℕ) (k : NumberedMessage) → IsTaken (slice_get ts q) k → IsTaken (slice_get (slice_set ts i t') q) k

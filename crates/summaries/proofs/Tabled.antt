@@ -65,6 +65,6 @@ module _ {G A S : Type 0} (members : S → List Triple) (p : Program) (q : ℕ) 
       sent_due x.to k (owed_sent t.graph.now t.procedure t.found (members t.edges) sound x.to k
       (sound.given x.to k (subst (λ d. Member (mail x.to d) keys) (sym e) given)))
 
-  -- where the table has failed for its limit there are more path edges
+  -- if the table has failed for its limit there are more path edges
   pub over_limit : t.fault ≡ Some EdgeLimit → HasMoreEdges p q (most_of t.limit)
   over_limit failed = let (ts, once, more, all) = is.table.many failed in (ts, once, more, λ x m. reached_edge x (all x m))

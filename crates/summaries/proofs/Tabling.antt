@@ -30,7 +30,7 @@ module _ {G A S : Type 0} (members : S → List Triple) (t : Table G A S) (g : F
   taken : (k : NumberedMessage) → TookMessage t.found k → TookMessage there k
   taken = (same_step t.graph.now t.procedure t.found g (members t.edges) paired gave pended).taken
 
-  -- a table stays one where nothing that it finds changes
+  -- a table stays one if nothing that it finds changes
   pub same_table : IsTable members t
       → IsTable members
       (record { graph = t.graph; procedure = t.procedure; limit = t.limit; edges = t.edges; found = there; fault = t.fault })
@@ -70,7 +70,7 @@ module _ {G A S : Type 0} (members : S → List Triple) (t : Table G A S) (g : F
     fault = none;
   }
 
--- the message that is answered next comes behind those answered, and is none of them
+-- the message that is answered next comes after those answered, and is not one of them
 module _ (q : ℕ) (cs : List Call) (ps : List Pair) (xs : List Sent) (n m : ℕ) (x : Sent)
     (next : take m xs ≡ take n xs ++ x ∷ []) where
   pub next_behind : take m (map (mail_of cs ps q) xs) ≡ take n (map (mail_of cs ps q) xs) ++ mail_of cs ps q x ∷ []

@@ -1,4 +1,4 @@
--- Where no table owes a message, the tables have the entries, the pairs and the path edges of their procedures.
+-- If no table owes a message, the tables have the entries, the pairs and the path edges of their procedures.
 use Rattle.std.proofs.Common.{◌≡◌, ◌<◌, ◌↔◌, ℕ, nat_eq, zero, suc, true, List, [], ◌∷◌, Option, Some, None, map, slice_get, length, inl}
 use Rattle.std.proofs.Common.{inr, refl, sym, subst, arith}
 use Rattle.std.proofs.lemmas.Option.{none-some, slice_get_within, same_Some}
@@ -34,7 +34,7 @@ caller_is : (by : callers.Caller) → (from : Caller) × (caller_of from ≡ by)
 caller_is Starter = (starter, refl)
 caller_is (Proc q) = (caller q, refl)
 
--- where there is an item there is a first one
+-- if there is an item there is a first one
 first_too : {X : Type 0} (xs : List X) (q : ℕ) (x : X) → slice_get xs q ≡ Some x → (y : X) × (slice_get xs 0 ≡ Some y)
 first_too [] q x e = absurd (none-some x e)
 first_too (y ∷ ys) q x e = (y, refl)
@@ -58,7 +58,7 @@ has_one n [] h = absurd (omega (arith, h))
 has_one n (x ∷ xs) h = (x, inl refl)
 
 module _ {G A S : Type 0} (members : S → List Triple) (p : Program) (ts : List (Table G A S)) (are : AreTables members p (λ x. ⊥) ts) where
-  -- where a procedure is entered its table is there
+  -- if a procedure is entered its table is there
   entered_table : (q : ℕ) (a : Valuation) → Entered p q a → q < length ts
   entered_table q a entered =
       let (routine, is) = entered_there p q a entered in
@@ -73,7 +73,7 @@ module _ {G A S : Type 0} (members : S → List Triple) (p : Program) (ts : List
       let (a, v, point, edge, ea, en, ev) = all x is in
       entered_table q a edge.0
 
-  -- where some pair is bad there is a first table
+  -- if some pair is bad there is a first table
   pub bad_table : (bad : ℕ) → SomeBad p bad → 0 < length ts
   bad_table bad (x, g, pair, is) = entered_table 0 x ((pair_exit p 0 x g).0 pair).2.0
 
@@ -156,7 +156,7 @@ module _ {G A S : Type 0} (members : S → List Triple) (p : Program) (ts : List
     pub few : (n : ℕ) → HaveLimit n ts → (q : ℕ) → HasMoreEdges p q n → ⊥
     few n limits q more = let (t, is) = got ts q (edge_table q n more) in table_few q t is n limits more
 
-    -- some pair is bad where some pair that the first table keeps has the bit
+    -- some pair is bad if some pair that the first table keeps has the bit
     pub table_bad : (t : Table G A S) → slice_get ts 0 ≡ Some t → (bad : ℕ)
         → SomeBad p bad ↔ ((a : ℕ) × (b : Left) × Member (pair a b) t.found.pairs.keys × (bit_of b.globals bad ≡ true))
     table_bad t is bad =
@@ -203,7 +203,7 @@ module _ {G A S : Type 0} (members : S → List Triple) (p : Program) (ts : List
             );
           }
 
-      -- and some pair is bad where the program has a bad pair
+      -- and some pair is bad if the program has a bad pair
       pub all_bad : (bad : ℕ)
           → ((s : Effect) × (slice_get ss 0 ≡ Some s) ×
           ((a : ℕ) × (b : Left) × Member (pair a b) s.pairs × (bit_of b.globals bad ≡ true))) ↔ SomeBad p bad

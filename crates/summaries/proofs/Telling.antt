@@ -71,7 +71,7 @@ gives_both V W U old mid new first second from to = record {
   );
 }
 
--- one item more
+-- one more item
 pub gives_more : {X T : Type 0} (W : X → T → Type 0) (xs : List X) (y : X) (old mid new : List T) → AddsTo (OfSome W xs) old mid
     → AddsTo (W y) mid new → AddsTo (OfSome W (xs ++ y ∷ [])) old new
 gives_more W xs y old mid new first second =
@@ -79,7 +79,7 @@ gives_more W xs y old mid new first second =
     (λ x w. each_or_last W xs y x w)
     (λ x w. elim w [ inl n ↦ each_left W xs (y ∷ []) x n | inr l ↦ each_last W xs y x l ])
 
--- What is given for an item was not given for those before it, where no item stands twice and each is given its own.
+-- What is given for an item was not given for those before it, if no item occurs twice and each is given its own.
 pub still_new : {X T : Type 0} (W : X → T → Type 0) → ((y z : X) (x : T) → W y x → W z x → y ≡ z) →
     (xs : List X) (i : ℕ) (d : X) → i < length xs → NoneTwice xs → (old mid : List T) →
     ((x : T) → OfSome W xs x → Member x old → ⊥) →
@@ -109,7 +109,7 @@ pub one_pair : (from : Caller) (y z : ℕ) (x : Sent) → IsTold y from x → Is
 unfolding pair_in
 one_pair from y z x (c, is_c, by_c) (d, is_d, by_d) = ap pair_in (sym by_c ∙ by_d)
 
--- with more messages behind, those that were answered are the same
+-- with more messages appended, those that were answered are the same
 pub answers_kept : {A : Type 0} (q : ℕ) (f g : Found A) (W : Mail → Type 0) → g.given.answered ≡ f.given.answered
     → AddsTo W (mails_in q f) (mails_in q g) → answers_in q g ≡ answers_in q f
 answers_kept q f g W same gave =

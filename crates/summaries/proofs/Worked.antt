@@ -32,7 +32,7 @@ module _ {G A S : Type 0} (members : S → List Triple) where
   module _ {T : Type 0} (Aside : Triple → Type 0) (r : Result T TableFault) (old new : Table G A S)
       (edges : (x : Triple) → Member x (members new.edges) → IsReached new x)
       (within : length (members new.edges) ≤ most_of new.limit) (stays : StaysAs old new) (fault : new.fault ≡ old.fault) where
-    -- where the answer is a fault
+    -- if the answer is a fault
     pub failed_worked : (P : TableFault → Type 0) → IsErrAnd r P →
         (r ≡ Err EdgeLimit → HasMore (most_of new.limit) (IsReached new)) → Worked members Aside r old new
     failed_worked P told many = record {
@@ -45,11 +45,11 @@ module _ {G A S : Type 0} (members : S → List Triple) where
       fault = fault;
     }
 
-    -- where memory is refused
+    -- if memory is refused
     pub refused_worked : IsErrAnd r (λ e. e ≡ Memory) → Worked members Aside r old new
     refused_worked told = failed_worked (λ e. e ≡ Memory) told (λ is. absurd (no_limit r told is))
 
-  -- where edges were to be added, and nothing else has changed but what is found
+  -- if edges were to be added, and nothing else has changed except what is found
   pub added_worked : (W Aside : Triple → Type 0) {T : Type 0} (r : Result T TableFault) (old new : Table G A S) (es : List Triple)
       (before after : List Edge) → Adds W r (most_of new.limit) es (members new.edges) before after → NoneTwice (members new.edges) →
       ((x : Triple) → Member x (members new.edges) → IsReached new x) → ((x : Triple) → W x → IsReached new x) →
@@ -67,7 +67,7 @@ module _ {G A S : Type 0} (members : S → List Triple) where
     fault = fault;
   }
 
-  -- work that goes on from other work, and leaves other edges aside
+  -- work that continues from other work, and leaves other edges aside
   pub then_worked : {T : Type 0} (Aside Left : Triple → Type 0) (r : Result T TableFault) (old mid new : Table G A S) →
       StaysAs old mid → mid.fault ≡ old.fault
       → answers_of mid ≡ answers_of old → OnOk r (Holds members Left new) → Worked members Aside r mid new → Worked members Left r old new

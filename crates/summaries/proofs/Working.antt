@@ -17,7 +17,7 @@ use Rattle.summaries.specs.Grows.{IsNext}
 
 module _ {A G : Type 0} (graph : Graph G) (q : ℕ) (f : Found A) (es : List Triple) (e : Edge)
     (leaves : e.point ≡ 0 → HasExit f e.entry (left_by graph e.values)) where
-  -- where there is no such point
+  -- if there is no such point
   pub beyond_worked : length graph.flows.items ≤ e.point → IsWorked graph q f es e.entry e.point e.values
   beyond_worked past = record {
     flows = λ flow i n v here most next. absurd (none flow here);
@@ -28,7 +28,7 @@ module _ {A G : Type 0} (graph : Graph G) (q : ℕ) (f : Found A) (es : List Tri
       none : (flow : Flow G) → slice_get graph.flows.items e.point ≡ Some flow → ⊥
       none flow here = let within = slice_get_within graph.flows.items e.point flow here in omega (arith, within, past)
 
-  -- where the site of its call is there
+  -- if the site of its call is there
   pub called_worked : (call : rust.Call G) → slice_get graph.flows.items e.point ≡ Some (Call call) →
       HasSite f call.callee (entry_of call.globals call.arguments.items e.values) (site e.entry e.point e.values) →
       IsWorked graph q f es e.entry e.point e.values
@@ -42,7 +42,7 @@ module _ {A G : Type 0} (graph : Graph G) (q : ℕ) (f : Found A) (es : List Tri
       is : (flow : Flow G) → slice_get graph.flows.items e.point ≡ Some flow → flow ≡ Call call
       is flow at = same_Some flow (Call call) (sym at ∙ here)
 
-  -- where what its choices lead to is there, and it does not call
+  -- if what its choices lead to is there, and it does not call
   pub led_worked : (flow : Flow G) → slice_get graph.flows.items e.point ≡ Some flow → ((call : rust.Call G) → flow ≡ Call call → ⊥)
       → ((t : Triple) → IsNext flow e t → Member t es) →
       IsWorked graph q f es e.entry e.point e.values

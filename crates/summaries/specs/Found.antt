@@ -1,4 +1,5 @@
--- What a table holds is reached and sent, and nothing that is reached or sent is left out but by what is pending.
+-- What a table holds is reached and sent, and nothing that is reached or sent is missing, except what pending
+-- edges still lead to.
 use Rattle.std.specs.Bool.{beq}
 use Rattle.std.specs.Prelude.{◌≡◌, ◌≤◌, ◌<◌, ◌⊎◌, ◌↔◌, ◌&&◌, ℕ, Bool, false, List, [], Some, nat_eq}
 use Rattle.std.specs.Prelude.{slice_get, take}
@@ -54,7 +55,7 @@ site entry point values = record { asked = entry; point = point; values = values
 abbrev pub led_at : ℕ → ℕ → ℕ → Led
 led_at entry point values = record { entry = entry; point = point; values = values }
 
--- this is left where the entry valuation was this
+-- this is left if the entry valuation was this
 abbrev pub pair : ℕ → Left → Pair
 pair entry exit = record { a = entry; b = exit.globals; r = exit.result }
 
@@ -76,7 +77,7 @@ module _ (calls : List Call) (pairs : List Pair) where
   mail_of procedure (Asked at) = entry_mail procedure (get_or calls at (call 0 0))
   mail_of procedure (Told to at) = summary_mail procedure to (get_or pairs at (pair 0 (left 0 false)))
 
-  -- what the message tells of stands at its place
+  -- what the message tells of is at its place
   abbrev pub IsPlaced : Sent → Type 0
   IsPlaced (Asked at) = at < length calls
   IsPlaced (Told to at) = at < length pairs
@@ -109,7 +110,7 @@ module _ {A : Type 0} (found : Found A) where
   abbrev pub HasSite : ℕ → ℕ → Site → Type 0
   HasSite callee entered place = Member place (under call_eq found.sites.by_key (call callee entered))
 
-  -- this is left where the entry valuation was this
+  -- this is left if the entry valuation was this
   abbrev pub HasExit : ℕ → Left → Type 0
   HasExit entry exit = Member (pair entry exit) found.pairs.keys
 
@@ -117,8 +118,8 @@ module _ {A : Type 0} (found : Found A) where
   abbrev pub HasGiven : ℕ → ℕ → NumberedMessage → Type 0
   HasGiven procedure to message = Member (mail to (due_of message)) (mails_in procedure found)
 
-  -- The message of these numbers is owed to a procedure by the one of this number: an entry, for a site of that call,
-  -- or a summary, for an exit of it and the caller's entry.
+  -- The message of these numbers is owed to a procedure by the one with this number: an entry, for a site of that
+  -- call, or a summary, for an exit of it and the caller's entry.
   abbrev pub IsOwed : ℕ → ℕ → NumberedMessage → Type 0
   IsOwed procedure to (numbered_entry from entered) = (from ≡ caller procedure) × ((x : Site) × HasSite to entered x)
   IsOwed procedure to (numbered_summary callee entry exit) = (callee ≡ procedure) × HasExit entry exit
@@ -171,8 +172,8 @@ module _ {A G : Type 0} (graph : Graph G) (procedure : ℕ) (found : Found A) (e
         HasSite found s e (site entry point values)
     pub leaves : point ≡ 0 → HasExit found entry (left_by graph values)
 
-  -- The start of each entry is an edge; each edge is pending, worked on, or one of those left aside; where a site and a
-  -- summary meet is the edge behind the call; each site's entry is given; where an exit and a caller's entry meet is
+  -- The start of each entry is an edge; each edge is pending, worked on, or one of those left aside; where a site and
+  -- a summary meet is the edge after the call; each site's entry is given; where an exit and a caller's entry meet is
   -- the summary given; each edge remembered as led is.
   pub record IsSaturated (Aside : Triple → Type 0) : Type 0 where
     pub begun : (from : Caller) (a : ℕ) → TookMessage found (numbered_entry from a) → Member (triple a (start_of graph) a) edges

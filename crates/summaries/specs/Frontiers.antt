@@ -17,7 +17,7 @@ module _ {A S : Type 0} (members : S → List Triple) where
   abbrev pub IsWithin : Frontier A S → Type 0
   IsWithin f = length (members f.edges.now) ≤ most_of f.limit
 
-  -- The triples of which W holds were to be added to the path edges, and so answers the adding.
+  -- The triples for which W holds were to be added to the path edges, with this result.
   pub record Reaches (W : Triple → Type 0) {T : Type 0} (answer : Result T TableFault) (old new : Frontier A S) : Type 0 where
     pub adds : Adds W answer (most_of old.limit) (members old.edges.now) (members new.edges.now) old.pending.now.items new.pending.now.items
     pub stays : StaysFrontier old new

@@ -1,4 +1,4 @@
--- Path edges that are added, and stand pending.
+-- Path edges that are added, and become pending.
 use Rattle.std.specs.Prelude.{◌≡◌, ◌≤◌, ◌<◌, ℕ, Option, Some, Result, Err, OnOk, List, ◌⊎◌}
 use Rattle.std.specs.Prelude.{◌++◌, length, ◌+◌, slice_get}
 use Rattle.language.specs.Lists.{Member}
@@ -31,9 +31,8 @@ triple_of edge = triple edge.entry edge.point edge.values
 abbrev pub edge_of : Triple → Edge
 edge_of edge = record { entry = edge.entry; point = edge.point; values = edge.values }
 
--- The triples of which W holds are edges after, beside those before, and no others; each edge that is new stands
--- pending, beside those before; what comes to stand pending is an edge; as many come to stand pending as there are new
--- edges.
+-- The triples for which W holds are edges after, beside those before, and no others; each edge that is new is
+-- pending, beside those before; what becomes pending is an edge; as many become pending as there are new edges.
 pub record Grows (W : Triple → Type 0) (old new : List Triple) (before after : List Edge) : Type 0 where
   pub all : (t : Triple) → W t → Member t new
   pub kept : (t : Triple) → Member t old → Member t new
@@ -44,13 +43,13 @@ pub record Grows (W : Triple → Type 0) (old new : List Triple) (before after :
   pub more : length after + length old ≡ length before + length new
   pub longer : length old ≤ length new
 
--- W holds of each item that is new
+-- W holds for each item that is new
 abbrev pub AddsOnly : {X : Type 0} → (X → Type 0) → List X → List X → Type 0
 AddsOnly {X} W old new = (x : X) → Member x new → W x ⊎ Member x old
 
--- Triples were to be added, and so answers the adding. On Ok those of which W holds are added, and what is new stands
--- pending; whatever the answer, no others are added, and no more than the limit; where the answer is that the limit is
--- passed, there are as many, and one of which W holds is not among them.
+-- Triples were to be added, with this result. On Ok those for which W holds are added, and what is new is pending;
+-- whatever the answer, no others are added, and no more than the limit; if the answer is that the limit is passed,
+-- there are as many, and one for which W holds is not among them.
 pub record Adds (W : Triple → Type 0) {T : Type 0} (answer : Result T TableFault) (most : ℕ) (old new : List Triple)
     (before after : List Edge) : Type 0 where
   pub ok : OnOk answer (Grows W old new before after)
@@ -58,7 +57,7 @@ pub record Adds (W : Triple → Type 0) {T : Type 0} (answer : Result T TableFau
   pub within : length new ≤ most
   pub limit : answer ≡ Err EdgeLimit → (t : Triple) × W t × (Member t new → ⊥) × (most ≤ length new)
 
--- A triple is where the run goes on from an edge, if it does.
+-- A triple is where the run continues from an edge, if it does.
 abbrev pub IsAt : Edge → Option (ℕ × ℕ) → Triple → Type 0
 IsAt edge next reached = (n : ℕ) × (v : ℕ) × (next ≡ Some (n, v)) × (reached ≡ triple edge.entry n v)
 
@@ -74,18 +73,19 @@ IsNext flow edge reached = (i : ℕ) × (i ≤ last_of flow) × IsAt edge (next_
 abbrev pub OfSome : {X T : Type 0} → (X → T → Type 0) → List X → T → Type 0
 OfSome {X} W xs t = (x : X) × Member x xs × W x t
 
--- A call at the point enters this procedure so from these values, and the run goes on at `back` when it returns.
+-- A call at the point enters this procedure so from these values, and the run continues at `back` when it
+-- returns.
 abbrev pub EntersAt : {G : Type 0} → Graph G → ℕ → ℕ → ℕ → ℕ → ℕ → Type 0
 EntersAt {G} graph point values callee entered back =
     (flow : Flow G) × (slice_get (flows_of graph) point ≡ Some flow) × (entered_by flow values ≡ Some (callee, entered, back))
 
--- A triple is the edge behind the call of a site, where it has left this.
+-- A triple is the edge after the call of a site, if it has left this.
 abbrev pub IsBehind : {G : Type 0} → Graph G → Site → Left → Triple → Type 0
 IsBehind graph site exit edge =
     (s : ℕ) × (e : ℕ) × (back : ℕ) × EntersAt graph site.point site.values s e back
     × (edge ≡ triple site.asked back (resumed_at graph site.point site.values exit))
 
--- The items of which W holds are there after, beside those before, and no others; they come behind those before.
+-- The items for which W holds are there after, beside those before, and no others; they come after those before.
 pub record AddsTo {X : Type 0} (W : X → Type 0) (old new : List X) : Type 0 where
   pub all : (x : X) → W x → Member x new
   pub only : (x : X) → Member x new → W x ⊎ Member x old
@@ -99,7 +99,7 @@ IsTold pair from sent = (c : ℕ) × (from ≡ Proc c) × (sent ≡ Told c pair)
 abbrev pub IsSummaryTold : ℕ → ℕ → Left → Caller → Mail → Type 0
 IsSummaryTold procedure entry exit from message = (c : ℕ) × (from ≡ Proc c) × (message ≡ mail c (summary_due procedure entry exit))
 
--- Messages were to be given, and so answers the giving. On Ok those of which W holds are given; whatever the answer, no
+-- Messages were to be given, with this result. On Ok those for which W holds are given; whatever the answer, no
 -- others are, and no more are answered.
 pub record Gives {A T E : Type 0} (W : Sent → Type 0) (answer : Result T E) (old new : Given A) : Type 0 where
   pub ok : OnOk answer (AddsTo W old.sent.items new.sent.items)

@@ -15,7 +15,7 @@ pub record Mail : Type 0 where
 abbrev pub mail : ℕ → Due → Mail
 mail to due = record { to = to; due = due }
 
--- the message that the procedure, where it was entered with this valuation, has left this
+-- the message that the procedure, if it was entered with this valuation, has left this
 abbrev pub summary_due : ℕ → ℕ → Left → Due
 summary_due procedure entry left = Summary procedure left.result entry left.globals
 

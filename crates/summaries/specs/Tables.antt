@@ -62,11 +62,11 @@ abbrev pub fault_of : {T : Type 0} → Result T TableFault → Option TableFault
 fault_of (Ok _) = None
 fault_of (Err fault) = Some fault
 
--- there are more than n triples, none twice, of which P holds
+-- there are more than n triples, none twice, for which P holds
 abbrev pub HasMore : ℕ → (Triple → Type 0) → Type 0
 HasMore n P = (ts : List Triple) × NoneTwice ts × (n < length ts) × ((t : Triple) → Member t ts → P t)
 
--- the table, failed where the answer is a fault
+-- the table, failed if the answer is a fault
 abbrev pub failed_by : {G A S T : Type 0} → Result T TableFault → Table G A S → Table G A S
 failed_by (Ok _) table = table
 failed_by (Err fault) table = record {
@@ -96,22 +96,23 @@ pub record StaysAs {G A S : Type 0} (old new : Table G A S) : Type 0 where
   pub procedure : new.procedure ≡ old.procedure
   pub limit : new.limit ≡ old.limit
 
--- The table has answered this message: it comes behind those that were answered before, is sent by the messages taken,
--- and is none of those answered before.
+-- The table has answered this message: it comes after those that were answered before, is sent by the messages taken,
+-- and is not one of those answered before.
 pub record IsAnswer {G A S : Type 0} (old new : Table G A S) (to : ℕ) (message : Due) : Type 0 where
   pub behind : answers_of new ≡ answers_of old ++ mail to message ∷ []
   pub due : (k : NumberedMessage) → due_of k ≡ message → Sends new.graph.now new.procedure (TookMessage new.found) to k
   pub once : Member (mail to message) (answers_of old) → ⊥
 
 module _ {G A S : Type 0} (members : S → List Triple) where
-  -- All that the table holds is reached and sent, and nothing that is reached or sent is left out but by what is
-  -- pending and by the edges left aside.
+  -- All that the table holds is reached and sent, and nothing that is reached or sent is missing, except what
+  -- pending edges and the edges left aside still lead to.
   abbrev pub Holds : (Triple → Type 0) → Table G A S → Type 0
   Holds Aside table = IsGrounded table.graph.now table.procedure table.found (members table.edges) ×
       IsSaturated table.graph.now table.procedure table.found (members table.edges) Aside
 
-  -- The edges kept are reached by the messages taken, and no more than the limit; unless the table has failed, nothing
-  -- is left out but by what is pending; where it has failed for its limit, more edges than that are reached.
+  -- The edges kept are reached by the messages taken, and no more than the limit; unless the table has failed,
+  -- nothing is missing, except what pending edges still lead to; if it has failed for its limit, more edges than
+  -- that are reached.
   pub record IsTable (table : Table G A S) : Type 0 where
     pub edges : (x : Triple) → Member x (members table.edges) → IsReached table x
     pub within : length (members table.edges) ≤ limit_of table
@@ -125,9 +126,10 @@ module _ {G A S : Type 0} (members : S → List Triple) where
     pub answered : answers_of fresh ≡ []
     pub fault : fresh.fault ≡ None
 
-  -- The table has worked, and so answers. It is that of the same procedure; the edges kept are reached by the messages
-  -- taken, and no more than the limit. On Ok nothing is left out but by what is pending and by the edges left aside,
-  -- and no message was answered; where the answer is that the limit is passed, more edges than that are reached.
+  -- The table has worked, with this result. It is that of the same procedure; the edges kept are reached by the
+  -- messages taken, and no more than the limit. On Ok nothing is missing, except what pending edges and the edges
+  -- left aside still lead to, and no message was answered; if the answer is that the limit is passed, more edges
+  -- than that are reached.
   pub record Worked (Aside : Triple → Type 0) {T : Type 0} (answer : Result T TableFault) (old new : Table G A S) : Type 0 where
     pub holds : OnOk answer (Holds Aside new)
     pub edges : (x : Triple) → Member x (members new.edges) → IsReached new x
@@ -137,9 +139,9 @@ module _ {G A S : Type 0} (members : S → List Triple) where
     pub stays : StaysAs old new
     pub fault : new.fault ≡ old.fault
 
-  -- The table was given a message to take, and so answers. It is that of the same procedure, and has failed where the
+  -- The table was given a message to take, with this result. It is that of the same procedure, and has failed if the
   -- answer is a fault. On Ok it has taken the message, and answered none; it has taken no other; once failed, it
-  -- answers that from then on.
+  -- returns that from then on.
   pub record TableTakes (message : Due) {T : Type 0} (answer : Result T TableFault) (old new : Table G A S) : Type 0 where
     pub table : IsTable new
     pub taken : OnOk answer (TookAlso message old.found new.found)
@@ -149,14 +151,14 @@ module _ {G A S : Type 0} (members : S → List Triple) where
     pub fault : new.fault ≡ fault_of answer
     pub again : (e : TableFault) → old.fault ≡ Some e → answer ≡ Err e
 
-  -- The table is that of the same procedure, has taken the same messages, and has this fault, where there is one.
+  -- The table is that of the same procedure, has taken the same messages, and has this fault, if there is one.
   pub record KeepsTable (fault_now : Option TableFault) (old new : Table G A S) : Type 0 where
     pub table : IsTable new
     pub taken : TookSame old.found new.found
     pub stays : StaysAs old new
     pub fault : new.fault ≡ fault_now
 
-  -- as many edges more came to stand pending as were found
+  -- as many more edges became pending as were found
   abbrev pub IsLess : Table G A S → Table G A S → Type 0
   IsLess old new =
       (length new.found.pending.items + length (members old.edges) ≡ length old.found.pending.items + length (members new.edges))

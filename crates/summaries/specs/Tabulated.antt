@@ -14,7 +14,7 @@ use Rattle.summaries.specs.declared.no_verdict.NoVerdict.{NoVerdict}
 use Rattle.summaries.specs.declared.no_verdict.NoVerdict.TheVariants as verdict
 use Rattle.summaries.specs.Found.{pair}
 
--- why there is no verdict, where a table has failed
+-- why there is no verdict, if a table has failed
 abbrev pub no_verdict : TableFault → NoVerdict
 no_verdict fault.Memory = verdict.Memory
 no_verdict fault.EdgeLimit = verdict.EdgeLimit

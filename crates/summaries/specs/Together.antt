@@ -46,7 +46,7 @@ module _ {G A S : Type 0} where
     pub pairs_ascend : ArePairsAscending summary.pairs
     pub pairs : (x : Pair) → Member x summary.pairs ↔ Member x table.found.pairs.keys
 
-  -- each summary is that of the table of its number
+  -- each summary is that of the table with its number
   abbrev pub AreReadOff : List (Table G A S) → List Effect → Type 0
   AreReadOff ts ss = (q : ℕ) (t : Table G A S) (s : Effect) → slice_get ts q ≡ Some t → slice_get ss q ≡ Some s → IsReadOff t s
 
@@ -61,14 +61,14 @@ module _ {G A S : Type 0} (members : S → List Triple) where
     pub table : IsTable members its_table
     pub due : (k : NumberedMessage) → TookMessage its_table.found k → IsNumberOf (IsDue program procedure) k
 
-  -- Each table is that of the procedure of its number, and has taken nothing yet.
+  -- Each table is that of the procedure with its number, and has taken nothing yet.
   pub record AreNew (ts : List (Table G A S)) : Type 0 where
     pub fresh : (q : ℕ) (t : Table G A S) → slice_get ts q ≡ Some t → IsNew members t
     pub number : (q : ℕ) (t : Table G A S) → slice_get ts q ≡ Some t → procedure_of t ≡ q
 
   -- The tables are those of the program's procedures, by number, and none has failed; what each has taken is due for
-  -- its procedure; and the opening and each message that was answered is taken by its receiver, but for those left
-  -- aside.
+  -- its procedure; and the opening and each message that was answered is taken by its receiver, except for those
+  -- left aside.
   pub record AreTables (program : Program) (Aside : Mail → Type 0) (ts : List (Table G A S)) : Type 0 where
     pub drawn : AreDrawnFrom program (map graph_of ts)
     pub table : (q : ℕ) (t : Table G A S) → slice_get ts q ≡ Some t → IsTable members t

@@ -9,7 +9,7 @@ abbrev pub values_in : {V A : Type 0} → Values V A → List V
 values_in (One value) = value ∷ []
 values_in (Many many) = many.items
 
--- the values, where there are any
+-- the values, if there are any
 abbrev pub items_of : {V A : Type 0} → Option (Values V A) → List V
 items_of None = []
 items_of (Some values) = values_in values

@@ -7,7 +7,7 @@ use language::Word;
 pub enum Caller {
     /// Nobody: procedure 0 is entered as the program starts.
     Starter,
-    /// A call in the procedure of this number.
+    /// A call in the procedure with this number.
     Proc(u8),
 }
 
@@ -21,12 +21,12 @@ pub enum Due {
         /// The valuation on entry.
         a: Word,
     },
-    /// A procedure that it calls leaves the globals `b` and the result `r` where it was entered with `a`.
-    // The small ones stand first, where they share a word.
+    /// A procedure that it calls leaves the globals `b` and the result `r` if it was entered with `a`.
+    // The small ones come first, where they share a word.
     Summary {
         /// The procedure called.
         p: u8,
-        /// Its result: 0 where it gives none.
+        /// Its result: 0 if it gives none.
         r: bool,
         /// The valuation on its entry.
         a: Word,

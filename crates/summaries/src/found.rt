@@ -39,7 +39,7 @@ impl<A: Allocator + Copy> Found<A> {
     ghost use Rattle.summaries.specs.Mails.{mail};
     ghost use Rattle.summaries.specs.Found.{calls_in, mail_of, IsPlaced, IsEmpty};
 
-    /// Nothing is found, which takes no memory yet.
+    /// Nothing is found; this takes no memory yet.
     pub(crate) fn new(alloc: A) -> Self
         ensures { IsEmpty result }
     {

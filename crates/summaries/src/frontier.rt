@@ -20,8 +20,8 @@ impl<'e, 'p, A: Allocator, S: PathSet<A>> Frontier<'e, 'p, A, S> {
     ghost use Rattle.summaries.specs.Grows.{triple_of};
     ghost use Rattle.summaries.specs.Frontiers.{Reaches, IsWithin};
 
-    /// Adds one path edge, if it is new, and lets it stand pending. Where it is new and the limit is reached, the
-    /// answer is `EdgeLimit`. At an error the edges may have it, and it need not be pending.
+    /// Adds one path edge, if it is new, and makes it pending. If it is new and the limit is reached, the answer
+    /// is `EdgeLimit`. After an error the edges may have it, and it need not be pending.
     #[inline(always)]
     pub(crate) fn reach(&mut self, edge: Edge) -> Result<(), TableFault>
         requires { IsWithin S.members self.old }

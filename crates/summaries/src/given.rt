@@ -50,7 +50,7 @@ impl<A: Allocator + Copy> Given<A> {
         }
     }
 
-    /// Gives a message that was not given before. Where memory is refused, nothing changes.
+    /// Gives a message that was not given before. If memory is refused, nothing changes.
     pub(crate) fn give(&mut self, message: Sent) -> Result<(), AllocError>
         requires { ¬ Member message self.old.sent.items }
         ensures ok { OnOk result (self.new.sent.items ≡ self.old.sent.items ++ message ∷ []) }
@@ -61,7 +61,7 @@ impl<A: Allocator + Copy> Given<A> {
         Ok(())
     }
 
-    /// Gives the entry of the call at a place, unless it is known. Where memory is refused, nothing changes.
+    /// Gives the entry of the call at a place, unless it is known. If memory is refused, nothing changes.
     pub(crate) fn ask(&mut self, known: bool, call: usize) -> Result<(), AllocError>
         requires { OnFalse known (¬ Member (Asked call) self.old.sent.items) }
         ensures known { OnOk result (OnTrue known (self.new.sent.items ≡ self.old.sent.items)) }

@@ -13,8 +13,8 @@ impl<'e, 'p, A: Allocator, S: PathSet<A>> Frontier<'e, 'p, A, S> {
     ghost use Rattle.summaries.specs.Grows.{OfSome, IsBehind};
     ghost use Rattle.summaries.specs.Frontiers.{Reaches, IsWithin};
 
-    /// Goes on behind the call of a site, for what it has left; nowhere where no call stands there. At an error the
-    /// edge may be added.
+    /// Continues after the call of a site, for what it has left; nowhere if there is no such call. After an error
+    /// the edge may have been added.
     fn reach_behind<G: Allocator>(
         &mut self,
         graph: &Graph<G>,
@@ -38,7 +38,8 @@ impl<'e, 'p, A: Allocator, S: PathSet<A>> Frontier<'e, 'p, A, S> {
         self.reach(edge)
     }
 
-    /// Goes on behind the call of a site for each of what it has left. At an error some of the edges are added.
+    /// Continues after the call of a site for each thing that it has left. After an error some of the edges
+    /// have been added.
     pub(crate) fn go_on<G: Allocator>(
         &mut self,
         graph: &Graph<G>,
@@ -55,7 +56,8 @@ impl<'e, 'p, A: Allocator, S: PathSet<A>> Frontier<'e, 'p, A, S> {
         Ok(())
     }
 
-    /// Goes on behind the call of each of these sites, for what it has left. At an error some of the edges are added.
+    /// Continues after the call of each of these sites, for what it has left. After an error some of the edges have
+    /// been added.
     pub(crate) fn go_on_at_each<G: Allocator>(
         &mut self,
         graph: &Graph<G>,

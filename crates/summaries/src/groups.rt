@@ -40,7 +40,7 @@ impl<K: Eq + Hash + Copy, V: Copy, A: Allocator + Copy> Groups<K, V, A> {
         }
     }
 
-    /// Adds a value to those of a key. Where memory is refused, each key has the values that it had.
+    /// Adds a value to those of a key. If memory is refused, each key has the values that it had.
     // Inlined: handing back `Added` costs more than the rest for a new key.
     #[inline(always)]
     pub(crate) fn add(&mut self, key: K, value: V) -> Result<Added, AllocError>

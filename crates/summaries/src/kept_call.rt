@@ -5,8 +5,8 @@ use language::Point;
 use path_sets::Halves;
 use std::marker::Model;
 
-/// A call as a table keeps it, which takes 24 bytes, and not 32. Contracts see it as the call. The callee has 64 bits,
-/// so that nothing is copied but whole words: a processor waits for a word that was written in parts.
+/// A call as a table keeps it, which takes 24 bytes instead of 32. Contracts see it as the call. The callee has 64
+/// bits, so that nothing is copied but whole words: a processor waits for a word that was written in parts.
 #[derive(Clone, Copy, Debug, PartialEq, Eq, Hash)]
 pub(crate) struct KeptCall {
     callee: u64,
@@ -50,7 +50,7 @@ impl KeptCall {
     }
 }
 
-/// A site as a table keeps it, which takes 40 bytes, and not 48. Contracts see it as the site.
+/// A site as a table keeps it, which takes 40 bytes instead of 48. Contracts see it as the site.
 #[derive(Clone, Copy, Debug)]
 pub(crate) struct KeptSite {
     asked: Halves,

@@ -4,7 +4,8 @@ use flow_graph::Left;
 use path_sets::Halves;
 use std::marker::Model;
 
-/// What a call leaves, as a table keeps it, which takes 24 bytes, and not 32. Contracts see it as what is left.
+/// What a call leaves, as a table keeps it, which takes 24 bytes instead of 32. Contracts see it as what is
+/// left.
 #[derive(Clone, Copy, Debug)]
 pub(crate) struct KeptLeft {
     globals: Halves,

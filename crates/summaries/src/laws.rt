@@ -26,7 +26,7 @@ ghost use Rattle.summaries.specs.Together.{IsTableOf};
 use path_sets::PathSet;
 use std::alloc::Allocator;
 
-/// Where nothing is pending, the edges are what is reached by the messages taken, and the messages given are what is
+/// If nothing is pending, the edges are what is reached by the messages taken, and the messages given are what is
 /// sent.
 pub fn a_quiet_table_has_what_is_reached<A: Allocator, G: Allocator>()
     ensures { (graph : Graph G) (q : ℕ) (f : Found A) (edges : List Triple)
@@ -35,7 +35,7 @@ pub fn a_quiet_table_has_what_is_reached<A: Allocator, G: Allocator>()
 {}
 
 /// The table of a procedure that has taken only messages which are due for it keeps only path edges of the procedure,
-/// and answers only messages which are due for their receivers. It fails for its limit only where there are more path
+/// and answers only messages which are due for their receivers. It fails for its limit only if there are more path
 /// edges.
 pub fn a_table_keeps_path_edges_and_answers_what_is_due<G: Allocator, A: Allocator, S: PathSet<A>>()
     ensures edges { (p : Program) (q : ℕ) (t : Table G A S) → IsTableOf S.members p q t

@@ -11,8 +11,8 @@ use language::{Point, Word};
 use path_sets::{Halves, PathSet};
 use std::alloc::Allocator;
 
-/// A flow with at least this number of choices is led once for all valuations that it leads alike. With fewer, to
-/// remember an edge takes more than to lead it again.
+/// A flow with at least this number of choices is led once for all valuations that it leads alike. With fewer,
+/// remembering an edge takes more than leading it again.
 const MANY: Word = 8;
 
 /// What an edge is remembered by when its choices are led, if there are many.
@@ -35,7 +35,7 @@ impl<'e, 'p, A: Allocator, S: PathSet<A>> Frontier<'e, 'p, A, S> {
     ghost use Rattle.summaries.specs.Grows.{IsAt, IsNext};
     ghost use Rattle.summaries.specs.Frontiers.{Reaches, IsWithin};
 
-    /// Reaches where the run goes on from an edge, if it does.
+    /// Reaches where the run continues from an edge, if it does.
     #[inline(always)]
     fn reach_next(&mut self, from: Edge, next: Option<(Point, Word)>) -> Result<(), TableFault>
         requires { IsWithin S.members self.old }
@@ -52,7 +52,8 @@ impl<'e, 'p, A: Allocator, S: PathSet<A>> Frontier<'e, 'p, A, S> {
         self.reach(edge)
     }
 
-    /// Reaches what each choice of a flow leads to from an edge. At an error some of the edges are added.
+    /// Reaches what each choice of a flow leads to from an edge. After an error some of the edges have been
+    /// added.
     #[inline(always)]
     pub(crate) fn lead<G: Allocator>(
         &mut self,

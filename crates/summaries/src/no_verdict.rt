@@ -6,7 +6,7 @@ ghost use Rattle.summaries.specs.declared.no_verdict.NoVerdict.TheVariants.{Memo
 use crate::table_fault::TableFault;
 use std::alloc::{AllocError, AllocFailed};
 
-/// Why an analysis has no verdict. Of several reasons the one that stands first here is answered.
+/// Why an analysis has no verdict. Of several reasons, the one that comes first here is returned.
 #[derive(Clone, Copy, Debug, PartialEq, Eq)]
 pub enum NoVerdict {
     /// Some procedure of the rewritten program has more than 128 places.

@@ -10,6 +10,6 @@ pub struct Pair {
     pub a: Word,
     /// The globals that are left.
     pub b: Word,
-    /// The result: 0 where the procedure gives none.
+    /// The result: 0 if the procedure gives none.
     pub r: bool,
 }

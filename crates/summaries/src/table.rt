@@ -55,8 +55,8 @@ impl<'g, G: Allocator, A: Allocator + Copy, S: PathSet<A>> Table<'g, G, A, S> {
         }
     }
 
-    /// Takes a message: a caller enters the procedure with the valuation `a`. Where memory is refused, or an edge more
-    /// than the limit is found, the table has failed, and answers that from then on.
+    /// Takes a message: a caller enters the procedure with the valuation `a`. If memory is refused, or one edge more
+    /// than the limit is found, the table has failed, and returns that from then on.
     pub fn take_entry(&mut self, caller: Caller, a: Word) -> Result<(), TableFault>
         requires { IsTable S.members self.old }
         ensures { TableTakes S.members (Entry caller a) result self.old self.new }
@@ -91,7 +91,7 @@ impl<'g, G: Allocator, A: Allocator + Copy, S: PathSet<A>> Table<'g, G, A, S> {
     }
 
     /// The next message that the table owes by those that it has taken, and the procedure that it is for; each comes
-    /// once. `None` where there is no more until another message is taken. It fails as `take_entry` does.
+    /// once. `None` if there is no more until another message is taken. It fails as `take_entry` does.
     pub fn next(&mut self) -> Result<Option<(u8, Due)>, TableFault>
         requires { IsTable S.members self.old }
         ensures keeps { KeepsTable S.members (fault_of result) self.old self.new }
@@ -130,7 +130,7 @@ impl<'g, G: Allocator, A: Allocator + Copy, S: PathSet<A>> Table<'g, G, A, S> {
         Some(self.found.mail(self.procedure, message))
     }
 
-    /// Works on one edge. Answers whether there was one.
+    /// Works on one edge. Returns whether there was one.
     fn step(&mut self) -> Result<bool, TableFault>
         requires table { IsTable S.members self.old }
         requires fault { self.old.fault ≡ None }
@@ -146,7 +146,7 @@ impl<'g, G: Allocator, A: Allocator + Copy, S: PathSet<A>> Table<'g, G, A, S> {
         let Some(edge) = self.found.pending.pop() else {
             return Ok(false);
         };
-        // Read field by field: a processor waits for a word that it has just written in parts.
+        // Read field by field, since a processor waits for a word that it has just written in parts.
         let Edge {
             entry,
             point,
@@ -161,7 +161,7 @@ impl<'g, G: Allocator, A: Allocator + Copy, S: PathSet<A>> Table<'g, G, A, S> {
         Ok(true)
     }
 
-    /// Fails where the answer is a fault.
+    /// Fails if the answer is a fault.
     fn keep(&mut self, answer: Result<(), TableFault>) -> Result<(), TableFault>
         ensures result { result ≡ answer }
         ensures table { self.new ≡ failed_by answer self.old }

@@ -1,11 +1,11 @@
-//! Why a table can't go on.
+//! Why a table can't continue.
 
 ghost use Rattle.std.specs.Prelude.{◌≡◌};
 ghost use Rattle.summaries.specs.declared.table_fault.TableFault.TheVariants.{Memory};
 
 use std::alloc::{AllocError, AllocFailed};
 
-/// Why a table can't go on.
+/// Why a table can't continue.
 #[derive(Clone, Copy, Debug, PartialEq, Eq)]
 pub enum TableFault {
     /// Memory is refused.

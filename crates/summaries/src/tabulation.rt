@@ -108,8 +108,8 @@ pub fn collect<G: Allocator, A: Allocator + Copy, S: PathSet<A>>(
     Ok(Summaries { procedures, bad })
 }
 
-/// The summaries of a program by its flow graphs, where no procedure has more path edges than the limit; the path edges
-/// are kept in sets of the type `S`. `EdgeLimit` is answered only where some procedure has more.
+/// The summaries of a program by its flow graphs, if no procedure has more path edges than the limit; the path edges
+/// are kept in sets of the type `S`. `EdgeLimit` is returned only if some procedure has more.
 pub fn tabulate<G: Allocator, A: Allocator + Copy, S: PathSet<A>>(
     alloc: A,
     graphs: &Graphs<G>,

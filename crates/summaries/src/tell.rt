@@ -8,7 +8,7 @@ use crate::due::Caller;
 use crate::given::{Given, Sent};
 use std::alloc::{AllocError, Allocator};
 
-/// Gives the summary of a pair to a caller, who has not got it; the starter gets none.
+/// Gives the summary of a pair to a caller that does not have it; the starter gets none.
 pub(crate) fn tell<A: Allocator + Copy>(
     given: &mut Given<A>,
     pair: u32,
@@ -23,7 +23,8 @@ pub(crate) fn tell<A: Allocator + Copy>(
     Ok(())
 }
 
-/// Gives the summary of a pair to each of its callers but the starter, none of whom has it. At an error some have it.
+/// Gives the summary of a pair to each of its callers except the starter, none of which has it. After an error some
+/// have it.
 pub(crate) fn tell_all<A: Allocator + Copy>(
     given: &mut Given<A>,
     pair: u32,
@@ -40,8 +41,8 @@ pub(crate) fn tell_all<A: Allocator + Copy>(
     Ok(())
 }
 
-/// Gives a caller the summaries of these pairs, of which the caller has none; the starter gets none. At an error it has
-/// some.
+/// Gives a caller the summaries of these pairs, of which the caller has none; the starter gets none. After an error
+/// it has some.
 pub(crate) fn tell_exits<A: Allocator + Copy>(
     given: &mut Given<A>,
     pairs: &[u32],

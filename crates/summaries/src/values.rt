@@ -1,4 +1,4 @@
-//! Values of which there is mostly one.
+//! Values of a key, mostly a single one.
 
 ghost use Rattle.std.specs.Prelude.{◌≡◌, [], ◌∷◌, ◌++◌, OnOk, OnErr};
 ghost use Rattle.std.specs.Mem.{FitsInMemory};
@@ -7,7 +7,7 @@ ghost use Rattle.summaries.specs.Under.{values_in};
 use std::alloc::{AllocError, Allocator};
 use std::slice;
 
-/// Some values, in the order of adding. A single one takes no memory beside it.
+/// Some values, in the order of adding. A single value takes no further memory.
 #[derive(Drop)]
 pub(crate) enum Values<V: Drop, A: Allocator> {
     One(V),
@@ -33,7 +33,7 @@ impl<V: Copy, A: Allocator> Values<V, A> {
         }
     }
 
-    /// Adds a value. Where memory is refused, nothing changes.
+    /// Adds a value. If memory is refused, nothing changes.
     pub(crate) fn add(&mut self, alloc: A, value: V) -> Result<(), AllocError>
         ensures ok { OnOk result (values_in self.new ≡ values_in self.old ++ value ∷ []) }
         ensures err { OnErr result (values_in self.new ≡ values_in self.old) }

@@ -30,7 +30,7 @@ use path_sets::PathSet;
 use std::alloc::{AllocError, Allocator};
 
 impl<'g, G: Allocator, A: Allocator + Copy, S: PathSet<A>> Table<'g, G, A, S> {
-    /// Keeps what an edge leaves that is at the exit, and tells it to the callers.
+    /// Keeps what an edge at the exit leaves, and tells it to the callers.
     fn leave(&mut self, edge: Edge) -> Result<(), AllocError>
         requires edge { Member (triple_of edge) (S.members self.old.edges) }
         requires holds { Holds S.members (λ t. t ≡ triple_of edge) self.old }
@@ -62,7 +62,8 @@ impl<'g, G: Allocator, A: Allocator + Copy, S: PathSet<A>> Table<'g, G, A, S> {
         Ok(())
     }
 
-    /// Asks for a procedure that is called from an edge, and goes on behind the call for what is known of it.
+    /// Requests the procedure that is called from an edge, and continues after the call with what is known of
+    /// it.
     fn ask(&mut self, edge: Edge, call: &flow_graph::Call<G>) -> Result<(), TableFault>
         requires call { slice_get (flows_of (graph_of self.old)) edge.point
             ≡ Some (flow.Call call.now) }

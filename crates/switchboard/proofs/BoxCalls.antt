@@ -29,7 +29,7 @@ use Rattle.switchboard.specs.BoxPasses.{IsIdleHand, state_seen, box_sight, IsSee
 use Rattle.switchboard.proofs.Visits.{some_later}
 
 module _ {M W : Type 0} (fits : W → ℕ → M → Type 0) where
-  -- what a pass sees goes on from what it had seen
+  -- what a pass sees continues from what it had seen
   pub record Later (w : W) (boxes : ℕ) (a x : Seen M) : Type 0 where
     pub begins : StartsWith x.order a.order
     pub aborted : (c : Abort) → a.aborted ≡ Some c → x.aborted ≡ Some c
@@ -191,7 +191,7 @@ module _ {M W : Type 0} (fits : W → ℕ → M → Type 0) where
       seen = seen;
     }
 
-    -- the lanes, where the own list stays
+    -- the lanes, if the own list stays
     pub same_lanes : (u : View M W) → u.lanes ≡ m.0.lanes → own number u.seen.order ≡ own number m.0.seen.order
         → u.lanes ≡ record { number = number; events = own number u.seen.order; made = made } ∷ []
     same_lanes u same list = same ∙ (p.lanes ∙ ap (λ l. record { number = number; events = l; made = made } ∷ []) (sym list))

@@ -1,4 +1,4 @@
--- The rule of a board with a lock for each mailbox holds of a new board, and the passes that are dealt.
+-- The rule of a board with a lock for each mailbox holds for a new board, and the passes that are dealt.
 use Rattle.std.proofs.Common.{◌≡◌, ◌≢◌, inl, ℕ, zero, suc, ◌+◌, ◌-◌, ◌*◌, ◌^◌, ◌<◌, ◌≤◌, false, List, [], ◌∷◌, ◌++◌, map, length, get_or}
 use Rattle.std.proofs.Common.{slice_get}
 use Rattle.std.proofs.Common.{Some, None, refl, sym, ap, ◌∙◌, subst, arith, Option}

@@ -10,7 +10,7 @@ use Rattle.switchboard.specs.declared.lock_per_box.knowing.Own.{Own}
 use Rattle.switchboard.specs.Proved.Entries.{job_stays}
 use Rattle.switchboard.specs.PerBox.{View, flag, LookedAtWord, Seat}
 
--- bit 63 is clear where there was no abort
+-- bit 63 is clear if there was no abort
 pub not_flagged : (low : ℕ) (a : Option Abort) → low + flag a < 2 ^ 63 → a ≡ None
 not_flagged low None small = refl
 not_flagged low (Some a) small = absurd (omega arith)

@@ -116,7 +116,7 @@ module _ {T : Type 0} where
             ]
       ])
 
--- a lock whose hands become others stands, where they keep its core
+-- a lock whose hands become others stands, if they keep its core
 stands_with : {M W : Type 0} (q : ℕ) (order : List (Entry M)) (s : Boxes M W)
     (l : LockStands q order s.words s.homes (map (hand_at q) s.views)) (hands new : List (Hand (List (Event M)))) → new ≡ hands
     → Core (get_or s.words (word_of q) 0) (get_or s.words (word_of q + 1) 0) l.0 (get_elem? s.homes q) hands
@@ -202,7 +202,7 @@ module _ {M W : Type 0} (fits : W → ℕ → M → Type 0) (g : Ground M W) whe
           fits = λ serving log f. (f, record { begins = (log, refl); inside = inl refl; few = omega arith; idle = λ _. (refl, refl) });
         }) k (knows_only r.order r.first r.low v.seen k.saw) (λ n. omega arith) (omega arith) (λ n. omega arith) (omega arith) (omega arith)
 
-    -- a seat takes in all that another has, where both are outside
+    -- a seat takes in all that another has, if both are outside
     pub joins : (other : ℕ) (w : View M W) → other ≢ id → get_elem? s.views other ≡ some w
         → ((q : ℕ) → q < g.boxes → (hand_at q v).inside ≡ []) → ((q : ℕ) → q < g.boxes → (hand_at q w).inside ≡ [])
         → Rule fits g record { words = s.words; homes = s.homes; views = set (set s.views id (merged v w)) other (only_seen unseen) }

@@ -28,7 +28,7 @@ use Rattle.switchboard.proofs.BoxPuts.{not_flagged, flagged}
 use Rattle.switchboard.proofs.BoxCalls.{Later, Visit, own_part, first_later, step_later, own_same, look_on, stays_on, recorded_is, added_is}
 use Rattle.switchboard.proofs.BoxCalls.{record_on}
 
--- no post is outstanding where the low bits are 0
+-- no post is outstanding if the low bits are 0
 pub low_zero : (low n : ℕ) (a : Option Abort) → low < 2 ^ 63 → n ≡ low + flag a → n % 2 ^ 63 ≡ 0 → low ≡ 0
 low_zero low n None small is zero = omega arith
 low_zero low n (Some a) small is zero = omega arith

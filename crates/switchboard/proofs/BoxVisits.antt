@@ -14,7 +14,7 @@ only_ticket : (n : ℕ) (l : List ℕ) → l ≡ [] → without n (l ++ n ∷ []
 only_ticket n l none = ap (λ k. without n (k ++ n ∷ [])) none ∙ rw (eq-eqb n n refl) refl
 
 module _ {M W : Type 0} (fits : W → ℕ → M → Type 0) where
-  -- what is news is so whatever the hand is
+  -- what is news is news whatever the hand is
   hand_news : (q : ℕ) (h : Hand (List (Event M))) (v : View M W) (x : Seen M) → News fits (with_hand q h v) x → News fits v x
   hand_news q h v x n = record { begins = n.begins; aborted = n.aborted; knows = n.knows; sound = n.sound; close = n.close }
 

@@ -45,8 +45,8 @@ module _ {M W : Type 0} (fits : W → ℕ → M → Type 0) where
 
   module _ {a : Standing (BoardState M W)} {w : W} {boxes : ℕ} {kept : Bool} {p : IsPass fits a w boxes kept}
       {x v : BoardState M W} {s : Sight M W} {n : ℕ} (h : Inside a w boxes kept p x v s n) where
-    -- What is said of the number and the state that the call names holds of the lane's number and the state found, and
-    -- back.
+    -- What is said of the number and the state that the call names holds for the lane's number and the state found,
+    -- and back.
     pub to_lane : (R : ℕ → BoardState M W → Type 0) → R n v → R a.number x
     to_lane R r = subst (λ k. R k x) h.number (subst (λ z. R n z) h.lent r)
 
@@ -116,7 +116,7 @@ module _ {M W : Type 0} (fits : W → ℕ → M → Type 0) where
         Kept fits a.number x y → sight_of b w boxes kept' ≡ showing fits b kept' y
     shown_after {b} {y} kept' visit keeps = after_shows fits a b x y w boxes kept kept' p visit keeps
 
-    -- So what holds of what it showed and shows then holds of its sights.
+    -- So what holds for what it showed and shows then holds for its sights.
     pub seen_after : {b : Standing (BoardState M W)} {y : BoardState M W} (kept' : Bool) (R : Sight M W → Sight M W → Type 0) →
         Visit fits a b x y → Kept fits a.number x y → R (showing fits a kept p.last) (showing fits b kept' y) →
         R s (sight_of b w boxes kept')
@@ -126,7 +126,7 @@ module _ {M W : Type 0} (fits : W → ℕ → M → Type 0) where
 
     -- It was inside once, and left y.
     module _ {b : Standing (BoardState M W)} {y : BoardState M W} (visit : Visit fits a b x y) where
-      -- So, where a call was left, it is a pass still, and shows that it took,
+      -- So, if a call was left, it is a pass still, and shows that it took,
       pub takes_on : (answer : Taken M) → TakeAnswers n answer v y → {r : ℕ} → r ≡ s.calls → (r ≡ 0 → ⊥) →
           IsPass fits b w boxes kept
       takes_on answer answers is some_of =
@@ -171,7 +171,7 @@ module _ {M W : Type 0} (fits : W → ℕ → M → Type 0) where
           seen_after kept (λ q t. PostAnswer fits job to m q t answer) visit posts.keeps
           (posted_is fits job to m answer a b x y w boxes kept p visit posts.may posts.ok posts.err (had_calls is some_of))
 
-      -- Where it aborted, it has made its abort.
+      -- If it aborted, it has made its abort.
       module _ (cause : Cause) (made : y ≡ record v { aborted = abort_of v.aborted (record { by = n; cause = cause }) }) where
         abbrev own_abort : Abort
         own_abort = record { by = a.number; cause = cause }

@@ -30,7 +30,7 @@ use Rattle.switchboard.specs.Proved.Entries.{job_stays, takes_own, dones_own}
 use Rattle.switchboard.proofs.Settling.{get_front}
 
 module _ {M : Type 0} where
-  -- a beginning of a legal history is legal
+  -- a prefix of a legal history is legal
   pub legal_front : (h : List (Event M)) (e : Event M) → IsLegal (h ++ e ∷ []) → IsLegal h
   legal_front h e legal i x at =
       let short : _ = slice_get_within h i x at in
@@ -44,7 +44,7 @@ module _ {M : Type 0} where
   dones_more : (n : ℕ) (a : List (Entry M)) (e : Entry M) → dones (part n (a ++ e ∷ [])) ≡ dones (part n a) ++ dones (part n (e ∷ []))
   dones_more n a e = ap dones (part-append n a (e ∷ [])) ∙ dones-append (part n a) (part n (e ∷ []))
 
-  -- a Post is no Done, and neither is a Take
+  -- a Post is not a Done, and neither is a Take
   pub no_done_post : (n to s : ℕ) (m : M) (t : ℕ) → dones (part n (Posted to s m t ∷ [])) ≡ []
   no_done_post n to s m t =
       elim (cases_eq to n) [
@@ -59,7 +59,7 @@ module _ {M : Type 0} where
         | inr else ↦ ap dones (part_else n (Taken of s m) [] else)
       ]
 
-  -- a job stays one after one more event of the pass that is no Done
+  -- a job stays one after one more event of the pass that is not a Done
   more_events : (n j : ℕ) (a b : List (Entry M)) (e : Entry M) → own n b ≡ own n a ++ e ∷ [] → dones (part n (e ∷ [])) ≡ [] → HasJob n j a
       → HasJob n j b
   more_events n j a b e longer none has =
@@ -71,12 +71,12 @@ module _ {M : Type 0} where
       (omega (arith, count, ap length (takes_own n a), has.0), subst (λ l. Contains l j → ⊥) (sym names) has.1)
 
 module _ {M W : Type 0} (fits : W → ℕ → M → Type 0) where
-  -- where the pass made no event it has the jobs that it had
+  -- if the pass made no event it has the jobs that it had
   pub kept_none : (s t : Sight M W) (j : ℕ) → MadeNone fits s t → HasJob s.number j s.seen.order → HasJob t.number j t.seen.order
   kept_none s t j m has =
       subst (λ n. HasJob n j t.seen.order) (sym m.goes.number) (job_stays s.number j s.seen.order t.seen.order (sym m.own) has)
 
-  -- and so it has after an event of its own that is no Done
+  -- and so it has after an event of its own that is not a Done
   pub kept_added : (s t : Sight M W) (j : ℕ) (e : Entry M) → Added fits e s t → dones (part s.number (e ∷ [])) ≡ []
       → HasJob s.number j s.seen.order → HasJob t.number j t.seen.order
   kept_added s t j e a none has =
@@ -104,7 +104,7 @@ module _ {M W : Type 0} (fits : W → ℕ → M → Type 0) where
             omega (arith, early, k.number)),
       )
 
-  -- the job of a message taken is none that the pass had
+  -- the job of a message taken is not one that the pass had
   pub job_other : (s t : Sight M W) (job j : ℕ) (m : M) → TookOldest fits job m s t → HasJob s.number j s.seen.order → j ≢ job
   job_other s t job j m k has same =
       let n : ℕ = s.number in
@@ -162,7 +162,7 @@ module _ {M W : Type 0} (fits : W → ℕ → M → Type 0) where
   post_same s t job to m (Err (fault.Memory back)) p = (p.1.0.goes.board, p.1.0.goes.number, p.1.0.goes.before.boxes)
   post_same s t job to m (Err (fault.Aborted back)) p = (p.1.0.goes.board, p.1.0.goes.number, p.1.0.goes.before.boxes)
 
-  -- a take, whatever it answers, leaves the jobs
+  -- a take, whatever it returns, leaves the jobs
   pub takes_keep : (s t : Sight M W) (r : Result (answers.Taken M) Spent) (j : ℕ) → Took fits r s t
       → HasJob s.number j s.seen.order → HasJob t.number j t.seen.order
   takes_keep s t (Err e) j k has = subst (λ (z : Sight M W). HasJob z.number j z.seen.order) (sym k.1) has
@@ -178,7 +178,7 @@ module _ {M W : Type 0} (fits : W → ℕ → M → Type 0) where
       (job_stays s.number j s.seen.order t.seen.order (sym m.own) has)
 
 module _ {M W : Type 0} where
-  -- the pass of the next number behind those of the lower numbers
+  -- the pass with the next number after those with the lower numbers
   pub first_more : (id : TableId) (boxes : ℕ) (passes longer : List (Sight M W)) (p : Sight M W) → AreFirst id boxes passes
       → longer ≡ passes ++ p ∷ [] → p.board ≡ id → p.number ≡ length passes → p.seen.boxes ≡ boxes → AreFirst id boxes longer
   first_more id boxes passes longer p first more board number count j q at =

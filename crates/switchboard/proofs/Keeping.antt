@@ -53,7 +53,7 @@ module _ {X : Type 0} where
   same_again xs i x y at same = ap (set xs i) same ∙ set_again xs i x at
 
 module _ {M : Type 0} where
-  -- the order and its history go on by the same event
+  -- the order and its history continue by the same event
   pub kept_push : (hs : List (List (Event M))) (order : List (Entry M)) (cap cap' ps ds ps' ds' : ℕ) (e : Entry M) (h : List (Event M))
       → IsBook hs order cap ps ds → slice_get hs (mailbox_of e) ≡ Some h → mailbox_of e < length hs
       → MayFollow (part (mailbox_of e) order) (event_of e) → UnderJob order e → ps' ≡ ps + length (posts (event_of e ∷ []))
@@ -116,14 +116,14 @@ module _ {M : Type 0} where
     room = omega arith;
   }
 
-  -- there is room for a Take where a Post is not taken
+  -- there is room for a Take if a Post is not taken
   pub room_take : (hs : List (List (Event M))) (order : List (Entry M)) (cap ps ds by : ℕ) → IsBook hs order cap ps ds → by < length hs
       → length (takes (part by order)) < length (posts (part by order)) → length order < cap
   room_take hs order cap ps ds by k near some_of =
       let z = sizes_of (part by order) (k.lawful.legal by) in
       omega (arith, order_shorter (length hs) order by k.lawful near (omega (arith, dones_few (part by order) z)), k.room, k.all_posted)
 
-  -- and for a Done where a Take is not completed
+  -- and for a Done if a Take is not completed
   pub room_done : (hs : List (List (Event M))) (order : List (Entry M)) (cap ps ds by job : ℕ) → IsBook hs order cap ps ds
       → HasJob by job order → length order < cap
   room_done hs order cap ps ds by job k has =

@@ -16,7 +16,7 @@ plus n = omega arith
 shift : (a b : ℕ) → suc a + b ≡ a + suc b
 shift a b = omega arith
 
--- the lane behind some of the new ones is the next
+-- the lane after some of the new ones is the next
 pub fresh_at : {T : Type 0} (id : TableId) (budget : ℕ) (x : T) (first count : ℕ) (xs rest : List (Standing T)) (lane : Standing T)
     → xs ++ lane ∷ rest ≡ fresh_lanes id budget x first count → (lane ≡ fresh_lane id budget x (first + length xs)) × (length xs < count)
 fresh_at id budget x first zero [] rest lane e = (let none : lane ∷ rest ≡ [] = e in cc)
@@ -106,7 +106,7 @@ module _ {M W : Type 0} where
           knows = λ e. cc;
         }
 
--- what holds of a value that was given
+-- what holds for a value that was given
 pub on_ok : {X E : Type 0} (r : Result X E) (P Q : X → Type 0) → ((x : X) → P x → Q x) → IfOk r P → IfOk r Q
 on_ok (Ok x) P Q f h = f x h
 on_ok (Err e) P Q f h = h

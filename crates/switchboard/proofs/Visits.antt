@@ -33,7 +33,7 @@ use Rattle.switchboard.specs.Proved.Entries.{Allowed, sound_push, job_stays}
 pub moved : {X : Type 0} (R : X → X → Type 0) (s s' t t' : X) → s ≡ s' → t ≡ t' → R s t → R s' t'
 moved R s s' t t' p q r = subst (λ z. R z t') p (subst (λ z. R s z) q r)
 
--- what stands last
+-- what comes last
 pub latest_is : {A B : Type 0} (f : A → B) (d : B) (l : List A) (x : A) → EndsIn l x → latest f d l ≡ f x
 latest_is f d l x ends = ap (latest f d) ends.1 ∙ at_end f d ends.0 x
   where
@@ -49,7 +49,7 @@ module _ {M W : Type 0} (fits : W → ℕ → M → Type 0) where
     adds : (e : Entry M) → y ≡ with_entry e x → maker_of e ≡ n → Allowed fits e x → Step n x y
     aborts : (a : Abort) → y ≡ record x { aborted = abort_of x.aborted a } → a.by ≡ n → a.by < x.boxes → Step n x y
 
-  -- a state goes on from the one before, stays sound, and has the parts of the other passes as they were
+  -- a state continues from the one before, stays sound, and has the parts of the other passes as they were
   pub record Kept (n : ℕ) (x y : BoardState M W) : Type 0 where
     pub before : Before x y
     pub sound : IsSound fits y
@@ -179,7 +179,7 @@ module _ {M W : Type 0} (fits : W → ℕ → M → Type 0) where
   ticket_stays true a b some_of less is = omega arith
   ticket_stays false a b some_of less is = cc
 
-  -- a sound state is closed exactly where its order is complete
+  -- a sound state is closed if and only if its order is complete
   pub complete_is : (s : BoardState M W) → IsSound fits s → is_complete s.order ≡ true → IsClosed s.order
   complete_is s sound is = (counted_closed s.boxes s.order sound.lawful).0
       (eqb-true (posted s.order) (completed s.order) is)
@@ -192,7 +192,7 @@ module _ {M W : Type 0} (fits : W → ℕ → M → Type 0) where
   open_is s sound open_order = ne_eqb (posted s.order) (completed s.order)
       (λ same. open_order ((counted_closed s.boxes s.order sound.lawful).0 same))
 
-  -- a sound state that goes on from a sound one with a closed order has that order
+  -- a sound state that continues from a sound one with a closed order has that order
   pub same_order : (s t : BoardState M W) → IsSound fits s → IsClosed s.order → Before s t → IsSound fits t
       → t.order ≡ s.order
   same_order s t sound closed b later =
@@ -258,7 +258,7 @@ module _ {M W : Type 0} (fits : W → ℕ → M → Type 0) where
         knows = known;
       }
 
-  -- the same, where the step made no abort
+  -- the same, if the step made no abort
   pub pass_stays : (a b : Standing (BoardState M W)) (x y : BoardState M W) (w : W) (boxes : ℕ) (kept : Bool)
       (p : IsPass fits a w boxes kept)
       → Visit a b x y → Kept a.number x y → y.aborted ≡ x.aborted → 0 < calls_of kept a.left → IsPass fits b w boxes kept

@@ -11,9 +11,8 @@ use Rattle.switchboard.specs.declared.calls.Taken.{Taken}
 use Rattle.switchboard.specs.declared.calls.Taken.TheVariants as answer
 use Rattle.switchboard.specs.Sights.{BoardState, AllTaken}
 
--- What a book keeps: its order is lawful, each history is the order's part for its mailbox, its numbers are those of
--- the Posts and the
--- Dones, and there is room for the Take and the Done that each Post still owes.
+-- What a book keeps: its order is lawful, each history is the order's projection to its mailbox, its numbers are
+-- those of the Posts and the Dones, and there is room for the Take and the Done that each Post still owes.
 pub record IsBook {M : Type 0} (histories : List (List (Event M))) (order : List (Entry M)) (capacity posts dones : ℕ) : Type 0 where
   pub lawful : IsLawful (length histories) order
   pub parts : (q : ℕ) (h : List (Event M)) → slice_get histories q ≡ Some h → h ≡ part q order
@@ -36,8 +35,8 @@ module _ {M W : Type 0} where
     pub after : later ≡ with_entry (entry.Taken by sender message) earlier
     pub alive : earlier.aborted ≡ None
 
-  -- closed, where the order is; aborted, where it is not and the board is; else the oldest message, or that every one
-  -- is taken
+  -- closed, if the order is; aborted, if it is not and the board is; else the oldest message, or that every one is
+  -- taken
   abbrev pub TakeAnswers : ℕ → Taken M → BoardState M W → BoardState M W → Type 0
   TakeAnswers by (answer.Message job message) before after = TakesOldest by job message before after
   TakeAnswers by answer.Empty before after = (after ≡ before) × (IsClosed before.order → ⊥) × (before.aborted ≡ None)

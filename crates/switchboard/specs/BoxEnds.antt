@@ -46,8 +46,7 @@ module _ {M W : Type 0} where
         × (box_sight id sight.number sight.calls sight.made sight.seen.world sight.seen.boxes me.0.seen ≡ sight)
 
     -- What is left of a board whose passes a seat has all: the longest order, whose parts are the histories; it is
-    -- closed where no post is outstanding;
-    -- and the maker of the first abort has made it.
+    -- closed if no post is outstanding; and the maker of the first abort has made it.
     pub record BoardEnds (basis : Ground M W) (view : View M W) (histories : List (List (Event M))) (closed : Bool) : Type 0 where
       pub order : List (Entry M)
       pub first : Option Abort

@@ -42,16 +42,16 @@ module _ {M W : Type 0} where
   }
 
   module _ (fits : W → ℕ → M → Type 0) where
-    -- what a pass has seen: it is sound; who knows the close has seen a closed order; and who made an abort knows of
-    -- one
+    -- what a pass has seen: it is sound; whoever knows the close has seen a closed order; and whoever made an abort
+    -- knows of one
     pub record IsSeen (world : W) (boxes : ℕ) (made : Bool) (seen : Seen M) : Type 0 where
       pub sound : IsSound fits (state_seen world boxes seen)
       pub close : seen.knows ≡ true → IsClosed seen.order
       pub known : made ≡ true → IsSome seen.aborted
 
     -- The seat is this pass's alone, at a board of this world with a given number of mailboxes. It holds no mailbox,
-    -- waits for none, and has none in the count; it made just its own events of the order that it has seen; it has
-    -- tickets, and Posts to count up, for its calls.
+    -- waits for none, and has none in the count; it made exactly its own events of the order that it has seen; it
+    -- has tickets, and Posts to count up, for its calls.
     pub record IsBoxPass (id : TableId) (number left : ℕ) (made : Bool) (w : W) (boxes : ℕ) (me : Seat M W) : Type 0 where
       pub base : Ground M W
       pub is_base : get_elem? me.0.boards 0 ≡ some base

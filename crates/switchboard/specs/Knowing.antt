@@ -84,7 +84,7 @@ module _ {M : Type 0} where
   abbrev pub made_abort : Own M → Own M
   made_abort lane = record lane { made = true }
 
-  -- one, where this pass made an abort
+  -- one, if this pass made an abort
   abbrev pub made_by : ℕ → Own M → ℕ
   made_by number lane = if lane.made then (if lane.number == number then 1 else 0) else 0
 

@@ -12,17 +12,17 @@ abbrev pub is_by : ℕ → Option Abort → Bool
 is_by pass None = false
 is_by pass (Some abort) = abort.by == pass
 
--- of the last of a list, or where there is none
+-- of the last of a list, or if there is none
 abbrev pub latest : {A B : Type 0} → (A → B) → B → List A → B
 latest f d [] = d
 latest f d (x ∷ []) = f x
 latest f d (x ∷ y ∷ ys) = latest f d (y ∷ ys)
 
--- how many calls a lane with a given number of tickets has, where one is kept for an abort
+-- how many calls a lane with a given number of tickets has, if one is kept for an abort
 abbrev pub calls_of : Bool → ℕ → ℕ
 calls_of kept left = if kept then left - 1 else left
 
--- the order has as many Dones as Posts: where it is lawful, it is closed
+-- the order has as many Dones as Posts: if it is lawful, it is closed
 abbrev pub is_complete : {M : Type 0} → List (Entry M) → Bool
 is_complete order = posted order == completed order
 
@@ -31,7 +31,7 @@ module _ {M W : Type 0} where
   abbrev pub share : ℕ → BoardState M W → List (Entry M) × Bool
   share pass state = (own pass state.order, is_by pass state.aborted)
 
-  -- how contracts see a pass, which knows the close where the order that it has seen is complete
+  -- how contracts see a pass, which knows the close if the order that it has seen is complete
   abbrev pub sight_of : Standing (BoardState M W) → W → ℕ → Bool → Sight M W
   sight_of lane world boxes kept = record {
     board = lane.lock;
@@ -57,7 +57,8 @@ module _ {M W : Type 0} where
   }
 
   module _ (fits : W → ℕ → M → Type 0) where
-    -- one state comes before another under the lock: the second goes on from the first, and is sound where the first is
+    -- one state comes before another under the lock: the second continues from the first, and is sound if the first
+    -- is
     abbrev pub Comes : BoardState M W → BoardState M W → Type 0
     Comes before after = Before before after × (IsSound fits before → IsSound fits after)
 

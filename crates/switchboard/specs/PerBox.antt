@@ -29,7 +29,7 @@ use Rattle.switchboard.specs.Knowing.{with_seen, numbers, makes, made_abort, tak
 abbrev pub word_of : ℕ → ℕ
 word_of mailbox = 8 * (mailbox + 1)
 
--- bit 63 of the word, which is set where there was an abort
+-- bit 63 of the word, which is set if there was an abort
 abbrev pub flag : Option Abort → ℕ
 flag None = 0
 flag (Some abort) = 2 ^ 63
@@ -65,7 +65,8 @@ module _ {M W : Type 0} where
   postable = total (λ v. v.budget)
 
 module _ {M : Type 0} where
-  -- the lock of a mailbox keeps the lock's rule, and the last value left in it is the order's part for the mailbox
+  -- the lock of a mailbox keeps the lock's rule, and the last value left in it is the order's projection to the
+  -- mailbox
   abbrev pub LockStands : ℕ → List (Entry M) → List ℕ → Homes M → List (Hand (List (Event M))) → Type 0
   LockStands mailbox order words homes hands = (log : List (List (Event M))) × Kept (word_of mailbox) mailbox log words homes hands
       × EndsIn log (part mailbox order)
@@ -88,16 +89,16 @@ module _ {M W : Type 0} where
   IsBox basis word slot = (word ≡ word_of slot) × (slot < basis.boxes)
 
   module _ (fits : W → ℕ → M → Type 0) where
-    -- What was seen is a beginning of the order, and sound, if it has an event; an abort that was seen is the first;
-    -- who knows the close has seen the whole order, and no post is outstanding.
+    -- What was seen is a prefix of the order, and sound, if it has an event; an abort that was seen is the first;
+    -- whoever knows the close has seen the whole order, and no post is outstanding.
     pub record Saw (basis : Ground M W) (order : List (Entry M)) (first : Option Abort) (low : ℕ) (seen : Seen M) : Type 0 where
       pub begins : StartsWith order seen.order
       pub sound : 0 < length seen.order → IsSound fits (state_of basis seen)
       pub aborted : (a : Abort) → seen.aborted ≡ Some a → first ≡ Some a
       pub close : seen.knows ≡ true → (low ≡ 0) × (seen.order ≡ order)
 
-    -- What holds of each seat: it has a share of each lock for each of its passes; each of its passes made just its own
-    -- events of the order; without a pass it has none in the count.
+    -- What holds for each seat: it has a share of each lock for each of its passes; each of its passes made exactly
+    -- its own events of the order; without a pass it has none in the count.
     pub record KnowsBoard (basis : Ground M W) (order : List (Entry M)) (first : Option Abort) (low : ℕ) (view : View M W) : Type 0 where
       pub board : (i : ℕ) (k : Ground M W) → get_elem? view.boards i ≡ some k → k ≡ basis
       pub saw : Saw basis order first low view.seen
@@ -124,8 +125,8 @@ module _ {M W : Type 0} where
       pub whole : total (λ (v : View M W). length v.lanes) state.views ≡ basis.boxes
       pub maker : (a : Abort) → first ≡ Some a → 0 < total (makes a.by) state.views
 
-    -- what a seat sees after a step goes on from what it had seen, and is sound; who knows the close has seen a closed
-    -- order
+    -- what a seat sees after a step continues from what it had seen, and is sound; whoever knows the close has seen a
+    -- closed order
     pub record News (view : View M W) (seen : Seen M) : Type 0 where
       pub begins : StartsWith seen.order view.seen.order
       pub aborted : (a : Abort) → view.seen.aborted ≡ Some a → seen.aborted ≡ Some a
@@ -133,11 +134,11 @@ module _ {M W : Type 0} where
       pub sound : 0 < length seen.order → (g : Ground M W) → get_elem? view.boards 0 ≡ some g → IsSound fits (state_of g seen)
       pub close : seen.knows ≡ true → IsClosed seen.order
 
-    -- each pass of the seat has just its own events in the order
+    -- each pass of the seat has exactly its own events in the order
     abbrev pub HasOwn : View M W → List (Entry M) → Type 0
     HasOwn view order = (k : ℕ) (o : Own M) → get_elem? view.lanes k ≡ some o → own o.number order ≡ o.events
 
-    -- what is asked of an event that a pass is to record, behind the history found: a Post is the pass's own, under a
+    -- what is asked of an event that a pass is to record, after the history found: a Post is the pass's own, under a
     -- job that it has, fits and is counted up; a Take or a Done is one of the pass's own mailbox, and may follow
     abbrev pub MayRecord : ℕ → ℕ → Event M → List (Event M) → View M W → Type 0
     MayRecord mailbox number (Post sender message) history view = (sender ≡ number) × HasJob number view.under view.seen.order
@@ -169,8 +170,8 @@ module _ {M W : Type 0} where
       pub part : part mailbox front ≡ history
       pub news : News earlier later.seen
 
-    -- a look in turn tells the order, whose part for the mailbox is the history found; a pass on records the event, if
-    -- there is one
+    -- a look in turn tells the order, whose projection to the mailbox is the history found; a pass on records the
+    -- event, if there is one
     abbrev pub TellsOrder : ℕ → Kind (List (Event M)) → View M W → View M W → Type 0
     TellsOrder mailbox draws before after = after ≡ with_hand mailbox (hand_at mailbox after) before
     TellsOrder mailbox waits before after = after ≡ before
@@ -196,7 +197,7 @@ module _ {M W : Type 0} where
       pub knows : later.0.seen.knows ≡ earlier.0.seen.knows
       pub part : part mailbox later.0.seen.order ≡ history
 
-    -- a look at word 0 tells the order as it is, the abort if there was one, and the close where no post is outstanding
+    -- a look at word 0 tells the order as it is, the abort if there was one, and the close if no post is outstanding
     pub record LookedAtWord (earlier : Seat M W) (number : ℕ) (later : Seat M W) : Type 0 where
       pub after : later ≡ (with_seen later.0.seen earlier.0, earlier.1)
       pub news : News earlier.0 later.0.seen

@@ -53,8 +53,8 @@ IsPostStopped (fault.Aborted message) = Unit {0}
 IsPostStopped (fault.Memory message) = ⊥
 
 module _ {M W : Type 0} (fits : W → ℕ → M → Type 0) where
-  -- What each call keeps: the pass stays the same one, its order begins with all that it had seen, which is sound, who
-  -- made an abort knows of one, who knows the close knows it from then on, and its order is closed.
+  -- What each call keeps: the pass stays the same one, its order begins with all that it had seen, which is sound,
+  -- whoever made an abort knows of one, whoever knows the close knows it from then on, and its order is closed.
   pub record GoesOn (earlier later : Sight M W) : Type 0 where
     pub board : later.board ≡ earlier.board
     pub number : later.number ≡ earlier.number
@@ -106,7 +106,7 @@ module _ {M W : Type 0} (fits : W → ℕ → M → Type 0) where
     pub fit : fits before.seen.world before.number message
     pub alive : after.seen.aborted ≡ None
 
-  -- what a take answers: closed, where the pass knows the close; aborted, where it does not and the board is; else the
+  -- what a take returns: closed, if the pass knows the close; aborted, if it does not and the board is; else the
   -- oldest message, or that every one is taken
   abbrev pub Took : Result (answers.Taken M) Spent → Sight M W → Sight M W → Type 0
   Took (Err spent) before after = WasSpent before after
@@ -130,8 +130,8 @@ module _ {M W : Type 0} (fits : W → ℕ → M → Type 0) where
     pub first : before.made ≡ false → (b : Abort) × (after.seen.aborted ≡ Some b) × ((b ≡ abort) ⊎ (b.by ≢ before.number))
     pub again : before.made ≡ true → after ≡ before
 
-  -- the pass has seen what it had seen and what it was told, and no more: the longer order, an abort that either knew,
-  -- and the close where either knew it
+  -- the pass has seen what it had seen and what it was told, and no more: the longer order, an abort that either
+  -- knew, and the close if either knew it
   pub record Learned (told : Account M) (before after : Sight M W) : Type 0 where
     pub none : MadeNone before after
     pub calls : after.calls ≡ before.calls
@@ -143,8 +143,8 @@ module _ {M W : Type 0} (fits : W → ℕ → M → Type 0) where
     pub known : after.knows ≡ true → (before.knows ≡ true) ⊎ (told.knows ≡ true)
 
   -- What is left of a board: one lawful order, which begins with each pass's order and has each pass's own list; its
-  -- parts are the histories; it is closed where all its histories are, and where some pass knows the close; and the
-  -- abort that some pass knows of was made by a pass.
+  -- parts are the histories; it is closed if all its histories are, and if some pass knows the close; and the abort
+  -- that some pass knows of was made by a pass.
   pub record Settles (boxes : ℕ) (passes : List (Sight M W)) (histories : List (List (Event M))) (closed : Bool) : Type 0 where
     pub order : List (Entry M)
     pub lawful : IsLawful boxes order

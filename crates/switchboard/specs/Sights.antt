@@ -48,7 +48,7 @@ module _ {M W : Type 0} where
   abbrev pub opened : W → ℕ → ℕ → M → BoardState M W
   opened world boxes to first = record { world = world; boxes = boxes; order = Posted to boxes first 0 ∷ []; aborted = None }
 
-  -- the second state goes on from the first: its order begins with the first's, and the first's abort stays
+  -- the second state continues from the first: its order begins with the first's, and the first's abort stays
   pub record Before (before after : BoardState M W) : Type 0 where
     pub world : after.world ≡ before.world
     pub boxes : after.boxes ≡ before.boxes

@@ -15,9 +15,9 @@ use std::sync::Wait;
 use ticket_lock::{MOST_TICKETS, Spent};
 
 /// Mailboxes with a pass each, numbered alike: pass i alone takes from mailbox i, and is the sender of what it posts.
-/// Every call stands at one order of the board's events, of which its pass has seen a beginning.
+/// Every call takes effect at one order of the board's events, of which its pass has seen a prefix.
 pub trait Board<M: Mail<W>, W, A: Allocator>: Sized {
-    /// What one thread at a time works with.
+    /// What a thread works with, one thread at a time.
     type Pass;
 
     /// What a pass had seen, to be told to another.
@@ -51,7 +51,7 @@ pub trait Board<M: Mail<W>, W, A: Allocator>: Sized {
         Self::open_with_budget(alloc, world, boxes, to, first, MOST_TICKETS)
     }
 
-    /// The same, where each pass has fewer calls: one fewer than `budget`, from 2 to 2^56.
+    /// The same, if each pass has fewer calls: one fewer than `budget`, from 2 to 2^56.
     fn open_with_budget(
         alloc: A,
         world: &W,
@@ -92,7 +92,7 @@ pub trait Board<M: Mail<W>, W, A: Allocator>: Sized {
         requires { (sight pass.old).board ≡ identity self.now }
         ensures { Took M.fits result (sight pass.old) (sight pass.new) };
 
-    /// Records that the message of the job is dealt with, also after an abort.
+    /// Records that the message of the job is dealt with, even after an abort.
     fn done<R: Wait>(&self, rt: &R, pass: &mut Self::Pass, job: Job) -> Result<(), (Job, Spent)>
         requires board { (sight pass.old).board ≡ identity self.now }
         requires job { HasJob (sight pass.old).number job (sight pass.old).seen.order }

@@ -1,7 +1,7 @@
-//! What the calls of a board take and answer.
+//! What the calls of a board take and return.
 use std::marker::Model;
 
-/// The right to post, which comes of the take of a message. It has to be spent, by `done` or by `abort`. Contracts see
+/// The right to post, which comes from taking a message. It must be spent, by `done` or by `abort`. Contracts see
 /// it as the number of its take.
 pub struct Job {
     pub(crate) take: u64,
@@ -18,7 +18,7 @@ impl Model for Job {
 impl Job {
     ghost use Rattle.std.specs.Prelude.{◌≡◌};
 
-    /// The number of the take that it comes of, among the takes of its mailbox, counted from 0.
+    /// The number of the take that it comes from, among the takes of its mailbox, counted from 0.
     pub fn number(&self) -> u64
         ensures { result ≡ self.now }
     {
@@ -26,7 +26,7 @@ impl Job {
     }
 }
 
-/// What a take answers.
+/// What a take returns.
 pub enum Taken<M> {
     /// The oldest message of the mailbox that was not yet taken, and the right to post until it is completed.
     Message(Job, M),

@@ -12,8 +12,8 @@ ghost use Rattle.switchboard.specs.Promises.{SaysStopped, IsPostStopped};
 
 use crate::mail::Mail;
 
-/// Who knows the close gets `Closed` from each later take that is not answered `Spent`, and knows it from then on; a
-/// closed order stays as it is.
+/// A pass that knows the close gets `Closed` from each later take that does not return `Spent`, and knows it from
+/// then on; a closed order stays as it is.
 pub fn the_close_stays<M: Mail<W>, W>()
     ensures answers { (s t : Sight M W) (r : Result (Taken M) Spent) → s.knows ≡ true
         → Took M.fits r s t → SaysClosed r }
@@ -25,7 +25,7 @@ pub fn the_close_stays<M: Mail<W>, W>()
         → Took M.fits r s t → t.seen.order ≡ s.seen.order }
 {}
 
-/// Who knows the close, or has seen a closed order, posts nothing.
+/// A pass that knows the close, or has seen a closed order, posts nothing.
 pub fn nothing_is_posted_after_the_close<M: Mail<W>, W>()
     ensures known { (s t : Sight M W) (job to : ℕ) (m : M) → s.knows ≡ true
         → WasPosted M.fits job to m s t → ⊥ }
@@ -34,8 +34,8 @@ pub fn nothing_is_posted_after_the_close<M: Mail<W>, W>()
         → WasPosted M.fits job to m s t → ⊥ }
 {}
 
-/// Who knows of an abort finds it in each later take, which answers `Aborted` or `Closed`, or `Spent`; and in each
-/// later post, which is refused as aborted, or as spent.
+/// A pass that knows of an abort finds it in each later take, which returns `Aborted`, `Closed` or `Spent`, and in
+/// each later post, which is refused as aborted or as spent.
 pub fn an_abort_stays<M: Mail<W>, W>()
     ensures takes { (s t : Sight M W) (r : Result (Taken M) Spent) → IsSome s.seen.aborted
         → Took M.fits r s t
@@ -47,13 +47,13 @@ pub fn an_abort_stays<M: Mail<W>, W>()
         → IsPostStopped f }
 {}
 
-/// Nobody who has a job has seen a closed order.
+/// No pass with a job has seen a closed order.
 pub fn nobody_with_a_job_knows_the_close<M: Mail<W>, W>()
     ensures { (s : Sight M W) (job : ℕ) → IsSound M.fits s.seen → IsClosed s.seen.order
         → HasJob s.number job s.seen.order → ⊥ }
 {}
 
-/// Who took a message has its job, which is none that it had before.
+/// A pass that took a message has its job, which is not one that it had before.
 pub fn a_message_comes_with_a_job<M: Mail<W>, W>()
     ensures has { (s t : Sight M W) (job : ℕ) (m : M) → TookOldest M.fits job m s t
         → HasJob t.number job t.seen.order }
@@ -61,7 +61,7 @@ pub fn a_message_comes_with_a_job<M: Mail<W>, W>()
         → HasJob s.number old s.seen.order → old ≢ job }
 {}
 
-/// A pass keeps its jobs at each call, but for the one that it completes.
+/// A pass keeps its jobs at each call, except for the one that it completes.
 pub fn a_job_lasts_until_it_is_done<M: Mail<W>, W>()
     ensures takes { (s t : Sight M W) (r : Result (Taken M) Spent) (j : ℕ) → Took M.fits r s t
         → HasJob s.number j s.seen.order → HasJob t.number j t.seen.order }

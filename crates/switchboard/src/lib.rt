@@ -1,4 +1,5 @@
-//! Mailboxes behind one lock, or behind a lock for each: each call stands in legal histories of all mailboxes.
+//! Mailboxes behind one lock, or behind a lock for each: each call takes effect in legal histories of all
+//! mailboxes.
 #![tactic(auto)]
 
 mod board;

@@ -1,7 +1,7 @@
--- Lists put behind one another.
+-- Lists appended to one another.
 use Rattle.std.proofs.Common.{◌≡◌, List, ◌++◌, append_assoc}
 
--- four lists, and one more behind them
+-- four lists, and one more after them
 pub four : {A : Type 0} (a b c d e : List A) → (a ++ (b ++ (c ++ d))) ++ e ≡ a ++ (b ++ (c ++ (d ++ e)))
 four a b c d e = simp append_assoc
 
@@ -11,7 +11,7 @@ five a b c d e f = simp append_assoc
 pub six : {A : Type 0} (a b c d e f g : List A) → (a ++ (b ++ (c ++ (d ++ (e ++ f))))) ++ g ≡ a ++ (b ++ (c ++ (d ++ (e ++ (f ++ g)))))
 six a b c d e f g = simp append_assoc
 
--- four lists, one after the other put behind an old one
+-- four lists, appended one after the other to an old one
 pub four_behind : {A : Type 0} (old a b c d : List A) → (((old ++ a) ++ b) ++ c) ++ d ≡ old ++ (a ++ (b ++ (c ++ d)))
 four_behind old a b c d = simp append_assoc
 

@@ -1,4 +1,4 @@
--- What stands before a closing token is seen as before.
+-- What comes before a closing token is seen as before.
 use Rattle.std.specs.Prelude.{Result, Ok, Err, option_and_then}
 use Rattle.std.proofs.Common.{◌≡◌, List, Option, Some, None, refl, ◌∙◌}
 use denote.Ref.{Bor}
@@ -33,7 +33,7 @@ pub closed_seen : {X Y : Type 0} (view : X → Y) (value : X) (kind : Kind) (r :
     → Gives {Y = Y × List Tok} (λ p. (view p.0, toks_of p.1.now)) r given
 closed_seen view value kind r ts given same h = rw same (kept view value r (take kind (toks_of ts)) h)
 
--- what goes on behind a closing token
+-- what continues after a closing token
 behind_closing : {X Y : Type 0} (p : Parser X) (k : Kind) (f : X → Parser Y) (ts : List Tok)
     → (p >>= λ x. take k >>= λ _. f x) ts ≡ ((p >>= λ x. closing k x) >>= f) ts
 behind_closing {X} {Y} p k f ts = by_option (p ts)
@@ -49,7 +49,7 @@ behind_closing {X} {Y} p k f ts = by_option (p ts)
     by_option None = refl
     by_option (Some q) = by_token q.0 (take k q.1)
 
--- an assignment is two lists, each with its token behind it
+-- an assignment is two lists, each with its token after it
 abbrev pub sides_behind : List Name → Parser Deed
 sides_behind xs = listed right kind.Semicolon >>= λ rs. give (simple (assign xs rs))
 

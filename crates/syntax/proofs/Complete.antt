@@ -66,7 +66,7 @@ ends {k = k} {ts = ts} {rest = rest} x t = bind_is (take k) (λ _. give x) ts (t
 passing : {X : Type 0} {k : Kind} {ts rest : List Tok} (p : Parser X) → Takes k ts rest → (take k >>= λ _. p) ts ≡ p rest
 passing {k = k} {ts = ts} {rest = rest} p t = bind_is (take k) (λ _. p) ts (take_is t).0 rest (take_is t).1
 
--- what begins a list of names goes on with a comma, or ends
+-- what begins a list of names continues with a comma, or ends
 names_next : (t : Tok) (ts us : List Tok) (xs : List Name) → Listed IsName (t ∷ ts) xs us
     → (t.kind ≡ kind.Id) × ((ts ≡ us) ⊎ (begins kind.Comma ts ≡ true))
 names_next t ts us xs (listed (is_name e) no_more) = (e, inl refl)
@@ -164,7 +164,7 @@ simple_reads f (is_call_for {xs = xs} {es = es} (is_name {t = x} is) (takes {t =
     (exactly_arguments.reads ws es xs h tt)
     ∙ ends (simple (call_for (name_at x) (name_at p) es)) c)
 
--- no statement goes on as a label would
+-- no statement continues as a label would
 if_no : {k : Kind} {ts us : List Tok} {t : Tok} → Takes k (t ∷ ts) us → same_kind k kind.Id ≡ false
     → same_kind t.kind kind.Id && begins kind.Colon ts ≡ false
 if_no {ts = ts} (takes e) h = rw (e, h) refl
@@ -191,7 +191,7 @@ simple_no_label t ts rest s (is_assign {us = us} {vs = vs} {xs = xs} h a l c) =
 simple_no_label t ts rest s (is_call (is_name e) (in_parens o h c) d) = (colon_no t ts (begins_other kind.Colon o refl), rw e refl)
 simple_no_label t ts rest s (is_call_for (is_name e) a p h c) = (colon_no t ts (begins_other kind.Colon a refl), rw e refl)
 
--- marks are read, where what follows goes on as no label does
+-- marks are read, if what follows continues as no label does
 marked_reads : {ts us : List Tok} {m : Mark Name} → IsMarked ts m us
     → ((t : Tok) (vs : List Tok) → us ≡ t ∷ vs → same_kind t.kind kind.Id && begins kind.Colon vs ≡ false) → marked ts ≡ Some (m, us)
 unfolding marked
@@ -219,11 +219,11 @@ section_reads ts us vs rest m d k marks plain here does more = (
   marked_starts marks here,
 )
 
--- behind such a token no statement comes
+-- after such a token there is no statement
 pub stops : {k : Kind} {ts us : List Tok} → Takes k ts us → starts k ≡ false → starts_here ts ≡ false
 stops (takes e) h = rw e h
 
--- statements are read, where no other follows
+-- statements are read, if no other follows
 abbrev Read : List Tok → Block Name Name Name → List Tok → Type 0
 Read ts b rest = (rest_step section ts ≡ Some (b, rest)) × (IsSome b → section ts ≡ Some (b, rest))
 
@@ -298,7 +298,7 @@ statements_read (while_statement {ts = ts} {t1 = t1} {t6 = t6} {rest = rest} {m 
     read_from ts rest (loop m r a k) (section_reads ts t1 t6 rest m (repeat r a) k marks (word_cases i refl refl) (word_here i refl)
     (while_reads i h th ((statements_read sa (stops od refl)).1 na) od) (statements_read more e).0)
 
--- where there is a statement, its first token begins one
+-- if there is a statement, its first token begins one
 pub statements_start : {ts rest : List Tok} {b : Block Name Name Name} → Statements ts b rest → IsSome b → starts_here ts ≡ true
 unfolding same_kind
 statements_start nothing_more n = absurd n

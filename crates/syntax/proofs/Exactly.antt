@@ -1,4 +1,4 @@
--- Functions that read just what a relation of the grammar says, part by part.
+-- Functions that read exactly what a relation of the grammar says, part by part.
 use Rattle.std.proofs.Common.{◌≡◌, ℕ, suc, ◌<◌, ◌≤◌, Bool, true, false, cond, List, [], ◌∷◌, length, Option, Some, refl, ◌∙◌, ap, arith}
 use Rattle.std.proofs.Common.{◌⊎◌, inl, inr}
 use Rattle.tokens.specs.declared.vocabulary.Kind.{Kind}
@@ -34,12 +34,12 @@ begins_takes (takes e) = same_kind-is e
 pub begins_other : {k : Kind} {ts rest : List Tok} (l : Kind) → Takes k ts rest → same_kind k l ≡ false → begins l ts ≡ false
 begins_other l (takes e) h = rw e h
 
--- where a token of a kind comes next, that token may be taken
+-- if a token of a kind comes next, that token may be taken
 pub begins_take : (k : Kind) (ts : List Tok) → begins k ts ≡ true → (t : Tok) × (us : List Tok) × (take k ts ≡ Some (t, us)) × Takes k ts us
 begins_take k [] e = cc
 begins_take k (t ∷ ts) e = (t, ts, rw e refl, takes (same_kind-true e))
 
--- behind a token
+-- after a token
 pub exactly_behind : {X : Type 0} {P : List Tok → X → List Tok → Type 0} {S : List Tok → Type 0} {p : Parser X} (k : Kind) → Exactly P S p
     → Exactly (Behind k P) S (take k >>= λ _. p)
 exactly_behind {X} {P} {S} {p} k is = record {
@@ -104,11 +104,11 @@ module _ {X : Type 0} (test : List Tok → Bool) (p : Parser X) (strict : Strict
   unfolding many
   many_shrinks = fix_shrinks (many_step test p) many_is_step tt
 
-  -- where the test fails, nothing is read
+  -- if the test fails, nothing is read
   pub many_ends : (ts : List Tok) → test ts ≡ false → many test p ts ≡ Some ([], ts)
   many_ends ts e = many_is ts ∙ rw e refl
 
-  -- where it holds, one is read, and the others
+  -- if it holds, one is read, and the others
   pub many_goes_on : (ts : List Tok) (x : X) (us : List Tok) (xs : List X) (rest : List Tok) → test ts ≡ true → p ts ≡ Some (x, us)
       → many test p us ≡ Some (xs, rest) → many test p ts ≡ Some (x ∷ xs, rest)
   many_goes_on ts x us xs rest e f g =
@@ -138,7 +138,7 @@ module _ {X : Type 0} (test : List Tok → Bool) (p : Parser X) (strict : Strict
   unfolding many
   many_finds P h ts xs rest e = many_found P h tt ts xs rest e
 
-  -- what comes any number of times is read, where each begins as the test says, and what follows may follow one
+  -- what comes any number of times is read, if each begins as the test says, and what follows may follow one
   pub many_reads : {P : List Tok → X → List Tok → Type 0} {S : List Tok → Type 0} → Exactly P S p
       → ((ts : List Tok) (x : X) (us : List Tok) → P ts x us → test ts ≡ true) → ((us : List Tok) → test us ≡ true → S us)
       → {ts rest : List Tok} {xs : List X} → Many P ts xs rest → S rest → test rest ≡ false → many test p ts ≡ Some (xs, rest)
@@ -172,7 +172,7 @@ repeated_reads test {p = p} s is starts ts xs rest (several {us = us} {x = x} {x
     bind_is p (λ x. many test p >>= λ xs. give (x ∷ xs)) ts x us (is.reads ts x us h tt)
     ∙ bind_is (many test p) (λ xs. give (x ∷ xs)) us ys rest (many_reads test p s is starts (λ us h. tt) m tt e)
 
--- behind commas
+-- after commas
 behind_begins : {X : Type 0} {P : List Tok → X → List Tok → Type 0} (k : Kind) (ts : List Tok) (x : X) (us : List Tok) → Behind k P ts x us
     → begins k ts ≡ true
 behind_begins k ts x us (behind t h) = begins_takes t
@@ -201,7 +201,7 @@ pub Strict-list : {X : Type 0} {p : Parser X} → Strict p → Strict (list p)
 unfolding list
 Strict-list s = Strict-bind s (λ x. Shrinks-bind (more_shrinks s) (λ xs. Shrinks-give (x ∷ xs)))
 
--- a list is read, where no comma follows
+-- a list is read, if no comma follows
 abbrev pub NoComma : (List Tok → Type 0) → List Tok → Type 0
 NoComma S ts = S ts × (begins kind.Comma ts ≡ false)
 

@@ -1,4 +1,4 @@
--- Where a part is refused, so is the whole.
+-- If a part is refused, so is the whole.
 use Rattle.std.proofs.Common.{◌≡◌, Option, None}
 use Rattle.std.specs.Prelude.{Result, Ok, Err, IsErrAnd}
 use Rattle.syntax.specs.Gives.{RefusesTokens, Gives}

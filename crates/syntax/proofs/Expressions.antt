@@ -146,19 +146,19 @@ pub Stops-5 : (ts : List Tok) → Stops 5 ts
 Stops-5 [] = stops_end
 Stops-5 (t ∷ ts) = stops_at (none_at_5 (operator_at t.kind))
 
--- where no operator comes next, what was read is all
+-- if no operator comes next, what was read is all
 reading_stops : (l : ℕ) (a : Expression Name) (ts : List Tok) → Stops l ts → reading (after l a) ts ≡ Some (a, ts)
 reading_stops l a [] stops_end = reading_is (after l a) []
 reading_stops l a (t ∷ ts) (stops_at e) = reading_is (after l a) (t ∷ ts) ∙ ap (go_on reading l a t ts) e
 
--- where an operator comes next, its right side is read
+-- if an operator comes next, its right side is read
 reading_goes_on : (l : ℕ) (a b : Expression Name) (t : Tok) (us rest : List Tok) (o : Operator) → l ≤ level o → operator_at t.kind ≡ Some o
     → reading (from (right_level o)) us ≡ Some (b, rest) → reading (after l a) (t ∷ us) ≡ reading (after l (two o a b)) rest
 reading_goes_on l a b t us rest o h op e =
     reading_is (after l a) (t ∷ us) ∙ ap (go_on reading l a t us) (some_binds l t.kind o op h)
     ∙ bind_is (reading (from (right_level o))) (λ b. reading (after l (two o a b))) us b rest e
 
--- the start of an expression is read as its operand, and what follows goes on from there
+-- the start of an expression is read as its operand, and what follows continues from there
 reading_starts : (l : ℕ) (a : Expression Name) (t : Tok) (ts rest : List Tok) → operand_step reading t ts ≡ Some (a, rest)
     → reading (from l) (t ∷ ts) ≡ reading (after l a) rest
 reading_starts l a t ts rest e =

@@ -12,7 +12,7 @@ both {X} {x} {y} {ts} {us} e =
     let h : ◌≡◌ {A = X × List Tok} (x, ts) (y, us) = cc in
     (ap (λ (p : X × List Tok). p.0) h, ap (λ (p : X × List Tok). p.1) h)
 
--- what holds of what was given holds of what was read
+-- what holds for what was given holds for what was read
 pub carried : {X : Type 0} {x y : X} {ts us : List Tok} (P : X → List Tok → Type 0)
     → ◌≡◌ {A = Option (X × List Tok)} (Some (x, ts)) (Some (y, us)) → P x ts → P y us
 carried {X} {x} {y} {ts} {us} P e h = rw (← (both e).0, ← (both e).1) h
@@ -33,7 +33,7 @@ pub between : {X Y : Type 0} (p : Parser X) (f : X → Parser Y) (ts : List Tok)
     → Between p f ts y rest
 between p f ts y rest h = split_first p f ts y rest (p ts) refl h
 
--- a chain, where the first part is known
+-- a chain, if the first part is known
 pub bind_is : {X Y : Type 0} (p : Parser X) (f : X → Parser Y) (ts : List Tok) (x : X) (us : List Tok) → p ts ≡ Some (x, us)
     → (p >>= f) ts ≡ f x us
 bind_is p f ts x us e = rw e refl
@@ -125,7 +125,7 @@ Agree-Strict-bind {n = n} {p = p} {q = q} {f = f} {g = g} a s h = record {
       (h x).at us (omega arith));
 }
 
--- A step of a recursion that may be repeated: where the recursion reads no more than it is given, so does the step,
+-- A step of a recursion that may be repeated: if the recursion reads no more than it is given, so does the step,
 -- and it looks at the recursion on shorter lists only.
 pub record IsStep {I X : Type 0} (step : (I → Parser X) → I → Parser X) : Type 0 where
   pub keeps : (f : I → Parser X) → ((i : I) → Shrinks (f i)) → (i : I) → Shrinks (step f i)
@@ -160,7 +160,7 @@ module _ {I X : Type 0} (step : (I → Parser X) → I → Parser X) (good : IsS
       })
       i).at ts (omega arith)
 
--- what each step keeps of what is read holds of what the recursion reads
+-- what each step keeps of what is read holds for what the recursion reads
 abbrev pub Finds : {I X : Type 0} → (I → List Tok → X → List Tok → Type 0) → (I → Parser X) → Type 0
 Finds {I} {X} Q f = (i : I) (ts : List Tok) (x : X) (rest : List Tok) → f i ts ≡ Some (x, rest) → Q i ts x rest
 

@@ -59,7 +59,7 @@ sections_end is ts e = rw e refl
 -- what the loop over statements does
 pub ruleset section_steps = (sections_start, sections_no_start, sections_go_on, sections_refused, sections_end)
 
--- a keyword and the statements behind it, before what comes of them
+-- a keyword and the statements after it, before their result
 behind : {Y : Type 0} (k : Kind) (f : Block Name Name Name → Parser Y) (ts : List Tok)
     → (take k >>= λ _. (section >>= f)) ts ≡ (section_behind k >>= f) ts
 unfolding section_behind
@@ -79,7 +79,7 @@ behind_some : {Y : Type 0} (k : Kind) (f : Block Name Name Name → Parser Y) (t
     → section_behind k ts ≡ Some (a, us) → (take k >>= λ _. (section >>= f)) ts ≡ f a us
 behind_some k f ts a us e = behind k f ts ∙ bind_is (section_behind k) f ts a us e
 
--- a test, and the statements behind it
+-- a test, and the statements after it
 abbrev headed : Kind → (RightSide Name → Block Name Name Name → Parser Deed) → Parser Deed
 headed k f = condition >>= λ r. take k >>= λ _. (section >>= f r)
 

@@ -1,4 +1,4 @@
--- The parts of statements, read just as the grammar says.
+-- The parts of statements, read exactly as the grammar says.
 use Rattle.std.proofs.Common.{◌≡◌, ℕ, ◌<◌, Bool, true, false, ◌||◌, List, [], ◌∷◌, length, Some, refl, ap, ◌⊎◌, inl, inr}
 use Rattle.language.specs.Tree.{Name, Operator, Expression, RightSide, any, value}
 use Rattle.tokens.specs.declared.vocabulary.Kind.{Kind}
@@ -56,7 +56,7 @@ begins_no k h (reads_not {t = t} e r) = apart t.kind k (rw e refl) h
 begins_no k h (reads_paren {t = t} e r c) = apart t.kind k (rw e refl) h
 begins_no k h (reads_two o low left op r) = begins_no k h left
 
--- behind a name at the beginning of an expression comes an operator or what follows the expression, and so no `(`
+-- after a name at the beginning of an expression comes an operator or what follows the expression, and so no `(`
 operator_no_open : (t : Tok) (us : List Tok) (o : Operator) → operator_at t.kind ≡ Some o → begins kind.Open (t ∷ us) ≡ false
 unfolding same_kind
 operator_no_open t us o e = by_test (same_kind t.kind kind.Open) refl
@@ -126,7 +126,7 @@ exactly_right = record {
         let h = begins_no kind.Any refl r in
         rw h (bind_is expression (λ e. give (value e)) ts e rest (exactly_expression.reads ts e rest r s))
 
--- a comma and a closing parenthesis are no operators
+-- a comma and a closing parenthesis are not operators
 pub comma_stops : (us : List Tok) → begins kind.Comma us ≡ true → Stops 0 us
 comma_stops [] e = stops_end
 comma_stops (t ∷ us) e = stops_at (ap (binds 0) (same_kind-true e))

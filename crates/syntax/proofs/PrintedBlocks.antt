@@ -11,7 +11,7 @@ use Rattle.trees.proofs.Folds.{item_is}
 use Rattle.syntax.specs.Printed.{label_parts, margin, block_parts}
 use Rattle.syntax.specs.PrintedDeed.{deed_parts}
 
--- one level more
+-- one more level
 margin_more : (level : ℕ) → text_of (margin (suc level)) ≡ text_of (margin level) ++ (32 ∷ 32 ∷ [])
 margin_more zero = refl
 margin_more (suc level) = ap (λ (t : List ℕ). 32 ∷ 32 ∷ t) (margin_more level)
@@ -38,7 +38,7 @@ first_text level s k =
     ap (λ (i : Item). text_of (block_parts level (before i (block_of k)))) (item_is s)
     ∙ marked_text level (record { label = option_map name_of s.label; at = s.at }) (deed_of s.core) (block_of k)
 
--- one statement more is printed
+-- one more statement is printed
 pub one_printed : {A : Type 0} (level : ℕ) (l : List (Stmt A)) (i : ℕ) (s : Stmt A) (old s1 s2 new w : List ℕ) → i < length l
     → s ≡ get_or l i s
     → old ++ text_of (block_parts level (block_of (drop i l))) ≡ w

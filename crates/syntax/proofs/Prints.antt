@@ -24,7 +24,7 @@ pub pushed_last : {E : Type 0} {X : Type 0} (r : Result X E) (new before s w : L
 pushed_last (Ok x) new before s w e f = e ∙ f
 pushed_last (Err x) new before s w e f = tt
 
--- The text at the end of a function whose last call puts s behind.
+-- The text at the end of a function whose last call appends s.
 pub put_last : {E : Type 0} {X : Type 0} (r : Result X E) (new before s w : List ℕ) → IfOk r (λ _. new ≡ before ++ s) → before ++ s ≡ w
     → IfOk r (λ _. new ≡ w)
 put_last (Ok x) new before s w e f = e ∙ f

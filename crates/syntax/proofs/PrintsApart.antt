@@ -23,7 +23,7 @@ pub record Tail (more : List Part) : Type 0 where
   pub free : IsApart kind.Id more
   pub apart : AreApart more
 
--- Parts that stand apart whatever is behind them, but a word.
+-- Parts that stand apart whatever comes after them, except a word.
 abbrev pub Fits : List Part → Type 0
 Fits parts = (more : List Part) → Tail more → AreApart (parts ++ more)
 
@@ -58,7 +58,7 @@ free_as_name k h (shown j w ∷ more) apart = h j ∙ apart
 free_as_name k h (space ∷ more) apart = tt
 free_as_name k h (line ∷ more) apart = tt
 
--- Behind ! stands an operand, which begins with no =.
+-- After ! comes an operand, which begins with no =.
 not_free : (e : Expression Name) (more : List Part) → IsApart kind.Not (operand_parts e ++ more)
 not_free (const false) more = refl
 not_free (const true) more = refl
@@ -193,7 +193,7 @@ margin_fits : (level : ℕ) (more : List Part) → AreApart more → AreApart (m
 margin_fits zero more apart = apart
 margin_fits (suc level) more apart = margin_fits level more apart
 
--- A line stands apart where what is on it does in front of a line feed.
+-- A line stands apart if what is on it does in front of a line feed.
 line_fits : (level : ℕ) (parts more : List Part) → AreApart (parts ++ (line ∷ more)) → AreApart (line_of level parts ++ more)
 line_fits level parts more apart =
     put _ (margin level ++ (parts ++ (line ∷ more)))

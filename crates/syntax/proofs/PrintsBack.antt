@@ -12,14 +12,14 @@ use Rattle.syntax.specs.Offsets.{unplaced, unplaced_expression, unplaced_side}
 use Rattle.syntax.specs.Printed as printed
 use Rattle.syntax.specs.Printed.{name_parts, after_commas, separated, kind_of, operation, operand_parts, expression_parts, side_parts}
 
--- By P, tokens begin with something that is x but for its offsets, and the tokens of more parts follow.
+-- By P, tokens begin with something that is x except for its offsets, and the tokens of more parts follow.
 pub record Read {X : Type 0} (P : List Tok → X → List Tok → Type 0) (bare : X → X) (x : X) (ts : List Tok) (more : List Part) : Type 0 where
   pub found : X
   pub next : ℕ
   pub same : bare found ≡ bare x
   pub reads : P ts found (tokens_of next more)
 
--- Wherever the parts stand, their tokens are x by P, but for its offsets.
+-- Wherever the parts stand, their tokens are x by P, except for its offsets.
 abbrev pub Shows : {X : Type 0} → (List Tok → X → List Tok → Type 0) → (X → X) → List Part → X → Type 0
 Shows P bare parts x = (at : ℕ) (more : List Part) → Read P bare x (tokens_of at (parts ++ more)) more
 
@@ -39,7 +39,7 @@ operator_shown and = refl
 operator_shown equal = refl
 operator_shown differs = refl
 
--- An operation without parentheses, where its operands are read at every level.
+-- An operation without parentheses, if its operands are read at every level.
 operation_shows : (o : Operator) (a b : Expression Name) → ((l : ℕ) → Shows (Reads l) unplaced_expression (operand_parts a) a)
     → ((l : ℕ) → Shows (Reads l) unplaced_expression (operand_parts b) b)
     → Shows (Reads 0) unplaced_expression (operation o (operand_parts a) (operand_parts b)) (two o a b)
@@ -92,7 +92,7 @@ side_shows (value e) at more = let x =
 pub name_shows : (n : Name) → Shows IsName unplaced (name_parts n) n
 name_shows n at more = record { found = record { text = n.text; at = at }; next = at + length n.text; same = refl; reads = is_name refl }
 
--- Lists, and what stands in parentheses.
+-- Lists, and what is in parentheses.
 module _ {X : Type 0} (P : List Tok → X → List Tok → Type 0) (bare : X → X) (show : X → List Part)
     (shows : (x : X) → Shows P bare (show x) x) where
   commas_show : (xs : List X) → Shows (Many (Behind kind.Comma P)) (map bare) (after_commas show xs) xs

@@ -1,4 +1,4 @@
--- Declarations, procedures, thread lines and programs, read just as the grammar says.
+-- Declarations, procedures, thread lines and programs, read exactly as the grammar says.
 use Rattle.std.proofs.Common.{◌≡◌, true, false, List, [], ◌∷◌, Some, refl, ◌∙◌, ap}
 use Rattle.language.specs.Tree.{Name, Block, Procedure, ThreadLine, Tree}
 use Rattle.tokens.specs.declared.vocabulary.Kind.{Kind}

@@ -26,6 +26,6 @@ reads_back t ok limits =
       shows.2,
     )
 
--- the same of bytes that are the printed text
+-- the same for bytes that are the printed text
 pub bytes_read_back : (bytes : List ℕ) (t : Tree) → bytes ≡ printed t → InGrammar t → WithinLimits bytes → IsTextOf bytes t
 bytes_read_back bytes t e ok = subst (λ b. WithinLimits b → IsTextOf b t) (sym e) (reads_back t ok)

@@ -14,7 +14,7 @@ use Rattle.syntax.proofs.Fixes.{Shrinks-Strict-bind, Agree-same, Agree-bind, Agr
 use Rattle.syntax.proofs.Exactly.{chosen}
 use Rattle.syntax.proofs.Parts.{strict_name, strict_names, strict_rights, strict_arguments, strict_expression, strict_test}
 
--- what is read last, and a semicolon behind it
+-- what is read last, and a semicolon after it
 shrinks_ended : {X : Type 0} {p : Parser X} (deed : X → Deed) → Strict p
     → Shrinks (p >>= λ x. take kind.Semicolon >>= λ _. give (deed x))
 shrinks_ended deed strict =

@@ -45,7 +45,7 @@ cut_spelled at bytes tokens nothing = tt
 cut_spelled at bytes tokens (gap text rest e is others) = cut_spelled _ rest tokens others
 cut_spelled at bytes tokens (token k text rest e is others) = (token_spelled k text rest is, cut_spelled _ rest _ others)
 
--- What P says of tokens whose names are spelled right is so.
+-- What P says about tokens whose names are spelled right is true.
 abbrev Keeps : {X : Type 0} → (List Tok → X → List Tok → Type 0) → (X → Type 0) → Type 0
 Keeps {X} P Ok = (ts rest : List Tok) (x : X) → P ts x rest → AllSpelled ts → Ok x × AllSpelled rest
 

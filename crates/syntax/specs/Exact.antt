@@ -53,7 +53,7 @@ operand (token ∷ tokens) = operand_step reading token tokens
 abbrev pub name : Parser Name
 name = take kind.Id >>= λ t. give (name_at t)
 
--- this behind a comma, again and again
+-- this after a comma, again and again
 abbrev pub more : {X : Type 0} → Parser X → Parser (List X)
 more parser = many (begins kind.Comma) (take kind.Comma >>= λ _. parser)
 
@@ -61,11 +61,11 @@ more parser = many (begins kind.Comma) (take kind.Comma >>= λ _. parser)
 unfoldable pub list : {X : Type 0} → Parser X → Parser (List X)
 list parser = parser >>= λ x. more parser >>= λ xs. give (x ∷ xs)
 
--- a token of this kind behind x
+-- a token of this kind after x
 abbrev pub closing : {X : Type 0} → Kind → X → Parser X
 closing token_kind x = take token_kind >>= λ _. give x
 
--- a list with a token of this kind behind it
+-- a list with a token of this kind after it
 abbrev pub listed : {X : Type 0} → Parser X → Kind → Parser (List X)
 listed parser token_kind = list parser >>= λ xs. closing token_kind xs
 
@@ -116,7 +116,7 @@ marked (token ∷ tokens) = cond (same_kind token.kind kind.Id && begins kind.Co
     ((take kind.Colon >>= λ _. give (record { label = Some (name_at token); at = token.at })) tokens)
     (Some (record { label = None; at = token.at }, token ∷ tokens))
 
--- a semicolon, behind what a statement does
+-- a semicolon, after what a statement does
 abbrev pub ended : Deed → Parser Deed
 ended d = take kind.Semicolon >>= λ _. give d
 
@@ -132,7 +132,7 @@ calling = name >>= λ p. arguments >>= λ es. ended (simple (call p es))
 unfoldable pub asking : Parser Deed
 asking = name >>= λ x. take kind.Assign >>= λ _. name >>= λ p. arguments >>= λ es. ended (simple (call_for x p es))
 
--- whether a token of this kind comes next, and behind it what the test says
+-- whether a token of this kind comes next, and after it what the test says
 abbrev pub past : Kind → (List Tok → Bool) → List Tok → Bool
 past token_kind test [] = false
 past token_kind test (token ∷ tokens) = same_kind token.kind token_kind && test tokens
@@ -151,33 +151,33 @@ named token tokens =
     cond (begins kind.Open tokens) (calling (token ∷ tokens))
     (cond (asks_behind tokens) (asking (token ∷ tokens)) (assignment (token ∷ tokens)))
 
--- an `if`, behind that word
+-- an `if`, after that word
 abbrev pub branching : Parser (Block Name Name Name) → Parser Deed
 branching block =
     condition >>= λ r. take kind.Then >>= λ _. block >>= λ a. take kind.Else >>= λ _. block >>= λ b. take kind.Fi >>= λ _.
     give (branch r a b)
 
--- a `while`, behind that word
+-- a `while`, after that word
 abbrev pub repeating : Parser (Block Name Name Name) → Parser Deed
 repeating block = condition >>= λ r. take kind.Do >>= λ _. block >>= λ a. take kind.Od >>= λ _. give (repeat r a)
 
--- a `goto`, behind that word
+-- a `goto`, after that word
 abbrev pub jumping : Parser Deed
 jumping = name >>= λ l. ended (simple (goto l))
 
--- an `assert`, behind that word
+-- an `assert`, after that word
 abbrev pub asserting : Parser Deed
 asserting = condition >>= λ r. ended (simple (assert r))
 
--- an `assume`, behind that word
+-- an `assume`, after that word
 abbrev pub assuming : Parser Deed
 assuming = condition >>= λ r. ended (simple (assume r))
 
--- a value, behind `return`
+-- a value, after `return`
 unfoldable pub giving : Parser Deed
 giving = expression >>= λ e. ended (simple (leave_with e))
 
--- nothing or a value, behind `return`
+-- nothing or a value, after `return`
 abbrev pub returning : Parser Deed
 returning ts = cond (begins kind.Semicolon ts) (ended (simple leave) ts) (giving ts)
 
@@ -215,7 +215,7 @@ starts_here (token ∷ tokens) = starts token.kind
 abbrev pub item_step : Parser (Block Name Name Name) → Parser Item
 item_step block = marked >>= λ m. deed_step block >>= λ d. give (record { mark = m; deed = d })
 
--- the statements that go on, if another comes
+-- the statements that continue, if another comes
 abbrev pub rest_step : Parser (Block Name Name Name) → Parser (Block Name Name Name)
 rest_step block ts = cond (starts_here ts) (block ts) (Some (done, ts))
 
@@ -226,7 +226,7 @@ section_step rec u = item_step (rec tt) >>= λ i. rest_step (rec tt) >>= λ k. g
 unfoldable pub section : Parser (Block Name Name Name)
 section = fix section_step tt
 
--- a keyword, and the statements behind it
+-- a keyword, and the statements after it
 unfoldable pub section_behind : Kind → Parser (Block Name Name Name)
 section_behind token_kind = take token_kind >>= λ _. section
 
@@ -253,7 +253,7 @@ declaration = take kind.Decl >>= λ _. names >>= λ ns. take kind.Semicolon >>= 
 unfoldable pub all_declarations : Parser (List Name)
 all_declarations = many (begins kind.Decl) declaration >>= λ nss. give (joined nss)
 
--- what stands in a procedure: begin, its locals, its statements, end
+-- what is in a procedure: begin, its locals, its statements, end
 unfoldable pub insides : Parser (List Name × Block Name Name Name)
 insides = take kind.Begin >>= λ _. all_declarations >>= λ ls. section >>= λ b. take kind.End >>= λ _. give (ls, b)
 

@@ -1,4 +1,4 @@
--- What a reader answers, and what the grammar's function gives.
+-- What a reader returns, and what the grammar's function gives.
 use Rattle.std.specs.Prelude.{◌≡◌, ◌<◌, List, length, Option, None, Some, Result, Ok, Err, IfOk}
 use denote.Ref.{Bor}
 use Rattle.tokens.specs.declared.vocabulary.Token.{Token}
@@ -7,7 +7,7 @@ use Rattle.syntax.specs.Parser.{Parser}
 use Rattle.syntax.specs.declared.fault.ReadFault.{ReadFault}
 use Rattle.syntax.specs.declared.fault.ReadFault.TheVariants as fault
 
--- Nothing is given where a token is refused; want of memory says nothing; no other fault comes.
+-- Nothing is given if a token is refused; lack of memory says nothing; no other fault comes.
 abbrev pub RefusesTokens : {Y : Type 0} → ReadFault → Option Y → Type 0
 RefusesTokens (fault.Syntax at) given = given ≡ None
 RefusesTokens fault.Memory given = Unit {0}
@@ -15,7 +15,7 @@ RefusesTokens fault.TooLong given = ⊥
 RefusesTokens fault.NotAscii given = ⊥
 RefusesTokens fault.TooDeep given = ⊥
 
--- What was answered, seen by view, is what is given.
+-- What was returned, seen by view, is what is given.
 abbrev pub Gives : {X Y : Type 0} → (X → Y) → Result X ReadFault → Option Y → Type 0
 Gives view (Ok x) given = given ≡ Some (view x)
 Gives view (Err answer) given = RefusesTokens answer given

@@ -34,12 +34,13 @@ level and = 3
 level equal = 4
 level differs = 4
 
--- Left of => stands what binds more strongly; left of each other operator also what binds as it does.
+-- On the left of => is what binds more strongly; on the left of each other operator also what binds as it
+-- does.
 abbrev pub left_level : Operator → ℕ
 left_level implies = 1
 left_level operator = level operator
 
--- Right of => stands also another =>; right of each other operator what binds more strongly.
+-- On the right of => may also be another =>; on the right of each other operator is what binds more strongly.
 abbrev pub right_level : Operator → ℕ
 right_level implies = 0
 right_level operator = suc (level operator)
@@ -62,7 +63,7 @@ pub data Reads : ℕ → List Tok → Expression Name → List Tok → Type 0 wh
 pub data IsName : List Tok → Name → List Tok → Type 0 where
   is_name : {t : Tok} {rest : List Tok} → t.kind ≡ kind.Id → IsName (t ∷ rest) (name_at t) rest
 
--- Behind a token of this kind comes what P says.
+-- After a token of this kind comes what P says.
 pub data Behind {X : Type 0} (token_kind : Kind) (P : List Tok → X → List Tok → Type 0) : List Tok → X → List Tok → Type 0 where
   behind : {ts us rest : List Tok} {x : X} → Takes token_kind ts us → P us x rest → Behind token_kind P ts x rest
 
@@ -104,8 +105,8 @@ pub data IsMarked : List Tok → Mark Name → List Tok → Type 0 where
       → IsMarked (t ∷ ts) (record { label = Some (name_at t); at = t.at }) rest
 
 -- The statements that hold no others: skip; return, alone or with an expression; goto and a label; assert and assume
--- with a right side in parentheses; an assignment of as many right sides as there are to as many targets as there are;
--- a call, alone or behind one target.
+-- with a right side in parentheses; an assignment of as many right sides as there are to as many targets as there
+-- are; a call, alone or after one target.
 pub data IsSimple : List Tok → Simple Name Name Name → List Tok → Type 0 where
   is_skip : {ts us rest : List Tok} → Takes kind.Skip ts us → Takes kind.Semicolon us rest → IsSimple ts skip rest
   is_return : {ts us rest : List Tok} → Takes kind.Return ts us → Takes kind.Semicolon us rest → IsSimple ts leave rest

@@ -9,7 +9,7 @@ use Rattle.syntax.specs.Grammar.{IsSome}
 use Rattle.syntax.specs.Text.{Text, DeepTokens}
 use Rattle.syntax.specs.Offsets.{SameButOffsets}
 
--- A name is made of word bytes, begins with no digit, and is no keyword.
+-- A name is made of word bytes, begins with no digit, and is not a keyword.
 abbrev pub IsId : Name → Type 0
 IsId name = IsNameWord name.text
 
@@ -69,7 +69,7 @@ pub record ProcedureInGrammar (procedure : Procedure) : Type 0 where
 abbrev pub ThreadInGrammar : ThreadLine → Type 0
 ThreadInGrammar line = IsId line.name
 
--- A tree is one of the grammar where its names are ids, it has a procedure and a thread line at least, and its parts
+-- A tree is one of the grammar if its names are ids, it has a procedure and a thread line at least, and its parts
 -- are of the grammar.
 pub record InGrammar (tree : Tree) : Type 0 where
   pub globals : AreIds tree.globals

@@ -1,4 +1,4 @@
--- Functions from token lists to what stands at their front.
+-- Functions from token lists to what is at their front.
 use Rattle.std.specs.Prelude.{◌≡◌, ◌<◌, ℕ, zero, suc, Bool, false, List, [], ◌∷◌, length, cond, Option, Some}
 use Rattle.std.specs.Prelude.{None, option_and_then}
 use Rattle.tokens.specs.declared.vocabulary.Kind.{Kind}
@@ -40,7 +40,7 @@ run step (suc n) i ts = step (run step n) i ts
 unfoldable pub fix : {I X : Type 0} → ((I → Parser X) → I → Parser X) → I → Parser X
 fix step i ts = run step (suc (length ts)) i ts
 
--- this again and again, while the test holds of the tokens
+-- this again and again, while the test holds for the tokens
 abbrev pub many_step : {X : Type 0} → (List Tok → Bool) → Parser X → (Unit {0} → Parser (List X)) → Unit {0} → Parser (List X)
 many_step test parser rec u ts = cond (test ts) ((parser >>= λ x. rec u >>= λ xs. give (x ∷ xs)) ts) (Some ([], ts))
 

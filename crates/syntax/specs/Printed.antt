@@ -10,7 +10,7 @@ use Rattle.tokens.specs.declared.vocabulary.Kind.TheVariants as kind
 use Rattle.tokens.specs.Parts.{Part, shown, space, line, fixed, text_of}
 use Rattle.syntax.specs.Grammar.{joined}
 
--- The text goes on with these parts, unless memory runs out.
+-- The text continues with these parts, unless memory runs out.
 abbrev pub Prints : {A X E : Type 0} → Result X E → String A → String A → List Part → Type 0
 Prints result old new parts = IfOk result (λ _. string_bytes new ≡ string_bytes old ++ text_of parts)
 
@@ -18,7 +18,7 @@ Prints result old new parts = IfOk result (λ _. string_bytes new ≡ string_byt
 abbrev pub name_parts : Name → List Part
 name_parts name = shown kind.Id name.text ∷ []
 
--- What stands in parentheses.
+-- What is in parentheses.
 abbrev pub in_parens : List Part → List Part
 in_parens inside = fixed kind.Open ∷ (inside ++ (fixed kind.Close ∷ []))
 
@@ -52,7 +52,7 @@ operand_parts (var variable) = name_parts variable
 operand_parts (negation expression) = fixed kind.Not ∷ operand_parts expression
 operand_parts (two operator left right) = in_parens (operation operator (operand_parts left) (operand_parts right))
 
--- An expression is printed as an operand is, but a two-sided operation without parentheses around it.
+-- An expression is printed as an operand is, except that a two-sided operation has no parentheses around it.
 abbrev pub expression_parts : Expression Name → List Part
 expression_parts (const truth) = operand_parts (const truth)
 expression_parts (var variable) = operand_parts (var variable)
@@ -84,7 +84,7 @@ simple_parts (leave_with expression) = ended (fixed kind.Return ∷ space ∷ ex
 simple_parts (call callee es) = ended (call_parts callee es)
 simple_parts (call_for target callee es) = ended (name_parts target ++ (space ∷ fixed kind.Assign ∷ space ∷ call_parts callee es))
 
--- The statement's first line begins with its label, a colon and a space, where it has a label.
+-- The statement's first line begins with its label, a colon and a space, if it has a label.
 abbrev pub label_parts : Option Name → List Part
 label_parts None = []
 label_parts (Some label) = name_parts label ++ (fixed kind.Colon ∷ space ∷ [])
@@ -102,7 +102,7 @@ line_of level parts = margin level ++ (parts ++ (line ∷ []))
 abbrev pub test_parts : Kind → RightSide Name → Kind → List Part
 test_parts first side last = fixed first ∷ space ∷ (in_parens (side_parts side) ++ (space ∷ fixed last ∷ []))
 
--- The statements of a block, each on a line of its own; `if (r) then`, `else`, `fi`, `while (r) do` and `od` stand on
+-- The statements of a block, each on a line of its own; `if (r) then`, `else`, `fi`, `while (r) do` and `od` are on
 -- lines of their own, and what they enclose is one level further in.
 abbrev pub block_parts : ℕ → Block Name Name Name → List Part
 block_parts level done = []

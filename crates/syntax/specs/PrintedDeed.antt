@@ -5,7 +5,7 @@ use Rattle.tokens.specs.Parts.{Part, line, fixed}
 use Rattle.trees.specs.Trees.{Deed, simple, branch, repeat}
 use Rattle.syntax.specs.Printed.{simple_parts, test_parts, block_parts, line_of}
 
--- What a statement prints behind its margin and its label.
+-- What a statement prints after its margin and its label.
 abbrev pub deed_parts : ℕ → Deed → List Part
 deed_parts level (simple statement) = simple_parts statement ++ (line ∷ [])
 deed_parts level (branch side if_true if_false) =

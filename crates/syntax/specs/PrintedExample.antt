@@ -2,7 +2,7 @@
 use Rattle.std.specs.Prelude.{ℕ, List, [], ◌∷◌, Some, None, codes}
 use Rattle.language.specs.Tree.{Name, var, negation, two, equal, any, value, assign, goto, Mark, done, one, loop, Tree}
 
--- a name, wherever it stands
+-- a name, wherever it occurs
 abbrev pub named : List ℕ → Name
 named text = record { text = text; at = 0 }
 

@@ -24,13 +24,13 @@ pub record Text (bytes : List ℕ) (tree : Tree) : Type 0 where
 abbrev pub DeepTokens : List ℕ → Type 0
 DeepTokens bytes = (tokens : List Tok) × Cuts 0 bytes tokens × TooDeep tokens
 
--- The bytes are cut into tokens that are not too deep and no program.
+-- The bytes are cut into tokens that are not too deep and not a program.
 abbrev pub NoProgram : List ℕ → Type 0
 NoProgram bytes = (tokens : List Tok) × Cuts 0 bytes tokens × (TooDeep tokens → ⊥) × ((tree : Tree) → IsProgram tokens tree → ⊥)
 
--- The fault stands, and none that is tested before it: too many bytes; a byte that is not ASCII; a place
--- up to which the bytes are cut into tokens and where no token begins; tokens that are too deep; tokens that are no
--- program. Want of memory may come wherever the bytes are not too many and ASCII: those two tests take none.
+-- The fault stands, and none that is tested before it: too many bytes; a byte that is not ASCII; a place up to
+-- which the bytes are cut into tokens and where no token begins; tokens that are too deep; tokens that are not a
+-- program. Lack of memory may come wherever the bytes are not too many and ASCII: those two tests take none.
 abbrev pub ReadFaultStands : ReadFault → List ℕ → Type 0
 ReadFaultStands fault.TooLong bytes = most_bytes < length bytes
 ReadFaultStands fault.NotAscii bytes = (length bytes ≤ most_bytes) × (IsAscii bytes → ⊥)
@@ -38,7 +38,7 @@ ReadFaultStands (fault.Syntax at) bytes = (length bytes ≤ most_bytes) × IsAsc
 ReadFaultStands fault.TooDeep bytes = (length bytes ≤ most_bytes) × IsAscii bytes × DeepTokens bytes
 ReadFaultStands fault.Memory bytes = (length bytes ≤ most_bytes) × IsAscii bytes
 
--- The faults are tested in the order of these numbers, but that the tokens are tested for being a program last.
+-- The faults are tested in the order of these numbers, but whether the tokens are a program is tested last.
 abbrev pub number : ReadFault → ℕ
 number fault.TooLong = 1
 number fault.NotAscii = 2

@@ -26,8 +26,8 @@ fn level_of(op: Op) -> u8
     }
 }
 
-/// How strongly what stands right of an operator binds at least: `=>` groups to the right, and the
-/// others to the left.
+/// How strongly the right operand of an operator binds at least: `=>` groups to the right, and the others to
+/// the left.
 fn right_level_of(op: Op) -> u8
     ensures { result ≡ right_level (operator_of op) }
 {

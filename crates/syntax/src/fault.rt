@@ -13,13 +13,13 @@ pub enum ReadFault {
     /// Some byte is 128 or more.
     #[error("2 not ascii")]
     NotAscii,
-    /// No program of the language goes on at this place.
+    /// No program of the language continues at this place.
     #[error("3 syntax at {0}")]
     Syntax(u32),
     /// More than 64 levels are open after some token, or a run has more than 64 operators.
     #[error("4 too deep")]
     TooDeep,
-    /// A growth was refused.
+    /// An allocation was refused.
     #[error("5 memory")]
     Memory,
 }

@@ -11,7 +11,7 @@ use crate::written::Written;
 use std::alloc::Allocator;
 use tokens::{Kind, Token};
 
-/// What written one after the other, as the names of a declaration do.
+/// What is written one after the other, like the names of a declaration.
 pub trait Item<A: Allocator + Clone>: Written + Sized + Drop {
     /// Reads an item.
     fn read<'t>(reader: &Reader<'_, A>, tokens: &'t [Token<'t>]) -> Read<'t, Self>

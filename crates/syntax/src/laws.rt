@@ -5,8 +5,8 @@ ghost use Rattle.language.specs.Tree.{Tree};
 ghost use Rattle.syntax.specs.Text.{Text, ReadFaultStands, number};
 ghost use Rattle.syntax.specs.declared.fault.ReadFault.{ReadFault};
 
-/// A law: a text has one tree, no fault but want of memory stands at a text, and at other bytes only one of the
-/// faults 1 to 4 stands.
+/// A law: a text has one tree, no fault but lack of memory stands for a text, and for other bytes only one of
+/// the faults 1 to 4 stands.
 pub fn texts_have_one_tree()
     ensures one_tree { (bytes : List ℕ) (tree other : Tree) → Text bytes tree → Text bytes other
         → tree ≡ other }

@@ -1,4 +1,4 @@
-//! What lists have: names, right sides and expressions; and what stands in parentheses.
+//! What lists have: names, right sides and expressions; and what is in parentheses.
 
 ghost use Rattle.std.specs.Prelude.{map};
 ghost use Rattle.syntax.specs.Gives.{Parses, Shorter};
@@ -39,7 +39,7 @@ impl<A: Allocator + Clone> Item<A> for Expr<A> {
 }
 
 impl<'a, A: Allocator + Clone> Reader<'a, A> {
-    /// Reads items with commas between them, and a token of this kind behind them.
+    /// Reads items with commas between them, and a token of this kind after them.
     #[tactic(auto, using(crate::proofs::Closings::closed_seen))]
     pub fn listed<'t, T: Item<A>>(&self, kind: Kind, tokens: &'t [Token<'t>]) -> Read<'t, Vec<T, A>>
         requires { Strict T.grammar }

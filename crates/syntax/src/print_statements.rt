@@ -13,7 +13,7 @@ use crate::show::{Show, print_list};
 use std::alloc::{AllocError, Allocator};
 use trees::{Core, Expr, Name, Rhs, Stmt};
 
-/// The level below. No memory holds a line so far in that its level fits no number.
+/// The level below. No line that fits into memory is indented so far that its level fits no number.
 fn below(level: usize) -> Result<usize, AllocError>
     ensures { IfOk result (λ next. next ≡ level + 1) }
 {
@@ -30,7 +30,7 @@ pub fn print_margin<A: Allocator>(out: &mut String<A>, level: usize) -> Result<(
     Ok(())
 }
 
-/// Prints a text behind the margin of this level.
+/// Prints a text after the margin of this level.
 fn print_line<A: Allocator>(out: &mut String<A>, level: usize, text: &str) -> Result<(), AllocError>
     ensures { IfOk result
         (λ _. string_bytes out.new ≡ string_bytes out.old ++ (text_of (margin level) ++ text.now)) }
@@ -39,7 +39,7 @@ fn print_line<A: Allocator>(out: &mut String<A>, level: usize, text: &str) -> Re
     out.push_str(text)
 }
 
-/// Prints a label, where there is one.
+/// Prints a label, if there is one.
 fn print_label<N: Allocator, A: Allocator>(
     out: &mut String<A>,
     label: &Option<Name<N>>,
@@ -69,7 +69,7 @@ fn print_test<N: Allocator, A: Allocator>(
     out.push_str(behind)
 }
 
-/// Prints a jump, behind its margin and its label.
+/// Prints a jump, after its margin and its label.
 fn print_jump<N: Allocator, A: Allocator>(
     out: &mut String<A>,
     label: &Name<N>,
@@ -81,7 +81,7 @@ fn print_jump<N: Allocator, A: Allocator>(
     out.push_str(";\n")
 }
 
-/// Prints an assignment, behind its margin and its label.
+/// Prints an assignment, after its margin and its label.
 fn print_assignment<N: Allocator, A: Allocator>(
     out: &mut String<A>,
     targets: &[Name<N>],
@@ -96,7 +96,7 @@ fn print_assignment<N: Allocator, A: Allocator>(
     out.push_str(";\n")
 }
 
-/// Prints a call, behind its margin and its label.
+/// Prints a call, after its margin and its label.
 fn print_call<N: Allocator, A: Allocator>(
     out: &mut String<A>,
     name: &Name<N>,
@@ -111,7 +111,7 @@ fn print_call<N: Allocator, A: Allocator>(
     out.push_str(");\n")
 }
 
-/// Prints a call for a value, behind its margin and its label.
+/// Prints a call for a value, after its margin and its label.
 fn print_asking<N: Allocator, A: Allocator>(
     out: &mut String<A>,
     target: &Name<N>,
@@ -126,7 +126,7 @@ fn print_asking<N: Allocator, A: Allocator>(
     print_call(out, name, arguments)
 }
 
-/// Prints a `return` with its value, behind its margin and its label.
+/// Prints a `return` with its value, after its margin and its label.
 fn print_giving<N: Allocator, A: Allocator>(
     out: &mut String<A>,
     value: &Expr<N>,
@@ -156,7 +156,7 @@ pub fn print_block<N: Allocator, A: Allocator>(
     Ok(())
 }
 
-/// Prints what a statement of this level does, behind its margin and its label.
+/// Prints what a statement of this level does, after its margin and its label.
 #[cycle(printing)]
 fn print_core<N: Allocator, A: Allocator>(
     out: &mut String<A>,
@@ -180,7 +180,7 @@ fn print_core<N: Allocator, A: Allocator>(
     }
 }
 
-/// Prints an `if` of this level, behind its margin and its label.
+/// Prints an `if` of this level, after its margin and its label.
 #[cycle(printing)]
 fn print_branch<N: Allocator, A: Allocator>(
     out: &mut String<A>,
@@ -200,7 +200,7 @@ fn print_branch<N: Allocator, A: Allocator>(
     print_line(out, level, "fi\n")
 }
 
-/// Prints a `while` of this level, behind its margin and its label.
+/// Prints a `while` of this level, after its margin and its label.
 #[cycle(printing)]
 fn print_loop<N: Allocator, A: Allocator>(
     out: &mut String<A>,

@@ -8,7 +8,7 @@ ghost use Rattle.syntax.specs.PrintedExample.{jumping};
 ghost use Rattle.syntax.specs.Text.{Text};
 
 /// A law: the tree of a text is one of the grammar; what is printed for a tree of the grammar is a text with the same
-/// tree, offsets aside, where it is within the limits of texts; so what is read and printed is read again.
+/// tree, offsets aside, if it is within the limits of texts; so what is read and printed is read again.
 pub fn printed_texts_are_read_back()
     ensures in_grammar { (bytes : List ℕ) (tree : Tree) → Text bytes tree → InGrammar tree }
     ensures reads_back { (tree : Tree) → InGrammar tree → WithinLimits (printed tree)

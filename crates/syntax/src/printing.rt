@@ -48,14 +48,14 @@ impl<N: Allocator> Show for Thread<N> {
     }
 }
 
-/// Prints a program: the text of its tree, in the one form that docs/LANGUAGE.md lays down. `Err` is want of memory.
+/// Prints a program: the text of its tree, in the one form that docs/LANGUAGE.md lays down. `Err` is lack of memory.
 pub fn print<N: Allocator, A: Allocator>(
     alloc: A,
     program: &Program<N>,
 ) -> Result<String<A>, AllocError>
     // The text is the printed form of the tree.
     ensures form { IfOk result (λ text. string_bytes text ≡ printed (tree_of program.now)) }
-    // Within the limits of texts it is a text with that tree, offsets aside, where the tree is one of the grammar.
+    // Within the limits of texts it is a text with that tree, offsets aside, if the tree is one of the grammar.
     ensures back { InGrammar (tree_of program.now) → IfOk result
         (λ text. WithinLimits (string_bytes text)
         → IsTextOf (string_bytes text) (tree_of program.now)) }

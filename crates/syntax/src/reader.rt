@@ -33,7 +33,7 @@ pub fn begins(kind: Kind, tokens: &[Token<'_>]) -> bool
     }
 }
 
-/// Puts a value behind the others.
+/// Appends a value to the others.
 pub fn put<T: Drop, A: Allocator>(list: &mut Vec<T, A>, value: T) -> Result<(), ReadFault>
     ensures ok { IfOk result (λ _. list.new.items ≡ list.old.items ++ (value ∷ [])) }
     ensures err { IsOkUnless result ReadFault.Memory }
@@ -88,7 +88,7 @@ impl<'a, A: Allocator + Clone> Reader<'a, A> {
         }
     }
 
-    /// Reads a token of this kind behind what was read before it.
+    /// Reads a token of this kind after what was read before it.
     pub fn closed<'t, T: Drop>(&self, value: T, kind: Kind, tokens: &'t [Token<'t>]) -> Read<'t, T>
         ensures gives { Parses (λ v. v) result (closing kind value) tokens.now }
         ensures shorter { Shorter result tokens.now }

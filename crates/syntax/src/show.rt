@@ -7,7 +7,7 @@ ghost use Rattle.syntax.specs.Printed.{Prints, separated};
 use crate::written::Written;
 use std::alloc::{AllocError, Allocator};
 
-/// What is printed one after the other, as the names of a declaration are.
+/// What is printed one after the other, like the names of a declaration.
 pub trait Show: Written {
     /// Prints the value.
     fn print<A: Allocator>(&self, out: &mut String<A>) -> Result<(), AllocError>

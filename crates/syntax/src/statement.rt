@@ -64,7 +64,7 @@ fn names_call(tokens: &[Token<'_>]) -> bool
     first.kind.is(Kind::Id) && begins(Kind::Open, rest)
 }
 
-/// Whether `:=`, a name and `(` come next, as behind the target of a call.
+/// Whether `:=`, a name and `(` come next, as after the target of a call.
 #[tactic(auto, unfolding(crate::specs::Exact::asks_behind))]
 fn asks_behind(tokens: &[Token<'_>]) -> bool
     ensures { result ≡ asks_behind (toks_of tokens.now) }
@@ -76,7 +76,7 @@ fn asks_behind(tokens: &[Token<'_>]) -> bool
 }
 
 impl<'a, A: Allocator + Clone> Reader<'a, A> {
-    /// Reads a label, where there is one, and answers the place of the statement.
+    /// Reads a label, if there is one, and returns the place of the statement.
     #[tactic(auto, unfolding(crate::specs::Exact::marked))]
     fn mark<'t>(&self, tokens: &'t [Token<'t>]) -> Read<'t, (Option<Name<A>>, u32)>
         ensures gives { Parses
@@ -93,7 +93,7 @@ impl<'a, A: Allocator + Clone> Reader<'a, A> {
         Ok(((None, first.at), tokens))
     }
 
-    /// Reads a semicolon, behind what a statement does.
+    /// Reads a semicolon, after what a statement does.
     #[tactic(auto, using(crate::proofs::Closings::closed_seen))]
     fn ended<'t>(&self, core: Core<A>, tokens: &'t [Token<'t>]) -> Read<'t, Core<A>>
         ensures gives { Parses deed_of result (ended (deed_of core)) tokens.now }
@@ -137,7 +137,7 @@ impl<'a, A: Allocator + Clone> Reader<'a, A> {
         self.ended(Core::CallTo(target, name, arguments), rest)
     }
 
-    /// Reads a value, behind `return`.
+    /// Reads a value, after `return`.
     #[tactic(auto, unfolding(crate::specs::Exact::giving))]
     fn giving<'t>(&self, tokens: &'t [Token<'t>]) -> Read<'t, Core<A>>
         ensures gives { Parses deed_of result giving tokens.now }
@@ -147,7 +147,7 @@ impl<'a, A: Allocator + Clone> Reader<'a, A> {
         self.ended(Core::Give(value), rest)
     }
 
-    /// Reads a `goto`, behind that word.
+    /// Reads a `goto`, after that word.
     fn jumping<'t>(&self, tokens: &'t [Token<'t>]) -> Read<'t, Core<A>>
         ensures gives { Parses deed_of result jumping tokens.now }
         ensures shorter { Shorter result tokens.now }
@@ -156,7 +156,7 @@ impl<'a, A: Allocator + Clone> Reader<'a, A> {
         self.ended(Core::Goto(label), rest)
     }
 
-    /// Reads an `assert`, behind that word.
+    /// Reads an `assert`, after that word.
     fn asserting<'t>(&self, tokens: &'t [Token<'t>]) -> Read<'t, Core<A>>
         ensures gives { Parses deed_of result asserting tokens.now }
         ensures shorter { Shorter result tokens.now }
@@ -165,7 +165,7 @@ impl<'a, A: Allocator + Clone> Reader<'a, A> {
         self.ended(Core::Assert(side), rest)
     }
 
-    /// Reads an `assume`, behind that word.
+    /// Reads an `assume`, after that word.
     fn assuming<'t>(&self, tokens: &'t [Token<'t>]) -> Read<'t, Core<A>>
         ensures gives { Parses deed_of result assuming tokens.now }
         ensures shorter { Shorter result tokens.now }
@@ -229,7 +229,7 @@ impl<'a, A: Allocator + Clone> Reader<'a, A> {
         }
     }
 
-    /// Reads a keyword, and the statements behind it.
+    /// Reads a keyword, and the statements after it.
     #[cycle(statements)]
     #[tactic(auto, unfolding(crate::specs::Exact::section_behind))]
     fn block<'t>(&self, word: Kind, tokens: &'t [Token<'t>]) -> Read<'t, Vec<Stmt<A>, A>>
@@ -240,7 +240,7 @@ impl<'a, A: Allocator + Clone> Reader<'a, A> {
         self.statements(inside)
     }
 
-    /// Reads an `if`, behind that word.
+    /// Reads an `if`, after that word.
     #[cycle(statements)]
     #[tactic(auto, unfolding(crate::specs::Exact::if_deed))]
     fn branch<'t>(&self, tokens: &'t [Token<'t>]) -> Read<'t, Core<A>>
@@ -253,7 +253,7 @@ impl<'a, A: Allocator + Clone> Reader<'a, A> {
         self.closed(Core::If(side, yes, no), Kind::Fi, ended)
     }
 
-    /// Reads a `while`, behind that word.
+    /// Reads a `while`, after that word.
     #[cycle(statements)]
     #[tactic(auto, unfolding(crate::specs::Exact::while_deed))]
     fn repeat<'t>(&self, tokens: &'t [Token<'t>]) -> Read<'t, Core<A>>

@@ -6,7 +6,7 @@ use cases::first_word;
 use std::alloc::{AllocError, Global};
 use summaries::EdgeLimit;
 
-/// Writes what comes of a line.
+/// Writes the result of a line.
 pub fn answer(alloc: Global, out: &mut String, line: &str) -> Result<(), AllocError> {
     match line.split_once(": ") {
         Some(("each allocation", line)) => case(alloc, out, line, true),
@@ -14,7 +14,7 @@ pub fn answer(alloc: Global, out: &mut String, line: &str) -> Result<(), AllocEr
     }
 }
 
-/// Writes what comes of a case with ample memory, or with each allocation refused in turn.
+/// Writes the result of a case with ample memory, or with each allocation refused in turn.
 fn case(alloc: Global, out: &mut String, line: &str, refusing: bool) -> Result<(), AllocError> {
     let (head, text) = line.split_once(" | ").unwrap_or((line, ""));
     match head.split_once(' ') {

@@ -1,13 +1,12 @@
-//! Rows of tables and tabulation: each line of the standard input is a case, and is printed again with what comes of
-//! it.
+//! Rows of tables and tabulation: each line of the standard input is a case, and is printed again with its result.
 //!
 //! | Line | What is printed under it |
 //! |---|---|
 //! | `limit N` | whether a limit may be N |
 //! | `summaries K N \| TEXT` | the entries and pairs of each procedure for K rounds and at most N path edges, and whether one is bad |
-//! | `each allocation: summaries K N \| TEXT` | the same, where each allocation that is refused leads to want of memory |
+//! | `each allocation: summaries K N \| TEXT` | the same, if each allocation that is refused leads to lack of memory |
 //! | `table P K: MESSAGES \| TEXT` | what the table of procedure P owes after each message: `2.5` is an entry by procedure 2 with 5, `S.5` one by the starter, `s1.5.6` a summary of procedure 1, `s1.5.6.1` one with the result 1 |
-//! | `each allocation: table P K: MESSAGES \| TEXT` | to which calls of the table of P an allocation was refused, with each kind of set: each of these and each later one answered want of memory, all memory came back, and without a refusal the table owed the same |
+//! | `each allocation: table P K: MESSAGES \| TEXT` | to which calls of the table of P an allocation was refused, with each kind of set: each of these and each later one returned lack of memory, all memory came back, and without a refusal the table owed the same |
 //!
 //! A valuation is a number, whose bits are the places. A line that begins with `#` is a heading.
 #![tactic(auto)]

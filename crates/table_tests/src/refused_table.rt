@@ -22,12 +22,12 @@ enum Call {
     Next,
 }
 
-/// What comes of a table.
+/// The result of a table.
 #[derive(Clone, Copy, Debug)]
 enum Came {
     /// No allocation was refused, and it answered all that was wanted.
     Whole,
-    /// One was refused to this call, which answered want of memory, and each later call does.
+    /// One was refused to this call, which returned lack of memory, and each later call does.
     Refused(Call),
     /// It answered something else.
     Other,
@@ -103,7 +103,7 @@ fn add_owed_after_each<G: Allocator, A: Allocator + Copy, S: PathSet<A>>(
     Ok(())
 }
 
-/// The same of the table of a procedure, whose edges are kept in a set of the type `S`, in memory of `room`.
+/// The same for the table of a procedure, whose edges are kept in a set of the type `S`, in memory of `room`.
 fn add_owed_by<G: Allocator, A: Allocator + Copy, S: PathSet<A>>(
     room: A,
     mails: &mut Vec<Mail>,
@@ -118,8 +118,8 @@ fn add_owed_by<G: Allocator, A: Allocator + Copy, S: PathSet<A>>(
     add_owed_after_each(&mut table, mails, words)
 }
 
-/// Whether the table answers these messages, from the one numbered `at` on, until it owes no more; `at` goes behind
-/// them.
+/// Whether the table answers these messages, from the one numbered `at` on, until it owes no more; `at` is then
+/// past them.
 fn answers<G: Allocator, A: Allocator + Copy, S: PathSet<A>>(
     table: &mut Table<'_, G, A, S>,
     wanted: &[Mail],
@@ -140,8 +140,8 @@ fn answers<G: Allocator, A: Allocator + Copy, S: PathSet<A>>(
     Ok(true)
 }
 
-/// The table takes each message and answers all that it then owes. Answers whether that is what was wanted, or the call
-/// that failed.
+/// The table takes each message and answers all that it then owes. Returns whether that is what was wanted, or the
+/// call that failed.
 fn worked<G: Allocator, A: Allocator + Copy, S: PathSet<A>>(
     table: &mut Table<'_, G, A, S>,
     words: &str,
@@ -165,7 +165,7 @@ fn worked<G: Allocator, A: Allocator + Copy, S: PathSet<A>>(
     Ok(at == wanted.len())
 }
 
-/// Whether each call of a table answers want of memory.
+/// Whether each call of a table returns lack of memory.
 fn stays<G: Allocator, A: Allocator + Copy, S: PathSet<A>>(table: &mut Table<'_, G, A, S>) -> bool
     requires { IsTable S.members table.old }
 {
@@ -174,7 +174,7 @@ fn stays<G: Allocator, A: Allocator + Copy, S: PathSet<A>>(table: &mut Table<'_,
         && table.next() == Err(TableFault::Memory)
 }
 
-/// What comes of a table, in whose room an allocation may be refused.
+/// The result of a table, in whose room an allocation may be refused.
 fn came_of<G: Allocator, A: Allocator + Copy, S: PathSet<A>>(
     scarce: &Scarce<Global>,
     table: &mut Table<'_, G, A, S>,
@@ -196,7 +196,7 @@ fn came_of<G: Allocator, A: Allocator + Copy, S: PathSet<A>>(
     }
 }
 
-/// The same of the table of a procedure, whose edges are kept in a set of the type `S`.
+/// The same for the table of a procedure, whose edges are kept in a set of the type `S`.
 fn came_in<G: Allocator, A: Allocator + Copy, S: PathSet<A>>(
     room: A,
     scarce: &Scarce<Global>,
@@ -212,7 +212,7 @@ fn came_in<G: Allocator, A: Allocator + Copy, S: PathSet<A>>(
     came_of(scarce, &mut table, words, wanted)
 }
 
-/// Writes what comes of the table of a procedure, whose edges are kept in an ordered set or in diagrams, with each
+/// Writes the result of the table of a procedure, whose edges are kept in an ordered set or in diagrams, with each
 /// allocation refused in turn.
 fn write_in_turn(
     alloc: Global,

@@ -12,7 +12,7 @@ use path_sets::{OrderedEdges, PathSet};
 use std::alloc::{AllocError, Allocator, Global};
 use summaries::{Caller, Due, EdgeLimit, Table, TableFault};
 
-/// A procedure's number in front of a point, and what stands behind it; 255 where there is none.
+/// A procedure's number in front of a point, and what comes after it; 255 if there is none.
 fn procedure(text: &str) -> (u8, &str) {
     let (number, others) = text.split_once('.').unwrap_or((text, ""));
     (number.parse::<u8>().unwrap_or(255), others)
@@ -49,7 +49,7 @@ pub fn message_of(word: &str) -> Due {
     }
 }
 
-/// A message behind its receiver, in the words of the cases.
+/// A message after its receiver, in the words of the cases.
 fn word_of(alloc: Global, to: u8, due: Due) -> Result<String, AllocError> {
     match due {
         Due::Entry {
@@ -100,7 +100,7 @@ fn owed<G: Allocator, A: Allocator + Copy, S: PathSet<A>>(
     Ok(words)
 }
 
-/// Writes some words, each behind a blank.
+/// Writes some words, each after a blank.
 fn write_words(out: &mut String, words: &[String]) -> Result<(), AllocError> {
     for word in words {
         write!(out, " {word}")?;

@@ -40,7 +40,7 @@ fn tabulated<A: Allocator + Copy, S: PathSet<A>>(
 }
 
 /// Writes the summaries of a text, for rounds and path edges; or, with `refusing`, whether each refused allocation
-/// leads to want of memory, and none to summaries.
+/// leads to lack of memory, and none to summaries.
 pub fn summaries(
     alloc: Global,
     out: &mut String,
@@ -91,7 +91,7 @@ fn write_entries(out: &mut String, entries: &[Word]) -> Result<(), AllocError> {
     Ok(())
 }
 
-/// Writes pairs, with a result only where it is 1.
+/// Writes pairs, with a result only if it is 1.
 fn write_pairs(out: &mut String, pairs: &[Pair]) -> Result<(), AllocError> {
     write!(out, "; pairs")?;
     for pair in pairs {
@@ -101,7 +101,7 @@ fn write_pairs(out: &mut String, pairs: &[Pair]) -> Result<(), AllocError> {
     write!(out, "\n")
 }
 
-/// What comes of a tabulation with each allocation refused in turn.
+/// The result of a tabulation with each allocation refused in turn.
 fn refused_in_turn(alloc: Global, sequential: &Sequential<Global>, edges: u64) -> &'static str {
     for nth in 1..400u64 {
         let scarce = Scarce::refusing(alloc, nth);

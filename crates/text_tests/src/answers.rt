@@ -1,4 +1,4 @@
-//! What each command answers.
+//! The answer to each command.
 ghost use Rattle.std.specs.Prelude.{ℕ, ◌<◌, ◌≤◌, length};
 ghost use Rattle.std.specs.List.{slice_index};
 
@@ -41,7 +41,7 @@ fn is_refused_by<A: Allocator>(alloc: A, text: &str, fault: &CutFault) -> bool
     }
 }
 
-// Asks the command of the text's tokens, or answers why it has none. `faults`: whether the text is refused twice by
+// Asks the command of the text's tokens, or returns why it has none. `faults`: whether the text is refused twice by
 // equal faults.
 fn ask_text<A: Allocator + Copy>(alloc: A, page: &mut Page<A>, command: &str, bytes: &[u8]) {
     let Some(text) = as_ascii(bytes) else {
@@ -106,7 +106,7 @@ fn number_of_fault<A: Allocator + Copy>(alloc: A, bytes: &[u8]) -> u32 {
     }
 }
 
-// The lengths of the fronts of a text that are read. A front that is not read has to be refused for its syntax, at a
+// The lengths of the fronts of a text that are read. A front that is not read must be refused for its syntax, at a
 // place in it.
 fn show_fronts<A: Allocator + Copy>(alloc: A, page: &mut Page<A>, bytes: &[u8]) {
     for length in 0..=bytes.len() {
@@ -128,7 +128,8 @@ fn show_front<A: Allocator + Copy>(alloc: A, page: &mut Page<A>, bytes: &[u8]) {
     page.put(" ");
 }
 
-// What is printed for a text, where it is printed so or memory is wanted whichever allocation is refused.
+// What is printed for a text, if, whichever allocation is refused, it is printed the same or memory is
+// lacking.
 fn refused<A: Allocator + Copy>(alloc: A, bytes: &[u8]) -> Result<String<A>, AllocError> {
     let mut page = Page::new(alloc);
     show_text(alloc, &mut page, View::Printed, bytes);

@@ -1,8 +1,8 @@
 //! Rows on texts: each line of the standard input is a case, and the line of the standard output with the same number
-//! is what came of it. What is wanted was worked out by hand.
+//! is the result. What is wanted was worked out by hand.
 //!
-//! A case is a command, a blank, and a text with its escapes (`row.rt`); the commands are in `answers.rt`. A line that
-//! begins with `#` is a heading, and an empty line stands between cases: they are printed as they are.
+//! A case is a command, a blank, and a text with its escapes (`row.rt`); the commands are in `answers.rt`. A line
+//! that begins with `#` is a heading, and an empty line separates cases: they are printed as they are.
 #![tactic(auto)]
 
 mod answers;

@@ -3,7 +3,7 @@
 use std::alloc::{AllocError, Allocator};
 use std::fmt::{Debug, Display};
 
-/// A text so far. Once a piece finds no memory nothing more is put behind it, and there is no text in the end.
+/// A text so far. Once a piece finds no memory, nothing more is appended, and there is no text in the end.
 #[derive(Drop)]
 pub struct Page<A: Allocator> {
     text: String<A>,
@@ -19,28 +19,28 @@ impl<A: Allocator> Page<A> {
         }
     }
 
-    /// Puts a piece behind the text.
+    /// Appends a piece to the text.
     pub fn put(&mut self, piece: &str) {
         if self.is_whole {
             self.is_whole = self.text.push_str(piece).is_ok();
         }
     }
 
-    /// Puts a number or a fault behind the text.
+    /// Appends a number or a fault to the text.
     pub fn put_shown<T: Display>(&mut self, value: &T) {
         if self.is_whole {
             self.is_whole = write!(self.text, "{value}").is_ok();
         }
     }
 
-    /// Puts the name of a kind behind the text.
+    /// Appends the name of a kind to the text.
     pub fn put_named<T: Debug>(&mut self, value: &T) {
         if self.is_whole {
             self.is_whole = write!(self.text, "{value:?}").is_ok();
         }
     }
 
-    /// Puts a text behind the text, if there was memory for it.
+    /// Appends a text to the text, if there was memory for it.
     pub fn put_text(&mut self, text: Result<String<A>, AllocError>) {
         match text {
             Ok(text) => self.put(text.as_str()),

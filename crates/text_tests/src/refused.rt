@@ -4,7 +4,7 @@ use scarce::Scarce;
 use std::alloc::{AllocError, Allocator};
 use syntax::{ReadFault, print, read};
 
-// Whether the text is read, and printed as wanted; `None` is want of memory.
+// Whether the text is read, and printed as wanted; `None` is lack of memory.
 fn is_printed_so<A: Allocator + Copy>(alloc: A, bytes: &[u8], wanted: &str) -> Option<bool> {
     match read(alloc, bytes) {
         Ok(program) => match print(alloc, &program) {
@@ -16,7 +16,7 @@ fn is_printed_so<A: Allocator + Copy>(alloc: A, bytes: &[u8], wanted: &str) -> O
     }
 }
 
-/// Whether with each allocation refused in turn want of memory is answered, or the wanted text, and at last, where none
+/// Whether with each allocation refused in turn lack of memory is answered, or the wanted text, and at last, if none
 /// is refused, the wanted text.
 pub fn is_printed_or_refused<A: Allocator + Copy>(alloc: A, bytes: &[u8], wanted: &str) -> bool {
     for nth in 1..1000u64 {

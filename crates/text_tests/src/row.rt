@@ -1,7 +1,7 @@
 //! The spelling of a case's text in one line.
 //!
-//! `\n`, `\t`, `\r` and `\v` are a line feed, a tab, a carriage return and a vertical tab, `\e` is the two bytes of `é`
-//! and `\o` one byte of 200; `\64{..}` is 64 times what stands between the braces. Any other byte stands for itself.
+//! `\n`, `\t`, `\r` and `\v` are a line feed, a tab, a carriage return and a vertical tab, `\e` is the two bytes of
+//! `é` and `\o` one byte of 200; `\64{..}` is 64 times what is between the braces. Any other byte stands for itself.
 
 use std::alloc::{AllocError, Allocator};
 
@@ -18,7 +18,7 @@ fn escape(letter: char) -> Option<&'static [u8]> {
     }
 }
 
-/// What stands behind a `\`: some bytes, how often they are spelled, and the text behind them.
+/// What follows a `\`: some bytes, how often they are spelled, and the text after them.
 fn spelled(part: &str) -> (&[u8], u32, &str) {
     let mut letters = part.chars();
     if let Some(bytes) = letters.next().and_then(escape) {
@@ -32,7 +32,7 @@ fn spelled(part: &str) -> (&[u8], u32, &str) {
     (b"\\", 1, part)
 }
 
-/// Puts the bytes of what stands behind a `\` behind the others.
+/// Appends the bytes of what follows a `\` to the others.
 fn push_spelled<A: Allocator>(out: &mut Vec<u8, A>, part: &str) -> Result<(), AllocError> {
     let (bytes, count, behind) = spelled(part);
     for _ in 0..count {
@@ -41,7 +41,7 @@ fn push_spelled<A: Allocator>(out: &mut Vec<u8, A>, part: &str) -> Result<(), Al
     out.extend_from_slice(behind.as_bytes())
 }
 
-/// Puts the bytes that a row spells behind the others.
+/// Appends the bytes that a row spells to the others.
 fn push_row<A: Allocator>(out: &mut Vec<u8, A>, row: &str) -> Result<(), AllocError> {
     let Some((front, parts)) = row.split_once('\\') else {
         return out.extend_from_slice(row.as_bytes());

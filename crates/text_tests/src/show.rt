@@ -17,7 +17,7 @@ pub fn show_tokens<A: Allocator>(page: &mut Page<A>, tokens: &[Token<'_>]) {
     }
 }
 
-// A name with its offset, behind a text.
+// A name with its offset, after a text.
 fn show_name<A: Allocator>(page: &mut Page<A>, before: &str, name: &Name<A>) {
     page.put(before);
     page.put(name.text.as_str());
@@ -110,7 +110,7 @@ fn show_test<A: Allocator>(page: &mut Page<A>, before: &str, side: &Rhs<A>, behi
     page.put(behind);
 }
 
-// The label of a statement, where it has one, and its offset.
+// The label of a statement, if it has one, and its offset.
 fn show_place<A: Allocator>(page: &mut Page<A>, label: &Option<Name<A>>, at: u32) {
     page.put("; ");
     if let Some(label) = label {
@@ -136,7 +136,7 @@ fn show_simple<A: Allocator>(page: &mut Page<A>, core: &Core<A>) {
     }
 }
 
-/// Statements, each behind `; ` and its offset.
+/// Statements, each after `; ` and its offset.
 pub fn show_stmts<A: Allocator>(page: &mut Page<A>, stmts: &[Stmt<A>]) {
     for stmt in stmts {
         show_place(page, &stmt.label, stmt.at);

@@ -130,7 +130,7 @@ module _ {T : Type 0} where
         ];
       }
 
-  -- the value has each lane's part, where it has those of the view's lanes
+  -- the value has each lane's part, if it has those of the view's lanes
   pub keeps_own : {Part : Type 0} (part : ℕ → T → Part) (xs : List (Standing T)) (v : View T) (x : T) → Gathered xs v → KeepsParts part v x
       → KeepsOwn part xs x
   keeps_own part xs v x g keeps j y z e has = let o = g.own j y z e has in keeps o.0 y.number z o.1

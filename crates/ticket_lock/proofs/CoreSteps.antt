@@ -168,7 +168,7 @@ module _ {T : Type 0} (serving next : ℕ) (log : List T) (here : maybe.Option (
         home = λ none. (y, EndsIn-more log y, refl);
       }
 
-  -- where the ticket that is served waits in this hand, nobody is inside
+  -- if the ticket that is served waits in this hand, nobody is inside
   pub nobody_inside : 0 < times serving h.tickets → total (λ (x : Hand T). length x.inside) hands ≡ 0
   nobody_inside some_of =
       let range = in_range serving (omega arith) in
@@ -243,7 +243,7 @@ module _ {T : Type 0} (serving next : ℕ) (log : List T) (here : maybe.Option (
     home = λ none. c.home (sym same_inside ∙ none);
   }
 
--- where no number was drawn twice, what a seat has drawn nobody had drawn before
+-- if no number was drawn twice, what a seat has drawn nobody had drawn before
 pub not_drawn_before : {T V : Type 0} (see : V → Hand T) (seat number : ℕ) (s t : State (Option T) V)
     → HasDrawn see seat number s t → total (λ v. times number (see v).drawn) t.views ≤ 1
     → total (λ v. times number (see v).drawn) s.views ≡ 0

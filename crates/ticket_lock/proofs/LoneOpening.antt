@@ -1,4 +1,4 @@
--- The rule of a lone lock holds of a new table, and the lanes that are dealt.
+-- The rule of a lone lock holds for a new table, and the lanes that are dealt.
 use Rattle.std.proofs.Common.{◌≡◌, ◌≢◌, inl, ℕ, zero, suc, ◌+◌, ◌-◌, ◌<◌, ◌≤◌, List, [], ◌∷◌, ◌++◌, map, length, refl, sym, ap, ◌∙◌, subst}
 use Rattle.std.proofs.Common.{arith, Option, Some}
 use mathlib.Core.Option.{some, some-injective, some-ne-none}

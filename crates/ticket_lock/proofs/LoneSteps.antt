@@ -30,7 +30,7 @@ module _ {A : Type 0} where
   pub longer_second : (a b : List A) → length a < length b → longer a b ≡ b
   longer_second a b d = rw (lt-ltb (length a) (length b) d) refl
 
-  -- the longer of two beginnings of a history is one, and goes on from both
+  -- the longer of two prefixes of a history is one, and continues from both
   pub longer_begins : (log a b : List A) → StartsWith log a → StartsWith log b
       → StartsWith log (longer a b) × StartsWith (longer a b) a × StartsWith (longer a b) b
   longer_begins log a b p q = elim (dec_le (length b) (length a)) [
@@ -43,7 +43,7 @@ module _ {A : Type 0} where
         (q, both_begin log b a q p (omega arith), StartsWith-refl b))
   ]
 
-  -- the longer of the whole and a beginning is the whole
+  -- the longer of the whole and a prefix is the whole
   pub longer_whole : (log a b : List A) → StartsWith log a → StartsWith log b → (a ≡ log) ⊎ (b ≡ log) → longer a b ≡ log
   longer_whole log a b p q is =
       let r = longer_begins log a b p q in
@@ -67,7 +67,7 @@ module _ {T Part : Type 0} (before : T → T → Type 0) (part : ℕ → T → P
   log_some : (s : State (Option T) (View T)) (r : Rule s) → 0 < length r.log
   log_some s r = omega (arith, StartsWith-length r.log (opening ∷ []) r.begun)
 
-  -- nothing was told where the list is empty
+  -- nothing was told if the list is empty
   not_told : (s : State (Option T) (View T)) (r : Rule s) (l : List T) → l ≡ [] → l ≡ r.log → ⊥
   not_told s r l none is = let n : length l ≡ 0 = ap length none in let m : length l ≡ length r.log = ap length is in
       let some_of = log_some s r in omega arith

@@ -1,4 +1,4 @@
--- Each step of a lock at a place may be taken, under every rule that lets a lock stand there.
+-- Each step of a lock at a place may be taken, under every rule that allows a lock there.
 use Rattle.std.proofs.Common.{◌≡◌, ◌≢◌, inl, inr, ℕ, ◌+◌, ◌*◌, ◌^◌, ◌%◌, ◌<◌, List, [], ◌∷◌, ◌++◌, map, length, set, get_or, refl, sym, ap}
 use Rattle.std.proofs.Common.{◌∙◌, subst, arith, Option, Some, length-set, get_or-set_other, get_or-set_same}
 use mathlib.Core.Option as maybe

@@ -17,7 +17,7 @@ IsSameSeat old new = (new.table_id ≡ old.table_id) × (new.id ≡ old.id)
 abbrev pub IsRoom : ℕ → ℕ → TableId → Type 0
 IsRoom word slot id = (word + 1 < id.words) × (word + 1 < 2 ^ 64) × (slot < id.slots)
 
--- the seat is one of the table, which has room for the word and the slot, and the rule lets a lock stand there
+-- the seat is one of the table, which has room for the word and the slot, and the rule allows a lock there
 abbrev pub StandsAt : {K : Type 0} → (K → ℕ → ℕ → Type 0) → TableId → TableId → K → ℕ → ℕ → Type 0
 StandsAt is_place seat table key word slot = (seat ≡ table) × IsRoom word slot table × is_place key word slot
 
@@ -50,12 +50,12 @@ module _ {T V : Type 0} (see : V → Hand T) (tells : Kind T → V → V → Typ
   WentInside slot ticket value answer before after = (after.1 ≡ (slot, answer) ∷ before.1)
       × Enters ticket value (see before.0) (see after.0) × tells (enters value) before.0 after.0
 
-  -- a look at the count, which is the ticket where it is this ticket's turn
+  -- a look at the count, which is the ticket if it is this ticket's turn
   abbrev pub Loaded : ℕ → ℕ → Me (Option T) V → ℕ → Me (Option T) V → Type 0
   Loaded slot ticket before number after = (number ≡ ticket → (x : T) × WentInside slot ticket x (Some x) before after)
       × (number ≢ ticket → Waited ticket before after)
 
-  -- a look, which takes the value out where it is this ticket's turn
+  -- a look, which takes the value out if it is this ticket's turn
   abbrev pub LookedAtTurn : ℕ → ℕ → Me (Option T) V → Option T → Me (Option T) V → Type 0
   LookedAtTurn slot ticket before answer after =
       MatchOption answer (Waited ticket before after) (λ x. WentInside slot ticket x None before after)
@@ -75,6 +75,6 @@ module _ {T V : Type 0} (see : V → Hand T) (tells : Kind T → V → V → Typ
   Left added before after = (after.1 ≡ rest before.1) × (see after.0 ≡ with_leave added (see before.0))
       × ((x : T) × EndsIn (see before.0).seen x × tells (passes x added) before.0 after.0)
 
--- the lock asks nothing of who draws, looks or enters, and a look too early changes no view
+-- the lock asks nothing of a seat that draws, looks or enters, and a look too early changes no view
 abbrev pub IsFree : {T V : Type 0} → (Kind T → V → Type 0) → (Kind T → V → V → Type 0) → Type 0
 IsFree {T} {V} asks tells = ((v : V) → asks draws v × asks waits v × ((x : T) → asks (enters x) v)) × ((v w : V) → tells waits v w → w ≡ v)

@@ -12,18 +12,17 @@ module _ {T : Type 0} where
   abbrev pub in_hand : ℕ → Hand T → ℕ
   in_hand ticket hand = times ticket hand.tickets + times ticket hand.inside
 
-  -- a hand has seen a beginning of the history, the whole of it while it is inside, where it is with the ticket that is
-  -- served; it draws no more than its share, and nothing without one
+  -- a hand has seen a prefix of the history, and the whole of it while it is inside, which it is with the ticket that
+  -- is served; it draws no more than its share, and nothing without one
   pub record Fits (serving : ℕ) (log : List T) (hand : Hand T) : Type 0 where
     pub begins : StartsWith log hand.seen
     pub inside : (hand.inside ≡ []) ⊎ ((hand.inside ≡ serving ∷ []) × (hand.seen ≡ log))
     pub few : length hand.drawn ≤ hand.parts * 2 ^ 56
     pub idle : hand.parts ≡ 0 → (hand.tickets ≡ []) × (hand.inside ≡ [])
 
-  -- the history has the opening value and one value for each ticket served; each ticket from `serving` up to but not
-  -- including `next` is in one hand, and no other ticket is;
-  -- each ticket below `next` was drawn once, and no other was; where nobody is inside, the value that lies at home is
-  -- the last of the history
+  -- the history has the opening value and one value for each ticket served; each ticket from `serving` up to but
+  -- not including `next` is in one hand, and no other ticket is; each ticket below `next` was drawn once, and no
+  -- other was; if nobody is inside, the value that lies at home is the last of the history
   pub record Core (serving next : ℕ) (log : List T) (here : maybe.Option (maybe.Option (Option T))) (hands : List (Hand T)) : Type 0 where
     pub served : length log ≡ serving + 1
     pub order : serving ≤ next

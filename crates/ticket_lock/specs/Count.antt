@@ -1,7 +1,7 @@
 -- Counting in lists.
 use Rattle.std.specs.Prelude.{ℕ, ◌+◌, ◌==◌, List, [], ◌∷◌, if◌then◌else◌}
 
--- how often n stands in the list
+-- how often n occurs in the list
 abbrev pub times : ℕ → List ℕ → ℕ
 times n [] = 0
 times n (x ∷ xs) = (if x == n then 1 else 0) + times n xs

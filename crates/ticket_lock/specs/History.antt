@@ -4,7 +4,7 @@ use mathlib.Core.Option.{some}
 use lib.ListN.{get_elem?}
 
 module _ {A : Type 0} where
-  -- the history goes on from what was seen
+  -- the history continues from what was seen
   abbrev pub StartsWith : List A → List A → Type 0
   StartsWith log seen = (rest : List A) × (log ≡ seen ++ rest)
 
@@ -12,7 +12,7 @@ module _ {A : Type 0} where
   abbrev pub EndsIn : List A → A → Type 0
   EndsIn log x = (front : List A) × (log ≡ front ++ x ∷ [])
 
-  -- the longer of two histories, and the first where they are as long
+  -- the longer of two histories, and the first if they are equally long
   abbrev pub longer : List A → List A → List A
   longer a b = if nat_lt (length a) (length b) then b else a
 

@@ -70,8 +70,8 @@ module _ {T : Type 0} where
   fresh_lanes id budget value first zero = []
   fresh_lanes id budget value first (suc count) = fresh_lane id budget value first ∷ fresh_lanes id budget value (suc first) count
 
-  -- a lane has one number and one share, has taken in what it was told, draws within its share, and holds the slot just
-  -- while it is inside
+  -- a lane has one number and one share, has taken in what it was told, draws within its share, and holds the slot
+  -- exactly while it is inside
   pub record IsLane (id : TableId) (number left : ℕ) (me : Me (Option T) (View T)) : Type 0 where
     pub one : (x : T) × (me.0.own ≡ (number, x) ∷ [])
     pub taken : me.0.told ≡ []

@@ -48,8 +48,8 @@ module _ {T : Type 0} where
   abbrev pub IsWhole : ℕ → View T → Type 0
   IsWhole lanes view = (view.told ≡ []) × (view.hand.tickets ≡ []) × (view.hand.inside ≡ []) × (length view.own ≡ lanes)
 
-  -- the value is the last of the history seen, which begins with the opening value and has one value more than tickets
-  -- were drawn; each ticket below the number of tickets was drawn once, and no other was
+  -- the value is the last of the history seen, which begins with the opening value and has one more value than
+  -- tickets were drawn; each ticket below the number of tickets was drawn once, and no other was
   abbrev pub Rests : T → View T → T → Type 0
   Rests opening view value = EndsIn view.hand.seen value × StartsWith view.hand.seen (opening ∷ [])
       × (length view.hand.seen ≡ length view.hand.drawn + 1)
@@ -91,16 +91,16 @@ module _ {T : Type 0} where
   just_seen view = new_view view.hand.seen []
 
 module _ {T Part : Type 0} (before : T → T → Type 0) (part : ℕ → T → Part) where
-  -- a view's shares are its lanes; it was told a beginning of the history; and the last value of the history has the
+  -- a view's shares are its lanes; it was told a prefix of the history; and the last value of the history has the
   -- part of each of its lanes as that lane left it
   pub record Knows (log : List T) (view : View T) : Type 0 where
     pub shares : view.hand.parts ≡ length view.own
     pub told : StartsWith log view.told
     pub owns : (k l : ℕ) (x y : T) → get_elem? view.own k ≡ some (l, x) → EndsIn log y → part l y ≡ part l x
 
-  -- the lock's rule; the history begins with the opening value, and each value of it comes before the later ones; each
-  -- lane is in one view at most, and all lanes are;
-  -- some view with a lane has seen the whole history or was told it
+  -- the lock's rule; the history begins with the opening value, and each value of it comes before the later ones;
+  -- each lane is in one view at most, and all lanes are; some view with a lane has seen the whole history or was
+  -- told it
   pub record Lone (opening : T) (lanes : ℕ) (state : State (Option T) (View T)) : Type 0 where
     pub log : List T
     pub kept : Kept 0 0 log state.words state.homes (map (hand_of 0) state.views)

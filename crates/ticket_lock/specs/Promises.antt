@@ -39,7 +39,7 @@ module _ {T : Type 0} where
       pub rises : IsRising before after.seen
       pub outside : earlier.inside ≡ []
 
-    -- the lane is inside with one of its tickets; nothing else of it changes but what it has seen
+    -- the lane is inside with one of its tickets; nothing else of it changes except what it has seen
     abbrev pub Served : ℕ → Held T → Standing T → Standing T → Type 0
     Served ticket guard earlier later = GuardStands ticket guard earlier later
         × (later ≡ record earlier { seen = later.seen; tickets = without ticket earlier.tickets; inside = ticket ∷ [] })
@@ -63,9 +63,9 @@ module _ {T : Type 0} where
       pub later : (x : T) → EndsIn standing.seen x → before x left
       pub apart : (x : T) → EndsIn standing.seen x → (k : ℕ) → k ≢ standing.number → part k left ≡ part k x
 
-    -- the lane has seen what it had seen and what the note tells, and what comes first of the two values that it had
-    -- seen last and has seen last now, comes before;
-    -- and what it has seen last comes before a value of the lock that has the lane's own part as the lane left it
+    -- the lane has seen what it had seen and what the note tells, and what comes first of the two values that it
+    -- had seen last and has seen last now, comes before; and what it has seen last comes before a value of the lock
+    -- that has the lane's own part as the lane left it
     pub record LearnedNote (note : Told T) (earlier later : Standing T) : Type 0 where
       pub lane : later ≡ record earlier { seen = longer earlier.seen note.seen }
       pub mine : StartsWith later.seen earlier.seen
@@ -91,9 +91,9 @@ module _ {T : Type 0} where
   abbrev pub IsWaiting : TableId → ℕ → Standing T → Type 0
   IsWaiting id ticket standing = (standing.lock ≡ id) × (standing.tickets ≡ ticket ∷ []) × (standing.inside ≡ [])
 
-  -- the value is the last one of the longest history that a lane has seen, of which the history of each other lane is a
-  -- beginning; it begins with the opening value, and has one value more than tickets were drawn;
-  -- each ticket below the number of tickets was drawn once by one lane, and no other was
+  -- the value is the last one of the longest history that a lane has seen, of which the history of each other lane is
+  -- a prefix; it begins with the opening value, and has one more value than tickets were drawn; each ticket below the
+  -- number of tickets was drawn once by one lane, and no other was
   pub record Closes (opening : T) (lanes : List (Standing T)) (value : T) : Type 0 where
     pub place : ℕ
     pub longest : Standing T

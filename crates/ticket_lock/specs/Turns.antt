@@ -1,4 +1,4 @@
--- What a step of a lock does to the history and to a hand, and how a table's rule lets a lock stand at a place.
+-- What a step of a lock does to the history and to a hand, and how a table's rule allows a lock at a place.
 use Rattle.std.specs.Prelude.{◌≡◌, ◌≢◌, ◌⊎◌, ℕ, ◌+◌, ◌<◌, List, [], ◌∷◌, ◌++◌, map, length, slice_index, slice_set, Option}
 use mathlib.Core.Option as maybe
 use mathlib.Core.Option.{some}
@@ -26,7 +26,7 @@ module _ {T : Type 0} where
   abbrev pub with_entry : ℕ → List T → Hand T → Hand T
   with_entry ticket log hand = record hand { tickets = without ticket hand.tickets; inside = ticket ∷ []; seen = log }
 
-  -- the hand outside again, where it has added a value to the history
+  -- the hand outside again, with a value added to the history
   abbrev pub with_leave : T → Hand T → Hand T
   with_leave added hand = record hand { inside = []; seen = hand.seen ++ added ∷ [] }
 
@@ -46,7 +46,7 @@ module _ {T : Type 0} where
 
 module _ {T V : Type 0} (holds : State (Option T) V → Type 0) (see : V → Hand T) (asks : Kind T → V → Type 0)
     (tells : Kind T → V → V → Type 0) (word slot : ℕ) where
-  -- where a seat takes a step of the lock that keeps the lock's rule, and meets what the step asks, it has a new view
+  -- if a seat takes a step of the lock that keeps the lock's rule, and meets what the step asks, it has a new view
   -- with that hand which keeps the table's rule, and of which the step tells
   abbrev pub Follows : State (Option T) V → List T → ℕ → V → Type 0
   Follows state log id view = (kind : Kind T) (i n : ℕ) (homes : List (maybe.Option (Option T))) (log' : List T) (h : Hand T)

@@ -29,7 +29,7 @@ fn finish<T: LaneLaw, A: Allocator>(board: Board<T, A>, seat: LoneSeat<T>) -> T
 }
 
 impl<T: LaneLaw, A: Allocator> TicketLock<T, A> {
-    /// The value that was left last, or the opening value where none was; it has each lane's own part as that lane left
+    /// The value that was left last, or the opening value if none was; it has each lane's own part as that lane left
     /// it, and what each lane had seen comes before it. The iterator must give all lanes of the lock, none with a
     /// ticket or a guard in hand.
     pub fn close<I: Iterator<Item = Lane<T>> + Drop>(self, lanes: I) -> T

@@ -63,7 +63,7 @@ impl<T> Lane<T> {
     }
 }
 
-/// A ticket that waits for its turn. It has to be looked at until it is served. Contracts see it as its number.
+/// A ticket that waits for its turn. It must be looked at until it is served. Contracts see it as its number.
 pub struct Ticket {
     pub(crate) number: u64,
 }
@@ -85,7 +85,7 @@ impl Ticket {
     }
 }
 
-/// The value of the lock, for the lane that is inside. It has to be left. Contracts see it as a `Held`.
+/// The value of the lock, for the lane that is inside. It must be left. Contracts see it as a `Held`.
 pub struct Guard<T> {
     pub(crate) value: T,
     pub(crate) number: u64,

@@ -1,5 +1,5 @@
-//! A ticket lock (Mellor-Crummey and Scott 1991): guards go out in the order of the tickets, and each guard stands at
-//! the history of all values left before.
+//! A ticket lock (Mellor-Crummey and Scott 1991): guards go out in the order of the tickets, and each guard is at the
+//! history of all values left before.
 #![tactic(auto)]
 
 mod alone;

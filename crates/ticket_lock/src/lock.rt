@@ -43,8 +43,8 @@ impl<T: LaneLaw, A: Allocator> TicketLock<T, A> {
         board
     }
 
-    /// Draws the next ticket: one fetch_add. `Spent` is answered exactly where the lane has drawn all its tickets, and
-    /// changes nothing. The lane must be one of this lock.
+    /// Draws the next ticket: one fetch_add. `Spent` is returned if and only if the lane has drawn all its tickets,
+    /// and changes nothing. The lane must be one of this lock.
     pub fn draw(&self, lane: &mut Lane<T>) -> Result<Ticket, Spent>
         requires { lane.old.lock ≡ self.now.id }
         ensures { MatchResult result (λ t. Drew t lane.old lane.new)
@@ -58,8 +58,8 @@ impl<T: LaneLaw, A: Allocator> TicketLock<T, A> {
         Ok(Ticket { number })
     }
 
-    /// Looks whether it is the ticket's turn: one load, and one exchange where it is. Then the lane is inside, and has
-    /// the guard. Where it is not, the ticket comes back, and nothing changes. The lane must be one of this lock, and
+    /// Looks whether it is the ticket's turn: one load, and one exchange if it is. Then the lane is inside, and has
+    /// the guard. If it is not, the ticket comes back, and nothing changes. The lane must be one of this lock, and
     /// the ticket one of the lane's.
     pub fn look(&self, lane: &mut Lane<T>, ticket: Ticket) -> Result<Guard<T>, Ticket>
         requires lock { lane.old.lock ≡ self.now.id }
@@ -75,7 +75,7 @@ impl<T: LaneLaw, A: Allocator> TicketLock<T, A> {
         Ok(Guard { value, number })
     }
 
-    /// Leaves the guard's value behind the last one of the history, and serves the next ticket: one exchange that
+    /// Puts the guard's value back as the last one of the history, and serves the next ticket: one exchange that
     /// brings the value home, and then one fetch_add. The lane must be one of this lock, and inside with this guard;
     /// the value found must come before the value left, and the parts of other lanes must be as found.
     pub fn leave(&self, lane: &mut Lane<T>, guard: Guard<T>)
@@ -110,9 +110,9 @@ impl<T: LaneLaw, A: Allocator> TicketLock<T, A> {
         self.board.shared.load::<TakesIn>(&mut lane.seat, 0);
     }
 
-    /// Draws a ticket and looks until it is served, with a pause between two looks, and after some looks yields between
-    /// two. `Spent` is answered exactly where the lane has drawn all its tickets, and changes nothing. The lane must be
-    /// one of this lock.
+    /// Draws a ticket and looks until it is served, with a pause between two looks, and after some looks yields
+    /// between two. `Spent` is returned if and only if the lane has drawn all its tickets, and changes nothing. The
+    /// lane must be one of this lock.
     pub fn enter<R: Wait>(&self, rt: &R, lane: &mut Lane<T>) -> Result<Guard<T>, Spent>
         requires { lane.old.lock ≡ self.now.id }
         ensures { MatchResult result (λ g. EnteredLock T.before T.part g lane.old lane.new)

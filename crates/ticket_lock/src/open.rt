@@ -13,7 +13,7 @@ use atomic_table::{Refused, Shared, Table};
 use std::alloc::{AllocFailed, Allocator};
 use std::snapshot::Snapshot;
 
-/// How many tickets a lane may draw, where no other budget is given.
+/// How many tickets a lane may draw, if no other budget is given.
 pub const MOST_TICKETS: u64 = 1 << 56;
 
 // One slot, with the value.
@@ -100,7 +100,7 @@ fn deal<T: LaneLaw, A: Allocator>(
 
 impl<T: LaneLaw, A: Allocator> TicketLock<T, A> {
     /// A lock that keeps this value, with 1 to 64 lanes, each of which may draw 2^56 tickets. The value comes back
-    /// where there is no memory.
+    /// if there is no memory.
     pub fn new(alloc: A, value: T, lanes: u8) -> Result<(TicketLock<T, A>, Vec<Lane<T>, A>), T>
     where
         A: Clone,
@@ -112,7 +112,7 @@ impl<T: LaneLaw, A: Allocator> TicketLock<T, A> {
         TicketLock::with_budget(alloc, value, lanes, MOST_TICKETS)
     }
 
-    /// The same, where each lane may draw `budget` tickets, from 2 to 2^56.
+    /// The same, if each lane may draw `budget` tickets, from 2 to 2^56.
     pub fn with_budget(
         alloc: A,
         value: T,

@@ -1,4 +1,4 @@
-//! The calls of a lock that stands at a place of a table, under any rule that lets it stand there.
+//! The calls of a lock at a place of a table, under any rule that allows it there.
 ghost use Rattle.std.specs.Prelude.{◌≡◌, ℕ, ◌*◌, ◌^◌, ◌<◌, [], ◌∷◌, length, None};
 ghost use Rattle.atomic_table.specs.Table.{rest};
 ghost use Rattle.ticket_lock.specs.Count.{times};
@@ -18,8 +18,8 @@ use std::thread;
 // How often a ticket is looked at before its thread yields, since the one that it waits for may have no processor.
 const LOOKS: u32 = 16;
 
-// The pause between two looks, which does not grow with them: a ticket that oversleeps its turn holds up all behind it,
-// who would oversleep the more.
+// The pause between two looks, which does not grow with them: a ticket that oversleeps its turn holds up all behind
+// it, which would oversleep all the more.
 fn pause() {
     let backoff = Backoff::new();
     backoff.spin();
@@ -87,8 +87,8 @@ fn look_step<J: At, T, V, K, P: LockRule<T, V, K>>(
     shared.exchange(seat, slot, None)
 }
 
-/// Looks whether it is this ticket's turn: one load, and where it is, one exchange that takes the value out. Where it
-/// is not, nothing changes, and fewer values were left than the ticket says. The ticket must be one of the seat's.
+/// Looks whether it is this ticket's turn: one load, and if it is, one exchange that takes the value out. If it is
+/// not, nothing changes, and fewer values were left than the ticket says. The ticket must be one of the seat's.
 pub fn look_at<T, V, K, P: LockRule<T, V, K>>(
     shared: &Shared<Option<T>, V, K, P>,
     seat: &mut Seat<Option<T>, V>,
@@ -163,7 +163,7 @@ fn leave_step<J: At, T, V, K, P: LockRule<T, V, K>>(
     shared.fetch_add::<Passes<J, K, P>>(seat, word, 1);
 }
 
-/// Leaves a value behind the last one of the history: one exchange that brings it home, and then one fetch_add that
+/// Puts a value back as the last one of the history: one exchange that brings it home, and then one fetch_add that
 /// serves the next ticket. The seat must be inside.
 pub fn leave_at<T, V, K, P: LockRule<T, V, K>>(
     shared: &Shared<Option<T>, V, K, P>,

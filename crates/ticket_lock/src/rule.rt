@@ -1,4 +1,4 @@
-//! What a table's rule has to say so that a lock may stand at a place of the table.
+//! What a table's rule must say so that a lock may be at a place of the table.
 ghost use Rattle.std.specs.Prelude.{ℕ};
 ghost use Rattle.ticket_lock.specs.declared.hand.Hand.{Hand};
 ghost use Rattle.ticket_lock.specs.Turns.{Kind, Opens};
@@ -19,8 +19,8 @@ impl At for Brand {
     ghost ticket = { 0 };
 }
 
-/// A rule that holds the lock's rule at each of its places: a place is a word, at which the count of values left
-/// stands, with the next ticket in the word behind it, and a slot, in which the value lies.
+/// A rule that holds the lock's rule at each of its places: a place is a word with the count of values left, the
+/// word after it, with the next ticket, and a slot, with the value.
 pub trait LockRule<T, V, K>: TableRule<Option<T>, V, K> {
     ghost is_place: { K → ℕ → ℕ → Type 0 };
 

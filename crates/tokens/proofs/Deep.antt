@@ -17,14 +17,14 @@ one b = cond b 1 0
 count-cons : (test : Tok → Bool) (t : Tok) (ts : List Tok) → count_by test (t ∷ ts) ≡ one (test t) + count_by test ts
 count-cons test t ts = sum_by-cons (λ x. cond (test x) 1 0) t ts
 
--- Whether the tokens nest too deep behind tokens of which given numbers open and close.
+-- Whether the tokens nest too deep after tokens of which given numbers open and close.
 abbrev pub nests : ℕ → ℕ → List Tok → Bool
 nests o c [] = false
 nests o c (t ∷ ts) =
     cond (nat_lt (64 + (c + one (closes t.kind))) (o + one (opens t.kind))) true
     (nests (o + one (opens t.kind)) (c + one (closes t.kind)) ts)
 
--- Where it finds more than 64, some front has them,
+-- If it finds more than 64, some front has them,
 nests_sound : (o c : ℕ) (ts : List Tok) → nests o c ts ≡ true
     → (front rest : List Tok) × (ts ≡ front ++ rest) × (64 + (c + closings front) < o + openings front)
 nests_sound o c [] e = cc
@@ -46,7 +46,7 @@ nests_sound o c (t ∷ ts) e =
       omega (arith, deep, count-cons (λ x. opens x.kind) t front, count-cons (λ x. closes x.kind) t front),
     )
 
--- and where some front has them, it finds them.
+-- and if some front has them, it finds them.
 nests_complete : (o c : ℕ) (front rest : List Tok) → o ≤ 64 + c → 64 + (c + closings front) < o + openings front
     → nests o c (front ++ rest) ≡ true
 nests_complete o c [] rest low deep = absurd (omega arith)
@@ -63,7 +63,7 @@ nests_complete o c (t ∷ front) rest low deep =
     by_test true f more = refl
     by_test false f more = more (grind (arith, nat_tests))
 
--- Whether a run is too long, behind a given number of operators of the same run.
+-- Whether a run is too long, after a given number of operators of the same run.
 abbrev pub runs : ℕ → List Tok → Bool
 runs n [] = false
 runs n (t ∷ ts) =
@@ -73,15 +73,15 @@ runs n (t ∷ ts) =
 abbrev pub GoesOn : Tok → Type 0
 GoesOn t = ends_run t.kind ≡ false
 
--- The run that has begun goes on to be too long.
+-- The run that has begun becomes too long.
 abbrev pub RunsOn : ℕ → List Tok → Type 0
 RunsOn n ts = (front rest : List Tok) × (ts ≡ front ++ rest) × AllByRecursion GoesOn front × (64 < n + operators front)
 
--- A long run behind one more token.
+-- A long run after one more token.
 longer : (t : Tok) (ts : List Tok) → HasLongRun ts → HasLongRun (t ∷ ts)
 longer t ts is = let (before, stretch, after, cut, on, long) = is in (t ∷ before, stretch, after, ap (λ v. t ∷ v) cut, on, long)
 
--- Where it finds a run too long, there is one,
+-- If it finds a run too long, there is one,
 runs_sound : (n : ℕ) (ts : List Tok) → runs n ts ≡ true → RunsOn n ts ⊎ HasLongRun ts
 runs_sound n [] e = cc
 runs_sound n (t ∷ ts) e = by_end (ends_run t.kind) refl e (runs_sound 0 ts) (runs_sound (n + one (is_operator t.kind)) ts)
@@ -108,7 +108,7 @@ runs_sound n (t ∷ ts) e = by_end (ends_run t.kind) refl e (runs_sound 0 ts) (r
     ]
     by_end false f found anew more = by_test (nat_lt 64 (n + one (is_operator t.kind))) refl f found more
 
--- and where the run that has begun goes on to be too long, it finds that,
+-- and if the run that has begun becomes too long, it finds that,
 runs_on_complete : (n : ℕ) (front rest : List Tok) → n ≤ 64 → AllByRecursion GoesOn front → 64 < n + operators front
     → runs n (front ++ rest) ≡ true
 runs_on_complete n [] rest low on long = absurd (omega arith)
@@ -125,7 +125,7 @@ runs_on_complete n (t ∷ front) rest low on long =
     by_test true f more = refl
     by_test false f more = more (grind (arith, nat_tests))
 
--- as where any stretch is.
+-- as it does for any other stretch.
 runs_complete : (n : ℕ) (before stretch after : List Tok) → n ≤ 64 → AllByRecursion GoesOn stretch → 64 < operators stretch
     → runs n (before ++ (stretch ++ after)) ≡ true
 runs_complete n [] stretch after low on long = runs_on_complete n stretch after low on (omega arith)
@@ -147,7 +147,7 @@ runs_complete n (t ∷ before) stretch after low on long =
     by_end true anew more = anew
     by_end false anew more = more
 
--- What is found is so: tokens nest too deep,
+-- What is found is true: tokens nest too deep,
 pub nests_deep : (ts : List Tok) → nests 0 0 ts ≡ true → NestsTooDeep ts
 nests_deep ts e = let (front, rest, cut, deep) = nests_sound 0 0 ts e in (front, rest, cut, omega (arith, deep))
 
@@ -158,7 +158,7 @@ runs_long ts e = elim (runs_sound 0 ts e) [
   | inr is ↦ is
 ]
 
--- What is so is found.
+-- What is true is found.
 pub deep_nests : (ts : List Tok) → NestsTooDeep ts → nests 0 0 ts ≡ true
 deep_nests ts is =
     let (front, rest, cut, deep) = is in

@@ -1,4 +1,4 @@
--- At the front of a text stands one gap or one token at most.
+-- At the front of a text there is at most one gap or token.
 use Rattle.std.proofs.Common.{◌≡◌, ℕ, ◌<◌, Bool, true, false, not, ◌&&◌, ◌||◌, List, [], ◌∷◌, ◌++◌, length, refl, sym, subst, arith, Some}
 use Rattle.std.specs.Prelude.{option_map, unwrap_or, ◌==◌}
 use Rattle.std.proofs.lemmas.Bool.Decides.{nat_tests}
@@ -67,7 +67,7 @@ pub gap_begins : (w r : List ℕ) → IsGap w r → begins is_gap_byte w ≡ tru
 gap_begins w r (blank e) = rw e refl
 gap_begins w r (comment pass stop) = refl
 
--- Where a gap stands, no token does.
+-- If there is a gap at the front, there is no token.
 pub token_no_gap : (k : Kind) (v r w s : List ℕ) → v ++ r ≡ w ++ s → IsToken k v r → IsGap w s → ⊥
 token_no_gap k v r w s e (word is stop) gap =
     apart is_word_byte is_gap_byte word_no_gap (v ++ r) (begins-append _ v r (word_begins k v is))
@@ -77,7 +77,7 @@ token_no_gap k v r w s e (sign_of is longest) gap =
     (subst (λ bs. begins is_gap_byte bs ≡ true) (sym e) (begins-append _ w s (gap_begins w s gap)))
     (begins-append _ v r (sign_begins k v is))
 
--- One gap at most stands at the front.
+-- There is at most one gap at the front.
 pub one_gap : (v r w s : List ℕ) → v ++ r ≡ w ++ s → IsGap v r → IsGap w s → v ≡ w
 one_gap v r w s e (blank p) (blank q) = cc
 one_gap v r w s e (blank {b} p) (comment pass stop) =
@@ -96,7 +96,7 @@ one_kind j k w (reserved e) (name is) = absurd (is.no_keyword j e)
 one_kind j k w (name is) (reserved f) = absurd (is.no_keyword k f)
 one_kind j k w (name is) (name also) = refl
 
--- One token at most stands at the front.
+-- There is at most one token at the front.
 pub one_token : (j k : Kind) (v r w s : List ℕ) → v ++ r ≡ w ++ s → IsToken j v r → IsToken k w s → (j ≡ k) × (v ≡ w)
 one_token j k v r w s e (word is stop) (word also end) =
     let same : v ≡ w = one_run is_word_byte v w r s (word_bytes j v is) (word_bytes k w also) stop end e in

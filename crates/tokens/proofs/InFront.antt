@@ -13,7 +13,7 @@ use Rattle.tokens.proofs.Fronts.{begins, begins-append, is_gap_byte, is_sign_byt
 use Rattle.tokens.proofs.Fronts.{word_no_sign}
 
 module _ (bs : List ℕ) where
-  -- The longest run of word bytes, where it is a word, is a token.
+  -- The longest run of word bytes, if it is a word, is a token.
   pub word_in_front : (k : Kind) (n : ℕ) → n ≡ prefix_len is_word_byte bs → IsWord k (take n bs)
       → (n ≤ length bs) × IsToken k (take n bs) (drop n bs)
   word_in_front k n e is =
@@ -24,7 +24,7 @@ first_begins : (test : ℕ → Bool) (bs : List ℕ) → 0 < length bs → test 
 first_begins test [] some e = absurd (omega arith)
 first_begins test (b ∷ bs) some e = e
 
--- Where the longest run of word bytes is no word, nothing of the language stands.
+-- If the longest run of word bytes is not a word, nothing of the language begins there.
 pub bad_word : (bs : List ℕ) (n : ℕ) → 0 < length bs → is_word_byte (get_or bs 0 0) ≡ true → n ≡ prefix_len is_word_byte bs
     → ((k : Kind) → IsWord k (take n bs) → ⊥) → IsBad bs
 bad_word bs n some first e never =

@@ -24,7 +24,7 @@ never_both at place bs ts (past_token k text rest e is bad) cut =
     let (others, join, left) = past_the_token at bs k text rest ts e is cut in
     never_both (at + length text) place rest others bad left
 
--- What is bad behind a gap,
+-- What is bad after a gap,
 bad_past_gap : (at place : ℕ) (bs text rest : List ℕ) → bs ≡ text ++ rest → IsGap text rest → BadAt at bs place
     → BadAt (at + length text) rest place
 bad_past_gap at place bs text rest e is (here bad) = absurd (bad.no_gap text rest e is)
@@ -35,7 +35,7 @@ bad_past_gap at place bs text rest e is (past_gap other left f also bad) =
 bad_past_gap at place bs text rest e is (past_token k other left f also bad) =
     absurd (token_no_gap k other left text rest (sym f ∙ e) also is)
 
--- and behind a token.
+-- and after a token.
 bad_past_token : (at place : ℕ) (bs : List ℕ) (k : Kind) (text rest : List ℕ) → bs ≡ text ++ rest → IsToken k text rest → BadAt at bs place
     → BadAt (at + length text) rest place
 bad_past_token at place bs k text rest e is (here bad) = absurd (bad.no_token k text rest e is)

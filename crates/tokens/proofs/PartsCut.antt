@@ -63,7 +63,7 @@ long_ok_all _ = refl
 at_sign : (test : Kind → List ℕ → Bool) (k : Kind) (w : List ℕ) → of_sign test k ≡ true → sign k ≡ Some w → test k w ≡ true
 at_sign test k w all e = rw e at all
 
--- Behind a sign's first byte no word stands.
+-- After a sign's first byte no word begins.
 sign_stops : (v rest : List ℕ) → begins is_sign_byte v ≡ true → Stops is_word_byte (v ++ rest)
 sign_stops [] rest e = cc
 sign_stops (b ∷ v) rest e = by_test (is_word_byte b) (not (is_gap_byte b)) e
@@ -214,14 +214,14 @@ fixed_spelled kind.Not other = inr refl
 fixed_spelled kind.Id other = absurd (other refl)
 fixed_spelled _ other = inl (reserved refl)
 
--- Parts behind parts make a text behind a text,
+-- Parts appended to parts make a text appended to a text,
 pub text_of-append : (parts more : List Part) → text_of (parts ++ more) ≡ text_of parts ++ text_of more
 text_of-append [] more = refl
 text_of-append (space ∷ parts) more = ap (λ v. 32 ∷ v) (text_of-append parts more)
 text_of-append (line ∷ parts) more = ap (λ v. 10 ∷ v) (text_of-append parts more)
 text_of-append (shown k w ∷ parts) more = ap (λ v. w ++ v) (text_of-append parts more) ∙ sym (append_assoc w (text_of parts) (text_of more))
 
--- and tokens behind tokens.
+-- and tokens appended to tokens.
 pub tokens_of-append : (at : ℕ) (parts more : List Part)
     → tokens_of at (parts ++ more) ≡ tokens_of at parts ++ tokens_of (at + length (text_of parts)) more
 tokens_of-append at [] more = ap (λ n. tokens_of n more) (sym (add-zero at))

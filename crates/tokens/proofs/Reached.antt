@@ -15,7 +15,7 @@ use Rattle.tokens.proofs.Runs.{from_start}
 use Rattle.tokens.specs.Cuts.{IsGap, IsToken, Cuts, nothing, gap, token, IsBad, BadAt, past_gap, past_token}
 use Rattle.tokens.proofs.Fronts.{gap_some, token_some, token_no_gap, one_gap, one_token, token_long}
 
--- The tokens so far and those of the rest are those of the whole, whichever they are, and where the rest is bad the
+-- The tokens so far and those of the rest are those of the whole, whichever they are, and if the rest is bad the
 -- whole is.
 pub record Reached (text : List ℕ) (so_far : List Tok) (at : ℕ) (rest : List ℕ) : Type 0 where
   pub within : at + length rest ≡ length text
@@ -33,7 +33,7 @@ start text ascii = record {
   bad = λ place is. is;
 }
 
--- What is cut behind a gap.
+-- What is cut after a gap.
 pub past_the_gap : (at : ℕ) (bs text rest : List ℕ) (tokens : List Tok) → bs ≡ text ++ rest → IsGap text rest → Cuts at bs tokens
     → Cuts (at + length text) rest tokens
 past_the_gap at bs text rest tokens e is nothing = absurd (gap_some text rest e is)
@@ -43,7 +43,7 @@ past_the_gap at bs text rest tokens e is (gap other left f also cut) =
     subst (λ v. Cuts (at + length v) rest tokens) (sym same) (subst (λ v. Cuts (at + length other) v tokens) (sym ends) cut)
 past_the_gap at bs text rest tokens e is (token k other left f also cut) = absurd (token_no_gap k other left text rest (sym f ∙ e) also is)
 
--- What is cut behind a token.
+-- What is cut after a token.
 pub past_the_token : (at : ℕ) (bs : List ℕ) (k : Kind) (text rest : List ℕ) (tokens : List Tok) → bs ≡ text ++ rest → IsToken k text rest
     → Cuts at bs tokens
     → (others : List Tok) × (tokens ≡ record { kind = k; at = at; text = text } ∷ others) × Cuts (at + length text) rest others
@@ -119,7 +119,7 @@ pub only_cut : (text : List ℕ) (so_far : List Tok) (at : ℕ) → Reached text
 only_cut text so_far at r others cut =
     let (left, join, none) = r.parts others cut in join ∙ ap (λ ts. so_far ++ ts) (nothing_left at left none) ∙ append-nil so_far
 
--- Where the rest is bad, the whole is not cut.
+-- If the rest is bad, the whole is not cut.
 pub never_cut : (text : List ℕ) (so_far : List Tok) (at : ℕ) (bs : List ℕ) → Reached text so_far at bs → IsBad bs → (others : List Tok)
     → Cuts 0 text others → ⊥
 never_cut text so_far at bs r is others cut = let (left, join, rest) = r.parts others cut in uncut at bs left is rest
@@ -151,7 +151,7 @@ over_token text so_far at bs k n front rest r is e f =
     (subst (λ v. Reached text (so_far ++ record { kind = k; at = at; text = take n bs } ∷ []) (length text - length v) v) (sym f)
     (subst (λ m. Reached text (so_far ++ record { kind = k; at = at; text = take n bs } ∷ []) m (drop n bs)) place next))
 
--- The token pushed, and the text behind it left.
+-- The token pushed, and the text after it left.
 pub pushed : (text : List ℕ) (items after : List Token) (t : Token) (bs : List ℕ) (n : ℕ) (rest : List ℕ)
     → Reached text (toks_of items) t.at bs → IsToken t.kind (take n bs) (drop n bs) → t.text.now ≡ slice_range bs 0 n → rest ≡ drop n bs
     → after ≡ items ++ t ∷ [] → Reached text (toks_of after) (length text - length rest) rest

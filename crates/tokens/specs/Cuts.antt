@@ -13,17 +13,17 @@ is_blank b = b == 32 || b == 9 || b == 10 || b == 13
 abbrev pub is_in_line : ℕ → Bool
 is_in_line b = not (b == 10)
 
--- The test does not hold of the byte that comes next, if one does.
+-- The test does not hold for the byte that comes next, if one does.
 abbrev pub Stops : (ℕ → Bool) → List ℕ → Type 0
 Stops test [] = Unit {0}
 Stops test (b ∷ bytes) = test b ≡ false
 
--- Between tokens stand blanks, and comments from // to the next line feed or the end of the text.
+-- Between tokens are blanks, and comments from // to the next line feed or the end of the text.
 pub data IsGap : List ℕ → List ℕ → Type 0 where
   blank : {b : ℕ} {rest : List ℕ} → is_blank b ≡ true → IsGap (b ∷ []) rest
   comment : {line rest : List ℕ} → AllByRecursion (λ b. is_in_line b ≡ true) line → Stops is_in_line rest → IsGap (47 ∷ 47 ∷ line) rest
 
--- No sign that stands at the front of these bytes is longer than this one.
+-- No sign at the front of these bytes is longer than this one.
 abbrev pub IsLongestSign : List ℕ → List ℕ → Type 0
 IsLongestSign spelled bytes = (k : Kind) (other rest : List ℕ) → sign k ≡ Some other → bytes ≡ other ++ rest → length other ≤ length spelled
 
@@ -41,7 +41,7 @@ pub data Cuts : ℕ → List ℕ → List Tok → Type 0 where
   token : {at : ℕ} {bytes : List ℕ} {tokens : List Tok} (k : Kind) (text rest : List ℕ) → bytes ≡ text ++ rest → IsToken k text rest
       → Cuts (at + length text) rest tokens → Cuts at bytes (record { kind = k; at = at; text = text } ∷ tokens)
 
--- Neither a gap nor a token stands at the front of these bytes, and there are some.
+-- There are bytes, and neither a gap nor a token is at their front.
 pub record IsBad (bytes : List ℕ) : Type 0 where
   pub some : 0 < length bytes
   pub no_gap : (text rest : List ℕ) → bytes ≡ text ++ rest → IsGap text rest → ⊥

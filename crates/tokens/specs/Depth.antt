@@ -66,6 +66,6 @@ HasLongRun tokens =
     (before stretch after : List Tok) × (tokens ≡ before ++ (stretch ++ after)) × AllByRecursion (λ t. ends_run t.kind ≡ false) stretch
     × (64 < operators stretch)
 
--- A text is too deep where its tokens nest too deep or have too long a run.
+-- A text is too deep if its tokens nest too deep or have too long a run.
 abbrev pub TooDeep : List Tok → Type 0
 TooDeep tokens = NestsTooDeep tokens ⊎ HasLongRun tokens

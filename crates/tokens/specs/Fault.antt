@@ -5,7 +5,7 @@ use Rattle.tokens.specs.declared.cutting.CutFault.TheVariants.{Memory, Syntax}
 use Rattle.tokens.specs.Token.{Tok}
 use Rattle.tokens.specs.Cuts.{Cuts, BadAt}
 
--- A syntax fault names the place where the first bytes stand that begin neither a gap nor a token.
+-- A syntax fault names the place of the first bytes that begin neither a gap nor a token.
 abbrev pub NamesPlace : CutFault → List ℕ → Type 0
 NamesPlace Memory text = Unit {0}
 NamesPlace (Syntax at) text = BadAt 0 text at

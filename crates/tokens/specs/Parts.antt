@@ -33,7 +33,7 @@ tokens_of at (shown k text ∷ parts) = record { kind = k; at = at; text = text 
 tokens_of at (space ∷ parts) = tokens_of (at + 1) parts
 tokens_of at (line ∷ parts) = tokens_of (at + 1) parts
 
--- The signs are no words.
+-- The signs are not words.
 abbrev pub is_word : Kind → Bool
 is_word kind.Comma = false
 is_word kind.Semicolon = false
@@ -51,7 +51,7 @@ is_word kind.Differs = false
 is_word kind.Not = false
 is_word _ = true
 
--- : and ! grow longer where = comes next.
+-- : and ! grow longer if = comes next.
 abbrev pub may_grow : Kind → Bool
 may_grow kind.Colon = true
 may_grow kind.Not = true
@@ -63,7 +63,7 @@ begins_equal kind.Equal = true
 begins_equal kind.Implies = true
 begins_equal _ = false
 
--- Two neighbours would be cut otherwise where both are words, or where the second makes the first a longer sign.
+-- Two neighbours would be cut differently if both are words, or if the second makes the first a longer sign.
 abbrev pub joins : Kind → Kind → Bool
 joins k next = is_word k && is_word next || may_grow k && begins_equal next
 

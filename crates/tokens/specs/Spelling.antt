@@ -49,7 +49,7 @@ sign _ = None
 abbrev pub is_word_byte : ℕ → Bool
 is_word_byte b = is_ascii_alphanumeric b || b == 95
 
--- A list is made of word bytes where each of its bytes is one.
+-- A list is made of word bytes if each of its bytes is one.
 abbrev pub AreWordBytes : List ℕ → Type 0
 AreWordBytes bytes = AllByRecursion (λ b. is_word_byte b ≡ true) bytes
 
@@ -58,7 +58,7 @@ abbrev pub BeginsName : List ℕ → Type 0
 BeginsName [] = ⊥
 BeginsName (b ∷ bytes) = is_ascii_digit b ≡ false
 
--- A name is made of word bytes, begins with no digit, and is no keyword.
+-- A name is made of word bytes, begins with no digit, and is not a keyword.
 pub record IsNameWord (word : List ℕ) : Type 0 where
   pub begins : BeginsName word
   pub bytes : AreWordBytes word

@@ -19,7 +19,7 @@ pub enum CutFault {
     /// No memory was left.
     #[error("out of memory")]
     Memory,
-    /// The text is no list of tokens: neither a gap nor a token begins at this offset.
+    /// The text is not a list of tokens: neither a gap nor a token begins at this offset.
     #[error("syntax at {0}")]
     Syntax(u32),
 }

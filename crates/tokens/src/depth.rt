@@ -1,4 +1,4 @@
-//! How deep tokens nest, and how many operators stand in one run.
+//! How deep tokens nest, and how many operators one run has.
 
 ghost use Rattle.std.specs.Prelude.{◌≡◌, ◌↔◌, IsTrue};
 ghost use Rattle.tokens.specs.Depth.{opens, closes, ends_run, NestsTooDeep, HasLongRun, TooDeep};
@@ -68,7 +68,7 @@ fn has_long_run(tokens: &[Token]) -> bool
 }
 
 /// Whether the tokens nest too deep for the reader: after some token more than 64 more of `(`, `begin`, `if` and
-/// `while` have come than of `)`, `end`, `fi` and `od`, or more than 64 operators stand in one stretch that has no
+/// `while` have come than of `)`, `end`, `fi` and `od`, or more than 64 operators are in one stretch that has no
 /// keyword, `,`, `;` or `:=`.
 pub fn is_too_deep(tokens: &[Token]) -> bool
     ensures { IsTrue result ↔ TooDeep (toks_of tokens.now) }

@@ -1,4 +1,4 @@
-//! What stands at the front of a text: a gap, a token, or neither.
+//! What is at the front of a text: a gap, a token, or neither.
 
 ghost use Rattle.std.specs.Prelude.{◌≡◌, ◌<◌, length};
 ghost use Rattle.std.specs.List.{prefix_len};
@@ -33,14 +33,14 @@ fn is_blank(byte: u8) -> bool
     matches!(byte, b' ' | b'\t' | b'\n' | b'\r')
 }
 
-// How many word bytes stand at the front.
+// How many word bytes there are at the front.
 fn word_len(bytes: &[u8]) -> usize
     ensures { result ≡ prefix_len is_word_byte bytes.now }
 {
     bytes.iter().take_while(|b| is_word_byte(**b)).count()
 }
 
-// How many bytes stand before the first line feed, or in all.
+// How many bytes come before the first line feed, or in all.
 fn line_len(bytes: &[u8]) -> usize
     ensures { result ≡ prefix_len is_in_line bytes.now }
 {

@@ -1,4 +1,4 @@
-//! Kinds of tokens, and tokens that borrow the text they stand in.
+//! Kinds of tokens, and tokens that borrow the text they are in.
 
 ghost use Rattle.std.specs.Prelude.{◌≡◌, ◌↔◌, IsTrue};
 ghost use Rattle.tokens.specs.Token.{same_kind, is_operator};
@@ -66,7 +66,7 @@ pub enum Kind {
     Differs,
     /// `!`
     Not,
-    /// A name: a word that begins with a letter or an underscore and is no keyword.
+    /// A name: a word that begins with a letter or an underscore and is not a keyword.
     Id,
     /// `0`
     Zero,

@@ -17,7 +17,7 @@ module _ {X : Type 0} (name : X → Name) (names : List X → List Name) (each :
       ap (λ (xs : List X). number_of text (names xs)) step ∙ ap (number_of text) (each x (drop (i + 1) l)) ∙ rw other refl in
       omega (arith, h, one)
 
-  -- behind the last, all are counted
+  -- after the last, all are counted
   pub all_counted : (text : List ℕ) (l : List X) (i before all : ℕ) → length l ≤ i → before + number_of text (names (drop i l)) ≡ all
       → before ≡ all
   all_counted text l i before all le h =

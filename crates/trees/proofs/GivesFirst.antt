@@ -27,7 +27,7 @@ put m (simple s) k = either_alone (gives (plain s)) (gives_value k)
 put m (branch r a b) k = either_two (gives_value a) (gives_value b) (gives_value k)
 put m (repeat r a) k = either_one (gives_value a) (gives_value k)
 
--- a list gives a value where its first statement does, or the others do
+-- a list gives a value if its first statement does, or the others do
 first_gives : {A : Type 0} (s : Stmt A) (l : List (Stmt A))
     → gives_value (block_of (s ∷ l)) ≡ gives_inside (deed_of s.core) || gives_value (block_of l)
 first_gives s l = put (item_of s).mark (item_of s).deed (block_of l) ∙ ap (λ d. gives_inside d || gives_value (block_of l)) (item_deed s)
@@ -44,12 +44,12 @@ module _ {A : Type 0} (l : List (Stmt A)) (i : ℕ) where
       → gives_value (block_of (drop i l)) ≡ all → gives_value (block_of (drop (i + 1) l)) ≡ all
   gives_on s all lt is none h = ap (λ b. b || gives_value (block_of (drop (i + 1) l))) (sym none) ∙ (sym (here s lt is) ∙ h)
 
-  -- where one gives a value, all do
+  -- if one gives a value, all do
   pub gives_here : (s : Stmt A) (all : Bool) → i < length l → s ≡ get_or l i s → gives_inside (deed_of s.core) ≡ true
       → gives_value (block_of (drop i l)) ≡ all → true ≡ all
   gives_here s all lt is one h = ap (λ b. b || gives_value (block_of (drop (i + 1) l))) (sym one) ∙ (sym (here s lt is) ∙ h)
 
-  -- behind the last none gives a value
+  -- after the last none gives a value
   pub gives_no_more : (all : Bool) → length l ≤ i → gives_value (block_of (drop i l)) ≡ all → false ≡ all
   gives_no_more all le h = sym (ap (λ z. gives_value (block_of z)) (drop_all i l le)) ∙ h
 

@@ -7,7 +7,7 @@ use Rattle.trees.specs.Trees.{Deed, simple, branch, repeat, item_of, deed_of, bl
 use Rattle.trees.specs.Parts.{first_inside, second_inside}
 use Rattle.trees.proofs.Folds.{item_deed}
 
--- how many statements stand inside of what a statement does
+-- how many statements are inside of what a statement does
 abbrev pub held : Deed → ℕ
 held d = statements (first_inside d) + statements (second_inside d)
 

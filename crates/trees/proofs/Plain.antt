@@ -1,4 +1,4 @@
--- A statement that is no `if` and no `while` holds no others.
+-- A statement that is neither an `if` nor a `while` holds no others.
 use Rattle.std.proofs.Common.{◌≡◌, sym, ◌∙◌, ap}
 use Rattle.std.specs.declared.vec.Vec.{Vec}
 use Rattle.language.specs.Tree as tree

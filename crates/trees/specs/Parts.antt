@@ -28,7 +28,7 @@ abbrev pub assigned_by : {V P L : Type 0} → Head V P L → List V
 assigned_by (plain (assign xs rs)) = xs
 assigned_by _ = []
 
--- the variable that gets the value of a call, where the statement calls for one
+-- the variable that gets the value of a call, if the statement calls for one
 abbrev pub receiver_of : {V P L : Type 0} → Head V P L → Option V
 receiver_of (plain (call_for x callee es)) = Some x
 receiver_of _ = None
@@ -39,7 +39,7 @@ passed_by (plain (call callee es)) = es
 passed_by (plain (call_for x callee es)) = es
 passed_by _ = []
 
--- the value that the statement returns, where it returns one
+-- the value that the statement returns, if it returns one
 abbrev pub given_by : {V P L : Type 0} → Head V P L → Option (Expression V)
 given_by (plain (leave_with expression)) = Some expression
 given_by _ = None

@@ -105,7 +105,7 @@ core_step (core.Call callee es) = simple (call (name_of callee) (exprs_of es.ite
 core_step (core.CallTo x callee es) = simple (call_for (name_of x) (name_of callee) (exprs_of es.items))
 core_step (core.Give expression) = simple (leave_with (expr_of expression))
 
--- one level of a statement: its mark has its label, where it has one, and its offset
+-- one level of a statement: its mark has its label, if it has one, and its offset
 abbrev pub stmt_step : {A : Type 0} → Stmt-F A Deed Item → Item
 stmt_step statement = record { mark = record { label = option_map name_of statement.label; at = statement.at }; deed = statement.core }
 

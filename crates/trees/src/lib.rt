@@ -1,4 +1,4 @@
-//! The trees of programs: what a text is read into, and what is rewritten and drawn.
+//! The trees of programs: what a text is read into, what is rewritten, and what flow graphs are drawn from.
 #![tactic(auto)]
 
 mod names;

@@ -9,7 +9,7 @@ ghost use Rattle.trees.specs.Trees.{names_of, procs_of, item_of};
 use crate::tree::{Name, Proc, Stmt};
 use std::alloc::Allocator;
 
-/// How many of the names come before the first with this text: all of them, where none has it.
+/// How many of the names come before the first with this text: all of them, if none has it.
 pub fn number_of_name<N: Allocator>(names: &[Name<N>], text: &str) -> usize
     ensures { result ≡ number_of text.now (names_of names.now) }
 {
@@ -35,7 +35,7 @@ pub fn declares<N: Allocator>(names: &[Name<N>], text: &str) -> bool
     false
 }
 
-/// How many of the procedures come before the first with this name: all of them, where none has it.
+/// How many of the procedures come before the first with this name: all of them, if none has it.
 pub fn number_of_procedure<N: Allocator>(procs: &[Proc<N>], text: &str) -> usize
     ensures { result ≡ number_of text.now (map (λ (p : Procedure). p.name) (procs_of procs.now)) }
 {

@@ -32,7 +32,7 @@ impl<A: Allocator> Core<A> {
         }
     }
 
-    /// The variable that gets the value of a call, where it calls for one.
+    /// The variable that gets the value of a call, if it calls for one.
     pub fn receiver(&self) -> Option<&Name<A>>
         ensures { option_map (λ r. name_of r.now) result
             ≡ receiver_of (head_of (deed_of self.now)) }
@@ -53,7 +53,7 @@ impl<A: Allocator> Core<A> {
         }
     }
 
-    /// The right side that it tests, where it tests one.
+    /// The right side that it tests, if it tests one.
     pub fn test(&self) -> Option<&Rhs<A>>
         ensures { option_map (λ r. rhs_of r.now) result ≡ test_of (head_of (deed_of self.now)) }
     {
@@ -77,7 +77,7 @@ impl<A: Allocator> Core<A> {
         }
     }
 
-    /// The value that it returns, where it returns one.
+    /// The value that it returns, if it returns one.
     pub fn given(&self) -> Option<&Expr<A>>
         ensures { option_map (λ r. expr_of r.now) result ≡ given_by (head_of (deed_of self.now)) }
     {
@@ -97,7 +97,7 @@ impl<A: Allocator> Core<A> {
         }
     }
 
-    /// The procedure that it calls, where it calls one.
+    /// The procedure that it calls, if it calls one.
     pub fn callee(&self) -> Option<&Name<A>>
         ensures { option_map (λ r. name_of r.now) result ≡ callee_of (head_of (deed_of self.now)) }
     {
@@ -108,7 +108,7 @@ impl<A: Allocator> Core<A> {
         }
     }
 
-    /// The label that it jumps to, where it jumps.
+    /// The label that it jumps to, if it jumps.
     pub fn jump(&self) -> Option<&Name<A>>
         ensures { option_map (λ r. name_of r.now) result ≡ jump_of (head_of (deed_of self.now)) }
     {
@@ -119,7 +119,7 @@ impl<A: Allocator> Core<A> {
     }
 
     /// The two lists of statements that it holds, in the order of the text: the branches of an `if`, or the body of a
-    /// `while` and an empty one; both are empty where it holds none.
+    /// `while` and an empty one; both are empty if it holds none.
     pub fn inside(&self) -> (&[Stmt<A>], &[Stmt<A>])
         ensures first { block_of result.0.now ≡ first_inside (deed_of self.now) }
         ensures second { block_of result.1.now ≡ second_inside (deed_of self.now) }
@@ -132,7 +132,7 @@ impl<A: Allocator> Core<A> {
     }
 }
 
-/// Whether some of the statements returns a value, those that they hold included.
+/// Whether some of the statements returns a value, including those that they hold.
 #[cycle(giving)]
 pub fn give_value<A: Allocator>(stmts: &[Stmt<A>]) -> bool
     ensures { result ≡ gives_value (block_of stmts.now) }

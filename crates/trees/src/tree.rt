@@ -36,7 +36,7 @@ pub struct Proc<A: Allocator> {
     pub body: Vec<Stmt<A>, A>,
 }
 
-/// A statement. `at` is the offset of its label, where it has one, and else of its first byte.
+/// A statement. `at` is the offset of its label, if it has one, and otherwise of its first byte.
 #[cycle(tree)]
 #[derive(Debug, Drop)]
 pub struct Stmt<A: Allocator> {

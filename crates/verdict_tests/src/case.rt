@@ -26,7 +26,7 @@ pub fn answered<R: Print + AllocGlobal + Wait + Threads + Sync>(
     }
 }
 
-/// Prints the answer to words, with how they are to be asked in front, and a text.
+/// Prints the answer to words, preceded by how they are asked, and a text.
 fn to_text<R: Print + AllocGlobal + Wait + Threads + Sync>(
     rt: &R,
     words: &str,

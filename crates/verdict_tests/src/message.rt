@@ -1,4 +1,4 @@
-//! What standard error tells of a refusal.
+//! What standard error says about a refusal.
 
 use crate::case::print_reply;
 use crate::refused::answer_without;
@@ -53,7 +53,7 @@ fn print_message<R: Print + AllocGlobal>(
     }
 }
 
-/// Prints the reply to a text and what standard error tells of it.
+/// Prints the reply to a text and what standard error says about it.
 pub fn print_told<R: Print + AllocGlobal + Wait + Threads + Sync>(
     rt: &R,
     file: &str,
@@ -68,7 +68,7 @@ pub fn print_told<R: Print + AllocGlobal + Wait + Threads + Sync>(
     }
 }
 
-/// Prints the same where the first allocation of the answer is refused.
+/// Prints the same if the first allocation of the answer is refused.
 pub fn print_told_without<R: Print + AllocGlobal + Wait + Threads + Sync>(
     rt: &R,
     file: &str,

@@ -19,15 +19,15 @@ const ALL: u64 = 100_000;
 /// Which allocations are refused.
 #[derive(Clone, Copy)]
 pub struct Sweep {
-    /// One in each run, and in the last run the one of this number at most.
+    /// One in each run, and in the last run the one with this number at most.
     most: u64,
-    /// In each run all behind that one as well.
+    /// In each run all after that one as well.
     and_behind: bool,
     /// Over each pair of board and set, and not over those of the program alone.
     all_pairs: bool,
 }
 
-/// The sweep that words name: `all pairs, from each`, or how many allocations are refused.
+/// The sweep that the words name: `all pairs, from each`, or how many allocations are refused.
 pub fn sweep_of(words: &str) -> Sweep {
     let (all_pairs, words) = match words.strip_prefix("all pairs, ") {
         Some(words) => (true, words),
@@ -63,7 +63,7 @@ impl<R: Wait> Wait for Refusing<'_, R> {}
 
 impl<R: Threads> Threads for Refusing<'_, R> {}
 
-/// The answer to a text where the memory is scarce.
+/// The answer to a text if the memory is scarce.
 pub fn answer_without<'a, R: Wait + Threads + Sync>(
     rt: &'a R,
     scarce: &'a Scarce<Global>,
@@ -101,18 +101,18 @@ fn answer_over<'a, R: Wait + Threads + Sync>(
     }
 }
 
-/// What came of one run.
+/// The result of one run.
 #[derive(Clone, Copy, Debug, PartialEq, Eq)]
 enum Came {
     /// No allocation was refused, and the reply is the one without refusal.
     Whole,
-    /// That reply, or the one for want of memory.
+    /// That reply, or the one for lack of memory.
     Either,
     /// Another reply.
     Other,
 }
 
-/// What comes over a pair of board and set where the memory is scarce.
+/// What comes over a pair of board and set if the memory is scarce.
 fn came_of<R: Wait + Threads + Sync>(
     rt: &R,
     scarce: &Scarce<Global>,
@@ -132,8 +132,8 @@ fn came_of<R: Wait + Threads + Sync>(
     }
 }
 
-/// Whether over a pair of board and set each run of the sweep comes to the whole reply or to want of memory, until none
-/// is refused.
+/// Whether over a pair of board and set each run of the sweep comes to the whole reply or to lack of memory, until
+/// none is refused.
 fn is_well<R: AllocGlobal + Wait + Threads + Sync>(
     rt: &R,
     sweep: Sweep,
@@ -156,7 +156,7 @@ fn is_well<R: AllocGlobal + Wait + Threads + Sync>(
     sweep.most != ALL
 }
 
-/// Prints the reply without refusal, where each run of the sweep leaves it or leads to `no verdict: memory`.
+/// Prints the reply without refusal, if each run of the sweep leaves it or leads to `no verdict: memory`.
 pub fn in_turn<R: Print + AllocGlobal + Wait + Threads + Sync>(
     rt: &R,
     sweep: Sweep,
@@ -173,7 +173,7 @@ pub fn in_turn<R: Print + AllocGlobal + Wait + Threads + Sync>(
     print_reply(rt, &reply)
 }
 
-/// Prints the reply, where it is the same over each pair of board and set.
+/// Prints the reply, if it is the same over each pair of board and set.
 pub fn over_pairs<R: Print + AllocGlobal + Wait + Threads + Sync>(
     rt: &R,
     text: &[u8],

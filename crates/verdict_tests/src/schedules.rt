@@ -15,10 +15,10 @@ use switchboard::OneLock;
 /// How often the answer is asked for as it comes.
 const TIMES: u8 = 100;
 
-/// How many workers are kept back, one after the other.
+/// How many workers are held back, one after the other.
 const LANES: u8 = 8;
 
-/// Keeps the worker of one lane back at each of its takes and posts.
+/// Holds the worker of one lane back at each of its takes and posts.
 #[derive(Drop)]
 struct Late {
     lane: u8,
@@ -44,7 +44,7 @@ impl Gate for Late {
     }
 }
 
-/// The answer where the worker of a lane is kept back.
+/// The answer if the worker of a lane is held back.
 fn answer_late<R: AllocGlobal + Wait + Threads + Sync>(
     rt: &R,
     text: &[u8],
@@ -63,7 +63,7 @@ fn same(one: &Reply<Global>, other: &Reply<Global>) -> bool {
     one.status == other.status && one.bytes.as_slice() == other.bytes.as_slice()
 }
 
-/// Prints the reply, where it is the same on every run, and with each worker in turn kept back.
+/// Prints the reply, if it is the same on every run, and with each worker held back in turn.
 pub fn schedules<R: Print + AllocGlobal + Wait + Threads + Sync>(
     rt: &R,
     text: &[u8],

@@ -5,7 +5,7 @@ use cli::{LineFault, Order, order};
 use std::alloc::Global;
 use std::io;
 
-/// The order and the file of a line of words behind the program's name, or why there are none.
+/// The order and the file of a line of words after the program's name, or why there are none.
 pub fn asked(alloc: Global, line: &str) -> Result<(Order, String), LineFault> {
     match words_behind(alloc, "bebopk", line) {
         Ok(words) => order(alloc, words.as_slice()),

@@ -1,4 +1,4 @@
--- What stands in a pass's own list, and what may come behind a state of the board.
+-- What is in a pass's own list, and what may come after a state of the board.
 use Rattle.std.proofs.Common.{◌≡◌, inl, inr, ℕ, ◌<◌, List, [], ◌∷◌, length, Contains, refl, sym, ap, ◌∙◌, subst}
 use Rattle.std.proofs.lemmas.Bool.{cases_eq}
 use Rattle.post_ledger.specs.declared.event.Event.{Event}
@@ -31,7 +31,7 @@ module _ {M X : Type 0} (f : List (Event M) → X) (posts : (s : ℕ) (m : M) (h
         (was ∙ sym (ap (λ l. f (part p l)) (own_else p e es other)))
   ]
 
-  -- stands in the own list of the mailbox's pass
+  -- is in the own list of the mailbox's pass
   kept_own : (p : ℕ) (order : List (Entry M)) → f (part p order) ≡ f (part p (own p order))
   kept_own p [] = refl
   kept_own p (entry.Posted to s m t ∷ es) = no_post p to s m t es ∙ (kept_own p es ∙ elim (cases_eq s p) [
@@ -42,7 +42,7 @@ module _ {M X : Type 0} (f : List (Event M) → X) (posts : (s : ℕ) (m : M) (h
   kept_own p (entry.Completed of t ∷ es) = own_event p (entry.Completed of t) es refl (kept_own p es)
 
 module _ {M : Type 0} where
-  -- the Takes and the Dones of a mailbox stand in its pass's own list
+  -- the Takes and the Dones of a mailbox are in its pass's own list
   pub takes_own : (p : ℕ) (order : List (Entry M)) → takes (part p order) ≡ takes (part p (own p order))
   takes_own = kept_own takes (λ s m h. refl) next
     where
@@ -59,7 +59,7 @@ module _ {M : Type 0} where
       next (event.Take s m) h k same = same
       next (event.Done t) h k same = ap (λ l. t ∷ l) same
 
-  -- a job stays one where the own list stays
+  -- a job stays a job if the own list stays
   pub job_stays : (p job : ℕ) (a b : List (Entry M)) → own p a ≡ own p b → HasJob p job a → HasJob p job b
   job_stays p job a b same has = (
     subst (λ l. job < length l) (takes_own p a ∙ (ap (λ l. takes (part p l)) same ∙ sym (takes_own p b))) has.0,
@@ -73,7 +73,7 @@ module _ {M W : Type 0} (fits : W → ℕ → M → Type 0) where
   Fit w (entry.Taken of s m) = Unit {0}
   Fit w (entry.Completed of t) = Unit {0}
 
-  -- what an entry needs that it may come after a state
+  -- what an entry needs to come after a state
   pub record Allowed (e : Entry M) (x : BoardState M W) : Type 0 where
     pub near : mailbox_of e < x.boxes
     pub follows : MayFollow (part (mailbox_of e) x.order) (event_of e)

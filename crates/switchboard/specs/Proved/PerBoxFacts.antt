@@ -88,12 +88,12 @@ module _ {M : Type 0} where
         (λ q h. let z = sizes_of (part q order) (law.legal q) in omega (arith, dones_few (part q order) z, z.fewer)),
   )
 
-  -- the order is closed where no post is outstanding
+  -- the order is closed if no post is outstanding
   pub closed_at_zero : (boxes : ℕ) (order : List (Entry M)) (low more : ℕ) → IsLawful boxes order
       → low + completed order ≡ posted order + more → low ≡ 0 → IsClosed order
   closed_at_zero boxes order low more law count none = (counted_closed boxes order law).0 (omega (arith, fewer_dones boxes order law))
 
-  -- the order, the first abort and the low bits go on
+  -- the order, the first abort and the low bits continue
   pub record BoardGrows (order order' : List (Entry M)) (first first' : Option Abort) (low low' : ℕ) : Type 0 where
     pub begins : StartsWith order' order
     pub aborted : (a : Abort) → first ≡ Some a → first' ≡ Some a
@@ -113,7 +113,7 @@ module _ {M W : Type 0} where
       close = λ k. let c = s.close k in let d = on.still c.0 in (d.0, c.1 ∙ sym d.1);
     }
 
-    -- what was seen is sound where its order is one that is
+    -- what was seen is sound if its order is one that is
     pub sound_with : (order : List (Entry M)) (first : Option Abort) (x y : Seen M) → IsSound fits (state_of g x) → x.order ≡ y.order
         → ((a : Abort) → y.aborted ≡ Some a → a.by < g.boxes) → IsSound fits (state_of g y)
     sound_with order first x y s same by = record {
@@ -140,14 +140,14 @@ module _ {M W : Type 0} where
     }
 
     module _ (s : Boxes M W) (r : Rule fits g s) (id : ℕ) (v : View M W) (is_at : get_elem? s.views id ≡ some v) where
-      -- a pass of another seat is none of this one's
+      -- a pass of another seat is not one of this one's
       pub not_mine : (j k : ℕ) (u : View M W) (o : Own M) → j ≢ id → get_elem? s.views j ≡ some u → get_elem? u.lanes k ≡ some o
           → times o.number (numbers v) ≡ 0
       not_mine j k u o ne at_u at_o =
           let two = total_two (λ (w : View M W). times o.number (numbers w)) s.views id j v u (λ e. ne (sym e)) is_at at_u in
           omega (arith, r.once o.number, number_in u.lanes k o at_o)
 
-      -- what the seat sees is news, where it is so of the state after the step
+      -- what the seat sees is news, if this holds for the state after the step
       pub news_is : (order' : List (Entry M)) (first' : Option Abort) (low' more : ℕ) (x : Seen M) → IsLawful g.boxes order'
           → low' + completed order' ≡ posted order' + more → Saw fits g order' first' low' x
           → StartsWith x.order v.seen.order → ((a : Abort) → v.seen.aborted ≡ Some a → x.aborted ≡ Some a)
@@ -217,7 +217,7 @@ module _ {M W : Type 0} where
         maker = maker;
       }
 
-      -- the other locks stand where one takes a step
+      -- the other locks stand when one takes a step
       pub locks_after : (order' : List (Entry M)) (slot i n : ℕ) (homes : Homes M) (log : List (List (Event M))) (w : View M W)
           (h : Hand (List (Event M))) → (i ≡ word_of slot) ⊎ (i ≡ word_of slot + 1)
           → ((k : ℕ) → k ≢ slot → get_elem? homes k ≡ get_elem? s.homes k) → hand_at slot w ≡ h
@@ -241,7 +241,7 @@ module _ {M W : Type 0} where
           (ap (set (map (hand_at q) s.views) id) (others q ne)
           ∙ set_again (map (hand_at q) s.views) id (hand_at q v) (at-map (hand_at q) s.views id v is_at)))
 
-      -- all locks stand where no hand changes, and no word but word 0
+      -- all locks stand if no hand changes, and no word but word 0
       pub locks_still : (n : ℕ) (w : View M W) → ((q : ℕ) → hand_at q w ≡ hand_at q v) → (q : ℕ) → q < g.boxes
           → LockStands q r.order (set s.words 0 n) s.homes (set (map (hand_at q) s.views) id (hand_at q w))
       locks_still n w others q near =

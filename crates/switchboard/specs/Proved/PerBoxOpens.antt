@@ -1,4 +1,4 @@
--- The rule of a board with a lock for each mailbox lets a lock stand at each mailbox's place.
+-- The rule of a board with a lock for each mailbox allows a lock at each mailbox's place.
 use Rattle.std.proofs.Common.{◌≡◌, ◌≢◌, ◌⊎◌, inl, inr, ℕ, zero, suc, ◌+◌, ◌<◌, false, List, [], ◌∷◌, ◌++◌, map, length, set}
 use Rattle.std.proofs.Common.{refl, sym, ap, ◌∙◌, subst, arith, Option, length-set, length-append, get_or-set_other, lt_of_not-le}
 use Rattle.std.proofs.lemmas.List.{append-nil}
@@ -86,7 +86,7 @@ module _ {M W : Type 0} (fits : W → ℕ → M → Type 0) (g : Ground M W) whe
       omega (arith, posted-append order (entry_of q v.under (Done t) ∷ []), completed-append order (entry_of q v.under (Done t) ∷ []))
 
   module _ (s : Boxes M W) (r : Rule fits g s) (id : ℕ) (v : View M W) (is_at : get_elem? s.views id ≡ some v) where
-    -- what the seat is to record may come behind the order
+    -- what the seat is to record may come after the order
     may_come : (q : ℕ) (o : Own M) (e : Event M) (x : List (Event M)) → q < g.boxes → part q r.order ≡ x
         → own o.number v.seen.order ≡ own o.number r.order → MayRecord fits q o.number e x v
         → Allowed fits (entry_of q v.under e) (state_of g record { order = r.order; aborted = r.first; knows = false })

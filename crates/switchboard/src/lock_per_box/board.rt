@@ -56,7 +56,7 @@ fn take_out<M: Copy, A: Allocator>(mailbox: &mut Mailbox<M, A>) -> Taken<M>
     }
 }
 
-/// Puts a message into the mailbox, which is out, where the board is not aborted, and counts it up.
+/// Puts a message into the mailbox, which is out, if the board is not aborted, and counts it up.
 fn put<F: Fn(), W, M: Mail<W>, A: Allocator>(
     shared: &Boards<M, W, A>,
     seat: &mut BoxSeat<M, W, A>,
@@ -88,8 +88,8 @@ fn put<F: Fn(), W, M: Mail<W>, A: Allocator>(
 }
 
 impl<M: Mail<W>, W, A: Allocator> LockPerBox<M, W, A> {
-    /// As `post`; where it answers `Ok` it has called `held` once while it held the lock of mailbox `to`, and else
-    /// never.
+    /// Like `post`; if it returns `Ok`, it has called `held` once while it held the lock of mailbox `to`, and
+    /// otherwise never.
     pub fn post_held<R: Wait, F: Fn()>(
         &self,
         rt: &R,

@@ -12,7 +12,7 @@ use crate::mail::Mail;
 use post_ledger::{Ledger, Mailbox};
 use std::alloc::Allocator;
 
-/// Takes all passes out of the list, and answers a seat that has all that they had.
+/// Takes all passes out of the list, and returns a seat that has all that they had.
 fn gather<W, M: Mail<W>, A: Allocator>(
     shared: &Boards<M, W, A>,
     passes: &mut Vec<BoxPass<M, W, A>, A>,
@@ -34,7 +34,7 @@ fn gather<W, M: Mail<W>, A: Allocator>(
     seat
 }
 
-/// Takes all mailboxes out of a table whose passes the seat has all, and answers whether the board is closed.
+/// Takes all mailboxes out of a table whose passes the seat has all, and returns whether the board is closed.
 fn settle<W, M: Mail<W>, A: Allocator>(
     table: BoxTable<M, W, A>,
     seat: BoxSeat<M, W, A>,

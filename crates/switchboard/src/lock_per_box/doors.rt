@@ -1,8 +1,8 @@
 //! A door before the lock of each mailbox: a flag that keeps most passes from drawing a ticket while another is inside.
 //!
-//! A lock serves its tickets in turn, so a ticket whose thread has no processor holds up all tickets behind it. A pass
-//! that waits at a door has no ticket, so nobody waits for it. A door is no lock: no promise stands on it, and after a
-//! bounded number of tries a pass draws its ticket, whether the door is shut or not.
+//! A lock serves its tickets in turn, so a ticket whose thread has no processor holds up all tickets behind it. A
+//! pass that waits at a door has no ticket, so nobody waits for it. A door is not a lock: no promise rests on it,
+//! and after a bounded number of tries a pass draws its ticket, whether the door is shut or not.
 ghost use Rattle.std.specs.Prelude.{◌<◌};
 
 use std::sync::atomic::{AtomicBool, Ordering};
@@ -24,7 +24,7 @@ struct Door {
     shut: AtomicBool,
 }
 
-/// The doors of a board. What lies in front of them or behind them shares no cache line with a flag either.
+/// The doors of a board. What lies before or after them shares no cache line with a flag either.
 #[derive(Drop)]
 #[repr(C)]
 pub(crate) struct Doors {
@@ -39,7 +39,7 @@ pub(crate) struct Passed<'d> {
 }
 
 impl Door {
-    // It looks before it swaps, since a swap takes the cache line from all who look.
+    // It looks before it swaps, since a swap takes the cache line from all that look.
     fn try_shut(&self) -> bool {
         !self.shut.load(Ordering::SeqCst) && !self.shut.swap(true, Ordering::SeqCst)
     }
@@ -64,7 +64,7 @@ impl Doors {
         }
     }
 
-    /// Shuts the door of this mailbox. If it stays shut by others for long, the pass goes on all the same.
+    /// Shuts the door of this mailbox. If it stays shut by others for long, the pass continues all the same.
     pub(crate) fn knock(&self, number: u8) -> Passed<'_>
         requires { number < 64 }
     {
@@ -80,8 +80,8 @@ impl Doors {
 }
 
 impl Passed<'_> {
-    /// Opens the door again, if the pass has shut it. Whoever opens another's door lets in a pass that draws a ticket and
-    /// waits with it.
+    /// Opens the door again, if the pass has shut it. Whoever opens another's door lets in a pass that draws a ticket
+    /// and waits with it.
     pub(crate) fn reopen(self) {
         let Passed { shut } = self;
         if let Some(door) = shut {

@@ -20,7 +20,7 @@ use atomic_table::{Refused, Table};
 use post_ledger::Mailbox;
 use std::alloc::{AllocError, Allocator};
 
-/// The mailbox of this number, with the opening post where it is the one that has it.
+/// The mailbox with this number, with the opening post if it is the one that has it.
 fn first_box<M: Copy, A: Allocator>(
     alloc: A,
     number: u8,
@@ -124,7 +124,7 @@ fn deal<W, M: Mail<W>, A: Allocator>(
 }
 
 impl<M: Mail<W>, W, A: Allocator> LockPerBox<M, W, A> {
-    /// The board that begins as this says, and its passes.
+    /// The board that begins with these parameters, and its passes.
     pub(crate) fn of(
         alloc: A,
         world: &W,

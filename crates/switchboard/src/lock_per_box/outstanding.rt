@@ -202,7 +202,7 @@ impl<W, M: Mail<W>, A: Allocator> Play<Option<Mailbox<M, A>>, Knowing<M, W, Mail
     ghost then = { λ _ m _ w. SeatTookIn M.fits m w };
 }
 
-/// Takes in another seat, where both are outside all locks, and then what it has seen: one load.
+/// Takes in another seat, if both are outside all locks, and then what it has seen: one load.
 pub(crate) fn take_in<W, M: Mail<W>, A: Allocator>(
     shared: &Boards<M, W, A>,
     seat: &mut BoxSeat<M, W, A>,

@@ -26,8 +26,8 @@ fn first_word(number: u8) -> usize
     STRIDE * (usize::from(number) + 1)
 }
 
-/// Shuts the door of this mailbox or goes on after a while, draws a ticket of its lock, and waits until it is served. The
-/// mailbox then is out.
+/// Shuts the door of this mailbox or continues after a while, draws a ticket of its lock, and waits until it is
+/// served. The mailbox then is out.
 pub(crate) fn enter_box<'d, R: Wait, W, M: Mail<W>, A: Allocator>(
     rt: &R,
     shared: &Boards<M, W, A>,
@@ -44,7 +44,8 @@ pub(crate) fn enter_box<'d, R: Wait, W, M: Mail<W>, A: Allocator>(
     (mailbox, passed)
 }
 
-/// Leaves the mailbox behind the one found, serves the next ticket, and opens the door again if this pass has shut it.
+/// Leaves the mailbox as the value after the one found, serves the next ticket, and opens the door again if this pass
+/// has shut it.
 pub(crate) fn leave_box<W, M: Mail<W>, A: Allocator>(
     shared: &Boards<M, W, A>,
     seat: &mut BoxSeat<M, W, A>,

@@ -45,7 +45,7 @@ impl<M, W, A: Allocator> Model for Book<M, W, A> {
         IsBook b.mailboxes.items b.order.items (vec_capacity b.order) b.posted b.completed };
 }
 
-/// So many mailboxes with no events.
+/// A given number of mailboxes without events.
 fn empty_mailboxes<M: Copy, A: Allocator + Clone>(
     alloc: &A,
     boxes: u8,
@@ -61,7 +61,7 @@ fn empty_mailboxes<M: Copy, A: Allocator + Clone>(
     Ok(mailboxes)
 }
 
-/// Writes a take down behind the order, and answers its message.
+/// Appends a take to the order, and returns its message.
 fn note_take<M: Copy, A: Allocator>(
     order: &mut Vec<Entry<M>, A>,
     by: u8,
@@ -146,7 +146,7 @@ impl<M: Copy, W, A: Allocator> Book<M, W, A> {
         }
     }
 
-    /// What a take of the pass answers. Takes no memory.
+    /// What a take of the pass returns. Takes no memory.
     pub fn take(&mut self, by: u8) -> Taken<M>
         requires { by < self.old.boxes }
         ensures { TakeAnswers by result self.old self.new }

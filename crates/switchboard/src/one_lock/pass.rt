@@ -8,7 +8,7 @@ use std::collections::LinkedList;
 use std::marker::Model;
 use ticket_lock::{Lane, LaneLaw, Note};
 
-// A state comes before those that go on from it. A pass's own part is what it made itself.
+// A state comes before those that continue from it. A pass's own part is what it made itself.
 impl<W, M: Mail<W>, A: Allocator> LaneLaw for Book<M, W, A> {
     ghost use Rattle.switchboard.specs.Passes.{share, Comes};
     ghost use Rattle.switchboard.specs.Proved.Laws.{comes_refl, comes_trans};

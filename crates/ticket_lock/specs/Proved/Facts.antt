@@ -63,7 +63,7 @@ module _ {A : Type 0} where
   total_zero f [] none = refl
   total_zero f (x ∷ xs) none = omega (arith, none 0 x refl, total_zero f xs (λ j w d. none (suc j) w d))
 
-  -- where f is 0 of each element but one, it is in all what it is of that one
+  -- if f is 0 for each element but one, the sum is what it is for that one
   pub total_only : (f : A → ℕ) (l : List A) (i : ℕ) (v : A) → get_elem? l i ≡ some v
       → ((j : ℕ) (w : A) → j ≢ i → get_elem? l j ≡ some w → f w ≡ 0) → total f l ≡ f v
   total_only f [] i v e none = absurd (some-ne-none v (sym e))
@@ -145,11 +145,11 @@ module _ {A : Type 0} where
   no_rest a [] h = append-nil a
   no_rest a (x ∷ xs) h = absurd (omega (arith, length-append a (x ∷ xs)))
 
-  -- a beginning that is as long is the whole
+  -- a prefix that is as long is the whole
   pub StartsWith-whole : (a b : List A) → StartsWith a b → length a ≤ length b → a ≡ b
   StartsWith-whole a b p h = p.1 ∙ no_rest b p.0 (subst (λ l. length l ≤ length b) p.1 h)
 
-  -- of two beginnings of one history, the shorter begins the longer
+  -- of two prefixes of one history, the shorter is a prefix of the longer
   pub both_begin : (l a b : List A) → StartsWith l a → StartsWith l b → length b ≤ length a → StartsWith a b
   both_begin l a [] p q h = (a, refl)
   both_begin l [] (y ∷ ys) p q h = absurd (omega arith)
@@ -183,7 +183,7 @@ module _ {A : Type 0} where
   EndsIn-some (x ∷ []) h = (x, ([], refl))
   EndsIn-some (x ∷ y ∷ ys) h = let r = EndsIn-some (y ∷ ys) (omega arith) in (r.0, (x ∷ r.1.0, ap (λ m. x ∷ m) r.1.1))
 
-  -- a rising history stays so where the value added comes after the last
+  -- a rising history stays so if the value added comes after the last
   pub rises_on : (before : A → A → Type 0) → ((x : A) → before x x) → ((x y z : A) → before x y → before y z → before x z)
       → (l : List A) (x y : A) → EndsIn l x → before x y → IsRising before l → IsRising before (l ++ y ∷ [])
   rises_on before same on l x y ends step up i j a b le at_a at_b =
@@ -207,7 +207,7 @@ module _ {A : Type 0} where
       λ k z e. subst (λ w. get_elem? w k ≡ some z) (sym p.1) (at_longer a p.0 k z e) in
       up i j x y le (m i x at_x) (m j y at_y)
 
-  -- the last value of a beginning comes before the last of the whole
+  -- the last value of a prefix comes before the last of the whole
   pub rises_last : (before : A → A → Type 0) (l a : List A) (x y : A) → IsRising before l → StartsWith l a → EndsIn a x → EndsIn l y
       → before x y
   rises_last before l a x y up p ex ey =

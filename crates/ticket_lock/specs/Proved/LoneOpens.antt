@@ -1,4 +1,4 @@
--- The rule of a lone lock lets a lock stand at the start of its table.
+-- The rule of a lone lock allows a lock at the start of its table.
 use Rattle.std.proofs.Common.{◌≡◌, ◌≢◌, ◌⊎◌, inl, inr, ℕ, zero, suc, ◌<◌, List, [], ◌∷◌, ◌++◌, map, length, set, refl, sym, ap, ◌∙◌, subst}
 use Rattle.std.proofs.Common.{arith, Option}
 use mathlib.Core.Option as maybe

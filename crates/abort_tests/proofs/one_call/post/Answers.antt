@@ -1,4 +1,4 @@
--- A post leaves the jobs, also where it is refused.
+-- A post leaves the jobs, also if it is refused.
 use Rattle.switchboard.proofs.Jobs.{post_keeps, post_same}
 use Rattle.abort_tests.specs.Rows.{LeavesJob}
 use Rattle.abort_tests.proofs.Leaving.{leaves_all}

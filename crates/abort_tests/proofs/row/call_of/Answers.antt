@@ -1,4 +1,4 @@
--- The call has to do with one pass, and one of its places.
+-- The call concerns one pass, and one of its places.
 use Rattle.abort_tests.proofs.Leaving.{side_first, side_second}
 use Rattle.abort_tests.proofs.row.call_of.Goals as goal
 

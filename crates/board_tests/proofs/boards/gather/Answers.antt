@@ -1,4 +1,4 @@
--- The pass comes behind those of the lower numbers.
+-- The pass comes after those with lower numbers.
 use Rattle.std.proofs.Common.{map, ap, ◌∙◌, arith}
 use Rattle.ticket_lock.specs.Proved.Facts.{map-snoc}
 use Rattle.switchboard.proofs.Jobs.{first_more}

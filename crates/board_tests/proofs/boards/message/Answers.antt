@@ -1,4 +1,4 @@
--- The job of a message taken is one of the pass, none that it had, and those that it had stay.
+-- The job of a message taken is one of the pass, not one that it had, and those that it had stay.
 use Rattle.switchboard.proofs.Jobs.{job_new, job_other, take_keeps}
 use Rattle.board_tests.proofs.boards.message.Goals as goal
 

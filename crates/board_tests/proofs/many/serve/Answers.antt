@@ -1,4 +1,4 @@
--- The job of the message taken is none that the pass had; so its completion leaves those.
+-- The job of the message taken is not one that the pass had; so its completion leaves those.
 use Rattle.switchboard.proofs.Jobs.{kept_none, job_new, job_other, take_keeps}
 use Rattle.board_tests.proofs.many.serve.Goals as goal
 

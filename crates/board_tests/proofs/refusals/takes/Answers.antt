@@ -1,4 +1,4 @@
--- The job of a message taken is none that the pass had; so its completion leaves those.
+-- The job of a message taken is not one that the pass had; so its completion leaves those.
 use Rattle.std.proofs.Common.{◌∙◌}
 use Rattle.board_tests.proofs.refusals.takes.Goals as goal
 

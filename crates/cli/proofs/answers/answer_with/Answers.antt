@@ -1,4 +1,4 @@
--- A reply with a status of 2 or 3 tells a refusal that stands.
+-- A reply with a status of 2 or 3 reports a refusal that stands.
 use Rattle.std.proofs.Common.{Some, None, arith, subst, sym}
 use Rattle.path_sets.specs.EdgeLimits.{most_of}
 use Rattle.round_rewrite.specs.Programs.{count_of}

@@ -1,4 +1,4 @@
--- Where nothing is rewritten, the refusal that stands is told.
+-- If nothing is rewritten, the refusal that stands is reported.
 use Rattle.std.proofs.Common.{None, inr}
 use Rattle.round_rewrite.specs.Programs.{count_of}
 use Rattle.cli.proofs.Refusing.{refuses}

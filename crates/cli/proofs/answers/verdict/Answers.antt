@@ -1,4 +1,4 @@
--- The reply is the answer where there is a report, and else tells the refusal that stands.
+-- The reply is the answer if there is a report, and otherwise reports the refusal that stands.
 use Rattle.std.proofs.Common.{Some, inl, inr}
 use Rattle.path_sets.specs.EdgeLimits.{most_of}
 use Rattle.round_rewrite.specs.Programs.{count_of}

@@ -1,4 +1,4 @@
--- The counts stand behind the word, those of the program and of the report.
+-- The counts come after the word, those of the program and of the report.
 use Rattle.std.proofs.Common.{◌≤◌, ◌++◌, length, sym, ◌∙◌, ap, subst}
 use Rattle.scopes.specs.Programs.{checked_tree}
 use Rattle.trees.specs.Trees.{tree_of}

@@ -1,4 +1,4 @@
--- Each turn writes one line more, and the last turn is over the last procedure.
+-- Each turn writes one more line, and the last turn is over the last procedure.
 use Rattle.std.proofs.Common.{◌∙◌, ◌<◌, ◌≤◌, ap, arith, count_by, length, refl, sym}
 use Rattle.std.proofs.lemmas.Option.{slice_get_read}
 use Rattle.std.specs.String.{string_bytes}

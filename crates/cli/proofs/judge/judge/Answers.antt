@@ -1,4 +1,4 @@
--- What the cause is told as is a refusal that stands.
+-- What the cause is reported as is a refusal that stands.
 use Rattle.std.proofs.Common.{ℕ, List, Some, inl, subst, sym}
 use Rattle.language.specs.Tree.{Tree}
 use Rattle.syntax.specs.Text.{Text}

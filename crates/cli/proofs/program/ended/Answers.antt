@@ -1,4 +1,4 @@
--- What the words ask for was done with the status of that.
+-- What the words ask for was done, and the status is that of it.
 use Rattle.std.proofs.Common.{◌≤◌, inl, map, subst, sym}
 use Rattle.std.specs.Fn.{FnOnceReturnsAt}
 use Rattle.std.specs.String.{string_bytes}

@@ -1,4 +1,4 @@
--- A text that is rewritten is that of a checked program; where the rewriting fails, it is too wide.
+-- A text that is rewritten is that of a checked program; if the rewriting fails, it is too wide.
 use Rattle.std.proofs.Common.{ℕ, None, subst, inl, inr}
 use Rattle.std.proofs.lemmas.Result.{err_from_is_err_and}
 use Rattle.resolved.specs.Narrow.{AllNarrow}
@@ -29,12 +29,12 @@ returns-in-Ok-clause-rewriting g c =
       keeps = c.in-Ok.ensures.keeps;
     }
 
--- where the rewriting is refused as too wide, it is
+-- if the rewriting is refused as too wide, it is
 pub is_wide : (rounds : ℕ) (t : Tree) → IsFaultOf rounds t TooWide → IsNarrowFor rounds t → ⊥
 is_wide rounds t (inl (e, wide)) = wide
 is_wide rounds t (inr (e, narrow)) = cc
 
--- where memory gives out over the rewriting, it is not too wide
+-- if memory runs out during the rewriting, it is not too wide
 is_narrow : (rounds : ℕ) (t : Tree) → IsFaultOf rounds t Memory → IsNarrowFor rounds t
 is_narrow rounds t (inl (e, wide)) = cc
 is_narrow rounds t (inr (e, narrow)) = narrow

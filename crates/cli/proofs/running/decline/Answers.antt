@@ -1,4 +1,4 @@
--- Words that are refused have a line, and why is told.
+-- Refused words have a line, and the reason is reported.
 use Rattle.std.proofs.Common.{subst, sym}
 use Rattle.cli.specs.Ran.{Declines}
 use Rattle.cli.specs.Streams.{Logs, streams}

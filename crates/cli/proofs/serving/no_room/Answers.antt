@@ -1,4 +1,4 @@
--- The message was told, and the line written.
+-- The message and the line were written.
 use Rattle.std.proofs.Common.{subst}
 use Rattle.cli.specs.Streams.{Logs, Writes}
 use Rattle.cli.proofs.serving.no_room.Goals as goal

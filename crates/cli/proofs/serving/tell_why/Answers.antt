@@ -1,4 +1,4 @@
--- Where there is no refusal, nothing is told.
+-- If there is no refusal, nothing is reported.
 use Rattle.std.proofs.Common.{[], true, rules}
 use Rattle.std.proofs.KnownBytes.{Appends-nil}
 use Rattle.cli.proofs.serving.tell_why.Goals as goal

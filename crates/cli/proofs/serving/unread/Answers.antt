@@ -1,4 +1,4 @@
--- What is said goes by the kind of the error.
+-- What is written depends on the kind of the error.
 use Rattle.std.proofs.Common.{inl, inr, refl, rules}
 use Rattle.cli.specs.Served.{file_line, without_memory}
 use Rattle.cli.proofs.serving.unread.Goals as goal

@@ -8,7 +8,7 @@ use lib.Seq.{take-add}
 use Rattle.cli.proofs.sink.taken_of.Goals as goal
 use Rattle.cli.proofs.sink.taken_of.Goals.{in-Ok, in-Err+else-ne}
 
--- what was taken before, and what a write takes behind it
+-- what was taken before, and what a write takes after it
 took_more : (a b c : Option (List ℕ)) (all : List ℕ) (at n m : ℕ) → m ≡ at + n → Appends a b (take at all)
     → Appends b c (take n (take (length all - at) (drop at all))) → Appends a c (take m all)
 took_more a b c all at n m is before more =
@@ -16,7 +16,7 @@ took_more a b c all at n m is before more =
     subst (Appends a c) (rest ∙ sym (take-add at n all) ∙ ap (λ i. take i all) (sym is))
     (Appends-trans a b c _ _ before more)
 
--- where a write takes nothing
+-- if a write takes nothing
 took_same : (a b c : Option (List ℕ)) (all : List ℕ) (at m : ℕ) → m ≡ at → Appends a b (take at all) → Keeps b c
     → Appends a c (take m all)
 took_same a b c all at m is before kept = subst (λ i. Appends a c (take i all)) (sym is)

@@ -23,7 +23,7 @@ slice_range-put_mid a k n xs ys within fits =
     ap (take ((a + n) - a)) (drop_at (take a xs) (ys ++ after) a (length-take-le a xs within))
     ∙ ap (λ m. take m (ys ++ after)) same ∙ take-append-le n ys after fits
 
--- what was given before, and what a read gives behind it
+-- what was given before, and what a read gives after it
 gave_more : (a b c : Option (List ℕ)) (room part : List ℕ) (at k n m : ℕ) → m ≡ at + n → at ≤ length room
     → n ≤ length part
     → Consumes a b (take at room) → Consumes b c (take n part) → Consumes a c (take m (put_mid at k room part))
@@ -34,7 +34,7 @@ gave_more a b c room part at k n m is within fits before more =
     let behind = ap (λ l. take at room ++ l) (sym (slice_range-put_mid at k n room part within fits)) in
     subst (Consumes a c) (behind ∙ joined ∙ ap (λ i. take i new) (sym is)) (Consumes-trans a b c _ _ before more)
 
--- where a read gives nothing
+-- if a read gives nothing
 gave_same : (a b c : Option (List ℕ)) (room part : List ℕ) (at k m : ℕ) → m ≡ at → at ≤ length room
     → Consumes a b (take at room) → Keeps b c → Consumes a c (take m (put_mid at k room part))
 gave_same a b c room part at k m is within before kept =

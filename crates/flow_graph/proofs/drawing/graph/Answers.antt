@@ -1,4 +1,4 @@
--- Behind the exit's flow, those of the body.
+-- After the exit's flow, those of the body.
 use Rattle.std.proofs.Common.{◌≡◌, ◌++◌, ◌∷◌, [], length, refl, sym, ◌∙◌, ap, arith}
 use Rattle.std.proofs.lemmas.List.{length-map}
 use Rattle.language.specs.Tree.{done}

@@ -1,4 +1,4 @@
--- One graph more is that of the next procedure; at the end there is one of each.
+-- One more graph is that of the next procedure; at the end there is one of each.
 use Rattle.std.proofs.Common.{◌≡◌, ◌∷◌, [], length, slice_get, refl, sym, ◌∙◌, ap, subst, arith, length-append}
 use Rattle.std.specs.Prelude.{IfOk, codes}
 use Rattle.std.proofs.lemmas.Option.{slice_get_read}

@@ -1,4 +1,4 @@
--- Each graph so far is drawn of the procedure of its number.
+-- Each graph so far is drawn from the procedure with its number.
 use Rattle.std.proofs.Common.{◌≡◌, length}
 use Rattle.flow_graph.proofs.Graphing.{AllDrawn}
 use Rattle.flow_graph.proofs.drawing.graphs.Given as goal

@@ -1,4 +1,4 @@
--- The bit of the result is behind the globals, formals and locals.
+-- The bit of the result is after the globals, formals and locals.
 use Rattle.std.proofs.Common.{◌≡◌, ℕ, ◌+◌, ◌^◌, ◌++◌, cond, length, sym, ◌∙◌, ap, arith}
 use Rattle.language.specs.Resolve.{gives_value}
 use Rattle.trees.specs.Trees.{names_of, block_of}

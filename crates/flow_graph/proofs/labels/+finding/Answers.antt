@@ -1,4 +1,4 @@
--- The label stands at a statement, inside of it, or behind it.
+-- The label stands at a statement, inside of it, or after it.
 use Rattle.std.proofs.Common.{◌≡◌, ◌<◌, ◌+◌, ◌*◌, [], ◌∷◌, drop, refl, ◌∙◌, ap, sym, arith}
 use Rattle.language.specs.Resolve.{resolve_block}
 use Rattle.language.specs.Rest.{join, first_of_two}

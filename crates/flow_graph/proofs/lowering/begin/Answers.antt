@@ -1,4 +1,4 @@
--- Statements begin at the first of them; where there is none, at what is behind.
+-- Statements begin at the first of them; if there is none, at what is after.
 use Rattle.std.proofs.Common.{length, sym, ◌∙◌, ap, arith}
 use Rattle.std.proofs.lemmas.Bool.{eqb-true, eqb-false}
 use Rattle.std.proofs.lemmas.List.{nil_from_length}

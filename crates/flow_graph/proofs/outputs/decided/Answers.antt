@@ -1,4 +1,4 @@
--- Where the left operand is the same in each row, and decides, the whole is the same in each row.
+-- If the left operand is the same in each row, and decides, the whole is the same in each row.
 use Rattle.std.proofs.Common.{true, false, replicate, refl, sym, ap}
 use Rattle.std.specs.Cmp.Lexicographic.{same_text}
 use Rattle.language.specs.Value.{operate}

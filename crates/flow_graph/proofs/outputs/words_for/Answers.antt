@@ -1,4 +1,4 @@
--- At most six inputs have 64 rows.
+-- At most six inputs have at most 64 rows.
 use Rattle.std.proofs.Common.{◌≤◌, arith}
 use Rattle.std.proofs.Math.Pow.{pow_mono}
 use Rattle.flow_graph.proofs.outputs.words_for.Goals as goal

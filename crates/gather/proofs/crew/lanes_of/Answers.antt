@@ -1,4 +1,4 @@
--- One lane more.
+-- One more lane.
 use Rattle.std.proofs.Common.{◌≡◌, ◌<◌, ◌∷◌, [], Some, length, slice_get, refl, sym, ap, ◌∙◌}
 use Rattle.std.proofs.Common.{subst, arith, length-append, rules}
 use Rattle.std.proofs.lemmas.Option.{none-some}

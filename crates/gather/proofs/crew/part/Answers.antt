@@ -1,4 +1,4 @@
--- One pair more is parted; at the end all are.
+-- One more pair is split; at the end all are.
 use Rattle.std.proofs.Common.{◌++◌, ◌∷◌, [], map, sym, ap, ◌∙◌, arith}
 use Rattle.std.proofs.lemmas.List.{map-append}
 use Rattle.std.specs.Vec.Iter.{into_iter_items}

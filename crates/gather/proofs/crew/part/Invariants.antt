@@ -1,4 +1,4 @@
--- The pairs so far are parted, and there is room for all.
+-- The pairs so far are split, and there is room for all.
 use Rattle.std.proofs.Common.{◌≡◌, ◌≤◌, ◌++◌, length, map, vec_capacity}
 use Rattle.std.specs.Vec.Iter.{into_iter_items}
 use Rattle.gather.specs.Jobs.{first_of, second_of}

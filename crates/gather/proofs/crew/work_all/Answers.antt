@@ -1,4 +1,4 @@
--- Where all lanes have come back they have ended.
+-- If all lanes have come back, they have ended.
 use Rattle.std.proofs.Common.{arith}
 use Rattle.std.proofs.lemmas.Result.{IfOk-weaker}
 use Rattle.gather.proofs.Crews.{all_ended}

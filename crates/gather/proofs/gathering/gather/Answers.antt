@@ -1,4 +1,4 @@
--- Where no end names a cause the tables are full; else the least cause is answered.
+-- If no end names a cause, the tables are full; otherwise the least cause is returned.
 use Rattle.std.proofs.Common.{sym, ◌∙◌, subst}
 use Rattle.path_sets.specs.EdgeLimits.{most_of}
 use Rattle.summaries.specs.Together.{HaveLimit, AreFull}

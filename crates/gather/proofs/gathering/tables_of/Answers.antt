@@ -1,4 +1,4 @@
--- One table more, where an outcome has one.
+-- One more table, if an outcome has one.
 use Rattle.std.proofs.Common.{Some, None, sym, ap, ◌∙◌, arith}
 use Rattle.std.proofs.lemmas.List.{append-nil}
 use Rattle.std.specs.Vec.Iter.{into_iter_items}

@@ -1,4 +1,4 @@
--- One job more is begun.
+-- One more job is begun.
 use Rattle.std.proofs.Common.{◌≤◌, ◌+◌, ◌∷◌, [], IsSome, IfSome, length, ap, sym, subst, arith, length-append}
 use Rattle.gather.specs.Jobs.{HasNoThread, WasBegun}
 use Rattle.gather.proofs.Coming.{AllBehind, behind_more, each_more}

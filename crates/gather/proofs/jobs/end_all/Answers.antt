@@ -1,4 +1,4 @@
--- Of one job more this came.
+-- This is the result of one more job.
 use Rattle.std.proofs.Common.{◌≡◌, ◌∷◌, [], Some, length, slice_get, refl, ap, ◌∙◌, subst, arith, length-append}
 use Rattle.std.specs.Vec.Iter.{into_iter_items}
 use Rattle.gather.proofs.Beginning.{Ended, ended_run, ended_none, have_come}

@@ -1,4 +1,4 @@
--- Of those so far this came, and there is room for all.
+-- These are the results so far, and there is room for all.
 use Rattle.std.proofs.Common.{◌≡◌, ◌≤◌, ◌++◌, ℕ, Some, length, slice_get, vec_capacity}
 use Rattle.std.specs.Vec.Iter.{into_iter_items}
 use Rattle.gather.proofs.Beginning.{Ended}

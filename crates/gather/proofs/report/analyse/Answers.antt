@@ -18,7 +18,7 @@ work_all-requires-after_bounds g c κs within =
     new_crew c.args.graphs.now c.args.limit (g.B-Board.identity c.in_ok-board.board) c.args.budget c.len-boxes.result c.requires.drawn
     c.len-boxes.ensures (map g.B-Board.sight c.in_ok-board.passes.items) c.in_ok-board.ensures.1
 
--- the lanes, parted into passes and outcomes, have ended
+-- the lanes, split into passes and outcomes, have ended
 ended : (g : Over) (c : After-back-2-1 g) → HaveEnded g.S.PathSet.members c.args.graphs.now c.args.limit
     (g.B-Board.identity c.in_ok-board.board) (map g.B-Board.sight c.in_ok-back.back.items) c.in_ok-back.outcomes.items
 ended g c = parted g.S.PathSet.members c.args.graphs.now c.args.limit (g.B-Board.identity c.in_ok-board.board)

@@ -10,7 +10,7 @@ use Rattle.post_ledger.specs.declared.event.Event.TheVariants.{Done}
 use Rattle.post_ledger.specs.History.{takes, dones, MayFollow}
 use Rattle.post_ledger.proofs.legality.may_follow.Goals as goal
 
--- a take that is early enough may be completed exactly where no Done names it
+-- a take that is early enough may be completed if and only if no Done names it
 open_or_not : {M : Type 0} (h : List (Event M)) (q : ℕ) (found : Bool) → q < length (takes h) → found ≡ list_any (nat_eq q) (dones h)
     → IsTrue (not found) ↔ MayFollow h (Done q)
 open_or_not h q true old is = (λ never. absurd (false≢true never), λ may. absurd (may.1 (Contains-from_any eqb-true q (dones h) (sym is))))

@@ -1,4 +1,4 @@
--- Whether a Done names the take is still to be seen in the events that are left.
+-- Whether a Done names the take is still to be found in the events that are left.
 use Rattle.std.proofs.Common.{◌≡◌, drop, nat_eq}
 use Rattle.std.specs.List.{list_any}
 use Rattle.post_ledger.specs.History.{dones}

@@ -1,4 +1,4 @@
--- The Post that is left to pass that number of others from here is the one of the number from the front.
+-- The Post after that number of others from here is the one with the number from the front.
 use Rattle.std.proofs.Common.{◌≡◌, drop, slice_get}
 use Rattle.post_ledger.specs.History.{posts}
 use Rattle.post_ledger.proofs.legality.post_numbered.Given as goal

@@ -1,4 +1,4 @@
--- An event that is no Post adds none.
+-- An event that is not a Post adds none.
 use Rattle.std.proofs.Common.{◌∙◌, Some, refl, ap, arith}
 use Rattle.std.proofs.lemmas.Option.{slice_get-get_or}
 use Rattle.post_ledger.specs.declared.event.Event.TheVariants.{Take, Done}

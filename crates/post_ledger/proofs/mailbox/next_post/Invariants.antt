@@ -1,4 +1,4 @@
--- No Post stands between the place that the search began at and the place that it has reached.
+-- There is no Post between the place that the search began at and the place that it has reached.
 use Rattle.std.proofs.Common.{◌≡◌, ◌≤◌, ◌-◌, length, take}
 use Rattle.post_ledger.specs.History.{posts}
 use Rattle.post_ledger.proofs.mailbox.next_post.Given as goal

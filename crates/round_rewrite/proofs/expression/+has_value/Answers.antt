@@ -5,7 +5,7 @@ use Rattle.round_rewrite.specs.Table.{numbers, literal, has_value}
 use Rattle.round_rewrite.specs.Names.{bit_name}
 use Rattle.round_rewrite.proofs.expression.+has_value.Goals as goal
 
--- the value of one bit more
+-- the value of one more bit
 one_lower : (v number above n a : ℕ) → n ≡ suc number → above ≡ suc a →
     two and (has_value (v / 2) (map bit_name (numbers n (suc a)))) (literal (v % 2) (bit_name number))
     ≡ has_value v (map bit_name (numbers number (suc above)))

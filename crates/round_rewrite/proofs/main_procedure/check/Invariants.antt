@@ -1,4 +1,4 @@
--- What stands with the other checks behind it.
+-- What is there, followed by the other checks.
 use Rattle.std.proofs.Common.{◌≡◌, [], drop}
 use Rattle.trees.specs.Trees.{names_of, items_of, all_before}
 use Rattle.round_rewrite.specs.Table.{check}

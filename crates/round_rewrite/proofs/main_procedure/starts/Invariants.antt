@@ -1,4 +1,4 @@
--- What stands with the other threads behind it.
+-- What is there, followed by the other threads.
 use Rattle.std.proofs.Common.{◌≡◌, [], drop}
 use Rattle.trees.specs.Trees.{threads_of, items_of, all_before}
 use Rattle.round_rewrite.specs.Table.{starts}

@@ -1,4 +1,4 @@
--- The procedures so far, with the others rewritten behind them.
+-- The procedures so far, with the others rewritten after them.
 use Rattle.std.proofs.Common.{◌≡◌, ◌++◌, ◌∷◌, map, drop}
 use Rattle.trees.specs.Trees.{procs_of, tree_of}
 use Rattle.round_rewrite.specs.Names.{main_procedure, rewritten_procedure}

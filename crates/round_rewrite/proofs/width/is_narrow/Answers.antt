@@ -11,7 +11,7 @@ use Rattle.round_rewrite.specs.declared.width.Wide.{Wide}
 use Rattle.round_rewrite.proofs.Widths.{narrow, narrow_globals, narrow_sources, wide_stands}
 use Rattle.round_rewrite.proofs.width.is_narrow.Goals as goal
 
--- where the globals are few, the program is narrow where no procedure of the source is too wide
+-- if the globals are few, the program is narrow if no procedure of the source is too wide
 tells : (t : Tree) (last n : ℕ) (is : global_count (length t.globals) last ≡ n) → n ≤ most_places → (wide : Option Wide) →
     IsFirstWide last t wide → (b : Bool) → is_some wide ≡ not b → (b ≡ true) ↔ IsNarrow last t
 tells t last n is few None all true e = (λ h. narrow t last n is few all, λ h. refl)

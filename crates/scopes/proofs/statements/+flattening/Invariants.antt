@@ -1,4 +1,4 @@
--- What stands with the others behind it, and each call's measure: a statement holds fewer than its list.
+-- What is there, followed by the others, and each call's measure: a statement holds fewer than its list.
 use Rattle.std.proofs.Common.{◌≡◌, ◌+◌, ◌*◌, ◌++◌, drop}
 use Rattle.language.specs.Sequential.{statements}
 use Rattle.trees.specs.Trees.{block_of, deed_of}

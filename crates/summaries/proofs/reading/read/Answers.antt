@@ -1,4 +1,4 @@
--- One summary more is that of the next table.
+-- One more summary is that of the next table.
 use Rattle.std.proofs.Common.{◌≡◌, ◌∷◌, [], Some, length, slice_get, refl, sym, ap, ◌∙◌, subst, arith, length-append}
 use Rattle.std.proofs.lemmas.Option.{slice_get_read, same_Some}
 use Rattle.summaries.specs.declared.table.Table.{Table}

@@ -123,7 +123,7 @@ to_there g c =
     mail_receiver g.S.PathSet.members g.program (λ x. ⊥) c.loop-at.tables.items c.loop-at.invariant.tables c.in-Some.to c.in-Some.due
     (to_due g c)
 
--- the tables, where the message is left aside
+-- the tables, if the message is left aside
 then_aside : (g : Over) (c : In-Some g)
     → AreTables g.S.PathSet.members g.program (λ x. x ≡ mail c.in-Some.to c.in-Some.due)
     (slice_set c.loop-at.tables.items c.loop-at.at c.next.new.self)

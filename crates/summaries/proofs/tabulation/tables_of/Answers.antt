@@ -1,4 +1,4 @@
--- One table more is that of the next graph.
+-- One more table is that of the next graph.
 use Rattle.std.proofs.Common.{◌≡◌, ◌∷◌, [], Some, length, slice_get, sym, ap, ◌∙◌, subst, arith, length-append}
 use Rattle.summaries.specs.declared.table.Table.{Table}
 use Rattle.summaries.specs.Tables.{graph_of, IsNew}

@@ -1,4 +1,4 @@
--- The tables so far are new, each that of the graph of its number.
+-- The tables so far are new, each that of the graph with its number.
 use Rattle.std.proofs.Common.{◌≡◌, ℕ, Some, length, slice_get}
 use Rattle.summaries.specs.declared.table.Table.{Table}
 use Rattle.summaries.specs.Tables.{IsNew}

@@ -6,7 +6,7 @@ use Rattle.tokens.proofs.words.word_kind.Goals as goal
 pub returns-in-Some-clause-some : goal.returns-in-Some-clause-some
 returns-in-Some-clause-some c = reserved c.in-Some.ensures.some
 
--- A word with a first byte that is no digit begins a name.
+-- A word with a first byte that is not a digit begins a name.
 begins : (word : List ℕ) → 0 < length word → is_ascii_digit (slice_index_or word 0 0) ≡ false → BeginsName word
 begins [] some other = omega arith
 begins (b ∷ word) some other = other

@@ -1,4 +1,4 @@
--- Each argument is one bit more of the entry.
+-- Each argument is one more bit of the entry.
 use Rattle.resolved.specs.Limits.{most_places}
 use Rattle.std.proofs.Common.{◌≡◌, ◌∷◌, ◌+◌, ◌*◌, ◌^◌, ◌∙◌, ◌<◌, ap, sym, map, drop, arith}
 use Rattle.std.proofs.lemmas.List.{drop_more, drop_all}

@@ -1,4 +1,4 @@
--- Statements are lowered one after the other, and those inside of each behind it.
+-- Statements are lowered one after the other, and those inside of each after it.
 use Rattle.std.proofs.Common.{◌≡◌, ◌<◌, ◌+◌, ◌*◌, length, map, refl, sym, ◌∙◌, ap, subst, arith}
 use Rattle.std.proofs.lemmas.List.{nil_from_length}
 use Rattle.std.proofs.lemmas.Result.{IfOk-weaker}

@@ -1,4 +1,4 @@
--- Where flows of the statements that are left come behind those so far, all statements are lowered; each call's measure
+-- If flows of the statements that are left come after those so far, all statements are lowered; each call's measure
 -- is what it still has to lower.
 use Rattle.std.proofs.Common.{◌≡◌, ◌≤◌, ◌+◌, ◌*◌, List, length, map}
 use Rattle.language.specs.Rest.{Code}

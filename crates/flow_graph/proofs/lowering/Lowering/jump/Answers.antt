@@ -1,4 +1,4 @@
--- Where the label is found, the run goes on at its point, else nowhere.
+-- If the label is found, the run continues at its point, else nowhere.
 use Rattle.std.proofs.Common.{option_map, sym, ◌∙◌, ap, subst, arith}
 use Rattle.std.specs.String.{string_bytes}
 use Rattle.std.proofs.lemmas.Result.{IfOk-weaker}

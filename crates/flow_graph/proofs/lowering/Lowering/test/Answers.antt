@@ -1,4 +1,4 @@
--- Where both points are one, nothing is tested.
+-- If both points are one, nothing is tested.
 use Rattle.std.proofs.lemmas.Result.{IfOk-weaker}
 use Rattle.language.specs.Resolve.{resolve_side}
 use Rattle.trees.specs.Trees.{rhs_of}

@@ -1,4 +1,4 @@
--- A slot behind the last is that of no bit.
+-- A slot after the last is that of no bit.
 use Rattle.std.proofs.Common.{◌∙◌, ◌==◌, Some, None, cond, sym, ap, arith}
 use Rattle.std.proofs.lemmas.Nat.Bits.{shr_and_one}
 use Rattle.flow_graph.specs.Bits.{bit_of}

@@ -1,4 +1,4 @@
--- writes for the targets left, behind those so far, are writes for all
+-- writes for the targets left, after those so far, are writes for all
 use Rattle.flow_graph.specs.Views.{scope_seen}
 use Rattle.flow_graph.proofs.Assignments.{Leads, kept_from}
 use Rattle.flow_graph.proofs.scope.Scope.assignment.Given as goal

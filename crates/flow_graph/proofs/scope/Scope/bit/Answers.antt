@@ -52,7 +52,7 @@ returns-then-declares-2-clause-bit g c =
     let yes = sym c.declares-else-declares.ensures ∙ c.if-declares-2.true in
     local_bit c.args.self.now c.args.x.now _ _ c.as_str-text.ensures.value no yes c.number_of_name-then-declares-2.ensures
 
--- a global's number, where it is declared
+-- a global's number, if it is declared
 pub returns-then-at-globals-clause-bit : goal.returns-then-at-globals-clause-bit
 returns-then-at-globals-clause-bit g c =
     let no = sym c.declares.ensures ∙ c.if-declares.false in

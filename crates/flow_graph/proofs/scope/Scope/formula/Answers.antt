@@ -1,4 +1,4 @@
--- Each form is worth what the expression is.
+-- Each form has the value of the expression.
 use Rattle.std.proofs.Common.{◌∙◌, ◌++◌, [], subst}
 use Rattle.std.specs.Prelude.{IfSome}
 use Rattle.std.proofs.lemmas.Bool.{false≢true}

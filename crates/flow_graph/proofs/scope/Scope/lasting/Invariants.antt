@@ -1,4 +1,4 @@
--- the bit is none of those so far
+-- the bit is not one of those so far
 use Rattle.std.proofs.Common.{◌≡◌, drop, map}
 use Rattle.trees.specs.Trees.{names_of}
 use Rattle.flow_graph.specs.Assignments.{is_among}

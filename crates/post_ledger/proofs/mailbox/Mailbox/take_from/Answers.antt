@@ -1,4 +1,4 @@
--- The oldest Post is taken: the next one from the place behind which none was taken.
+-- The oldest Post is taken: the next one from the place after which none was taken.
 use Rattle.std.proofs.Common.{◌≡◌, ◌<◌, ◌∷◌, ◌++◌, [], Some, length, sym, ap, ◌∙◌, subst, arith, take, slice_get}
 use Rattle.std.specs.Vec.{vec_capacity}
 use Rattle.post_ledger.specs.declared.event.Event.TheVariants.{Post, Take}

@@ -1,4 +1,4 @@
--- The message is posted behind those that were; or the post was refused, and nothing was.
+-- The message is posted after those that were; or the post was refused, and nothing was.
 use Rattle.std.proofs.Common.{◌∷◌, ◌++◌, [], refl, ap, ◌∙◌}
 use Rattle.procedure_worker.proofs.Works.{sent_dealing, sending_refused, match_err}
 use Rattle.procedure_worker.specs.Works.{start_of, IsDealing, IsStopped}

@@ -1,4 +1,4 @@
--- What stands with the rest rewritten behind it, and each call's measure: a statement holds fewer than its list.
+-- What is there, followed by the rest rewritten, and each call's measure: a statement holds fewer than its list.
 use Rattle.std.proofs.Common.{◌≡◌, ◌+◌, ◌*◌, drop}
 use Rattle.language.specs.Sequential.{statements}
 use Rattle.trees.specs.Trees.{items_of, deed_of, block_of, all_before}

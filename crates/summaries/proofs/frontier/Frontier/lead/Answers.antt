@@ -8,7 +8,7 @@ use Rattle.summaries.proofs.Growing.{ok_err, fault_of, grows_as, one_choice_more
 use Rattle.summaries.proofs.Reaching.{still_within, reaches_on, stays_on}
 use Rattle.summaries.proofs.frontier.Frontier.lead.Goals as goal
 
--- a choice with none behind it is the last
+-- a choice with none after it is the last
 is_last : (k last : ℕ) (more : Bool) → (IsTrue more ↔ (k < last)) → more ≡ false → last ≤ k
 is_last k last more tells none = go (nat_lt k last) refl
   where

@@ -28,7 +28,7 @@ module _ {K V : Type 0} (eq : K → K → Bool) (es fs : List (K × V)) (k : K) 
 module _ {K V A : Type 0} (eq : K → K → Bool) (laws : IsEquivalence eq) (es : List (K × Values V A)) (k : K)
     (old new : Values V A)
     (had : lookup (eq k) es ≡ Some old) (same : values_in new ≡ values_in old) where
-  -- each key has the items that it had, where those of k are the same
+  -- each key has the items that it had, if those of k are the same
   same_after : {X E : Type 0} (r : Result X E) (fs : List (K × Values V A))
       → ((j : K) → lookup (eq j) fs ≡ cond (eq k j) (Some new) (lookup (eq j) es))
       → OnErr r ((j : K) → items_of (lookup (eq j) fs) ≡ items_of (lookup (eq j) es))

@@ -1,4 +1,4 @@
--- The pair that is found has the bit; where none is found, no pair of the first procedure has it.
+-- The pair that is found has the bit; if none is found, no pair of the first procedure has it.
 use Rattle.std.proofs.Common.{◌≡◌, ◌≤◌, true, false, Some, slice_get, get_or, inl, inr, refl, sym, ap, ◌∙◌, subst, arith}
 use Rattle.std.proofs.Common.{true≢false}
 use Rattle.std.proofs.Math.Nat.{eq-or-lt_of_le}

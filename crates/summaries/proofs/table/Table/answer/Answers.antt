@@ -15,7 +15,7 @@ returns-in_err-message-clause-keeps g c =
     same_keeps g.S.PathSet.members c.args.self.now (record f { given = c.next.new.self }) refl c.next.ensures.sent refl
     c.requires.table c.requires.fault
 
--- the message comes behind those answered
+-- the message comes after those answered
 next : (g : Over) (c : In_ok-message g) →
     let old = c.args.self.now.found.given in
     take c.next.new.self.answered old.sent.items ≡ take old.answered old.sent.items ++ c.in_ok-message.message ∷ []

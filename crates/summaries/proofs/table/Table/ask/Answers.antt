@@ -59,7 +59,7 @@ known g c =
     (g.S.PathSet.members self.edges) (g.S.PathSet.members c.go_on.new.self.edges.now) self.found.pending.items
     c.go_on.new.self.pending.now.items) c.of.ensures
 
--- where it stood nowhere, its entry is not given
+-- if it stood nowhere, its entry is not given
 pub ask-requires : goal.ask-requires
 ask-requires g c =
     let self = c.args.self.now in

@@ -35,7 +35,7 @@ is_known g c = λ same.
     (inserted_known pair_eq c.new.result found c.insert_full.new.self.keys
     c.in_ok-at.new c.in_ok-at.ensures.added c.in_ok-at.ensures.keys same)
 
--- one that is new stands behind the others
+-- one that is new comes after the others
 is_last : (g : Over) (c : In_ok-at g) → c.in_ok-at.new ≡ true →
     c.insert_full.new.self.keys ≡ c.args.self.now.found.pairs.keys ++ pair c.args.edge.entry c.left-left.result ∷ []
 is_last g c = λ is.
@@ -58,7 +58,7 @@ tell_all-requires-clause-new g c =
     c.in_ok-exit.exit c.of-callers.result.now (is_new g at c.if-new.true) (is_last g at c.if-new.true)
     (stands g (goal.at.tell_all-requires-clause-new g c).In_ok-exit)
 
--- what is found where the pair is new
+-- what is found if the pair is new
 abbrev after : (g : Over) → In_ok-tell_all g → Found g.row.A.Denot
 after g c = record c.args.self.now.found { exits = c.add.new.self; pairs = c.insert_full.new.self; given = c.tell_all.new.given }
 

@@ -1,4 +1,4 @@
--- The rule holds of the new table.
+-- The rule holds for the new table.
 use Rattle.std.proofs.Common.{sym, subst}
 use Rattle.atomic_table.specs.Table.{opening}
 use Rattle.switchboard.specs.Knowing.{first_view}

@@ -1,4 +1,4 @@
--- The abort is the pass's own, where there was none before.
+-- The abort is the pass's own, if there was none before.
 use Rattle.switchboard.proofs.BoxDones.{abort_on, was_aborted}
 use Rattle.switchboard.proofs.lock_per_box.board.LockPerBoxBoard.abort.Goals as goal
 

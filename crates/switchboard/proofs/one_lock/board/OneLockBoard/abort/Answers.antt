@@ -1,4 +1,4 @@
--- The abort is the pass's own, where there was none before.
+-- The abort is the pass's own, if there was none before.
 use Rattle.std.proofs.Common.{◌≡◌, refl, sym, ◌∙◌}
 use Rattle.switchboard.specs.declared.calls.Abort.{Abort}
 use Rattle.switchboard.specs.Sights.{abort_of}

@@ -1,4 +1,4 @@
--- The pass answers what the state that it finds has for it.
+-- The pass returns what the state that it finds has for it.
 use Rattle.std.proofs.Common.{◌<◌}
 use Rattle.switchboard.specs.Books.{TakeAnswers}
 use Rattle.switchboard.proofs.Inside.{inside, to_lane, to_call, taking, takes_on, shows_taken}

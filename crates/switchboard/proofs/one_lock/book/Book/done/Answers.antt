@@ -1,4 +1,4 @@
--- The Take of the job stands and is not completed, so there is room for its Done.
+-- The Take of the job is there and is not completed, so there is room for its Done.
 use Rattle.std.proofs.Common.{refl, ◌<◌, ◌+◌, length, Contains, ap, arith}
 use Rattle.std.specs.Vec.{vec_capacity}
 use Rattle.post_ledger.specs.declared.entry.Entry.TheVariants.{Completed}

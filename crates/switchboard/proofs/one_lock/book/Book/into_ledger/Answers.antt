@@ -1,4 +1,4 @@
--- The histories are the parts of the order, which is closed where the numbers of Posts and Dones are the same.
+-- The histories are the parts of the order, which is closed if the numbers of Posts and Dones are the same.
 use Rattle.std.proofs.Common.{refl, subst, eq-eqb, nat_eq}
 use Rattle.std.proofs.lemmas.Bool.{eqb-true}
 use Rattle.std.specs.Prelude.{IsTrue, ◌↔◌}

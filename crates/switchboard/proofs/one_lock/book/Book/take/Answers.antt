@@ -1,4 +1,4 @@
--- The oldest Post is taken, where the order is not closed.
+-- The oldest Post is taken, if the order is not closed.
 use Rattle.std.proofs.Common.{◌≡◌, length, set, ap, ◌∙◌, subst, arith, refl, length-set}
 use Rattle.std.specs.Vec.{vec_capacity}
 use Rattle.std.specs.Prelude.{IsSome}
@@ -13,7 +13,7 @@ use Rattle.switchboard.proofs.one_lock.book.Book.take.Given as given
 use Rattle.switchboard.proofs.one_lock.book.Book.take.Goals as goal
 use Rattle.switchboard.proofs.one_lock.book.Book.take.Goals.{After-index_mut-mailbox}
 
--- the mailbox that is taken from is the one of its number, and has its part of the order
+-- the mailbox that is taken from is the one with its number, and has its part of the order
 its_box : (g : given.Over) (c : After-index_mut-mailbox g) →
     let i = c.self.inside in
     let h = c.index_mut-mailbox.result.now in
