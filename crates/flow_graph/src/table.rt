@@ -60,7 +60,7 @@ fn read(inputs: &mut ArrayVec<u8, MOST>, bit: u8) -> Option<[u64; WORDS]>
     }
 }
 
-/// These bits in order, so that neighbours are read together.
+/// These bits in order, so that neighbours are read together. The order makes no difference to what a table says.
 fn in_order(bits: &[u8]) -> ArrayVec<u8, MOST>
     ensures { AreBits result.items }
 {
