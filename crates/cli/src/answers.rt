@@ -33,7 +33,7 @@ use std::thread::Threads;
 use summaries::{Due, EdgeLimit};
 use switchboard::LockPerBox;
 
-/// The reply where a growth was refused: a fixed text, which takes no memory.
+/// The reply if an allocation was refused: a fixed text, which takes no memory.
 pub fn no_memory<A: Allocator>() -> Reply<A>
     ensures bytes { bytes_of result ≡ memory_line }
     ensures status { result.status ≡ 3 }
@@ -46,8 +46,8 @@ pub fn no_memory<A: Allocator>() -> Reply<A>
     }
 }
 
-/// The reply to a text that gets no verdict: the one for want of memory only where memory gave out over a line with an
-/// offset.
+/// The reply to a text that gets no verdict: the line of the refusal, or, if the line has an offset and memory ran out
+/// for it, the reply for lack of memory.
 fn refused<A: Allocator>(alloc: A, refusal: Refusal) -> Reply<A>
     ensures { TellsOrLacks refusal result }
 {
@@ -62,7 +62,7 @@ fn refused<A: Allocator>(alloc: A, refusal: Refusal) -> Reply<A>
     }
 }
 
-/// The reply where there is a report on a program: the verdict and, if asked for, what is counted. Only the counts take
+/// The reply for a report on a program: the verdict and, if they are asked for, the counts. Only the counts take
 /// memory.
 fn reported<N: Allocator, H: Allocator, A: Allocator>(
     alloc: A,
@@ -94,7 +94,7 @@ fn reported<N: Allocator, H: Allocator, A: Allocator>(
     }
 }
 
-/// The verdict, and behind it what is counted of each procedure.
+/// The verdict, followed by the counts of each procedure.
 fn with_counts<N: Allocator, H: Allocator, A: Allocator>(
     alloc: A,
     word: &str,
@@ -163,8 +163,8 @@ fn rewriting<A: Allocator + Copy>(alloc: A, text: &[u8], rounds: Rounds) -> Repl
 }
 
 /// `answer` with a board of the type `B`, whose memory is that of `heap`, and sets of path edges of the type `S`; all
-/// other memory is that of `alloc`. The gate is told of what the workers take and post. Whichever these are, and
-/// whatever the schedule of the workers, a reply with status 0 or 1 has the same bytes.
+/// other memory is that of `alloc`. The workers call the gate when they have taken or posted a message. Whichever these
+/// are, and whatever the schedule of the workers, a reply with status 0 or 1 has the same bytes.
 pub fn answer_with<R, B, S, K>(
     rt: &R,
     heap: B::Heap,
@@ -195,15 +195,14 @@ where
     }
 }
 
-/// The reply to a text. Where its status is 0 or 1, the text is that of a checked program. To `Check` no procedure of
-/// the program that it is rewritten to has then more path edges than the limit, and the reply is `unsafe` with status 1
-/// exactly where some run of at most K rounds fails an assert, and else `safe` with 0; with `stats` a line
-/// follows for each procedure of that program, which counts its entry valuations, its pairs and the messages due for
-/// it. To `Sequential` the bytes are the printed form of that program, and within the limits of texts they are read
-/// back as it. Where the status is 2, a fault of the text stands, and the bytes are its line. Where it is 3, there is
-/// no verdict: for want of memory, since some procedure has more path edges than the limit, since a thread was refused,
-/// or since a worker has used up its calls. A reply with status 2 or 3 tells the refusal that stands, and one with 0 or
-/// 1 tells none.
+/// The reply to a text. If its status is 0 or 1, the text is that of a checked program. For `Check`, no procedure of
+/// the program's rewriting then has more path edges than the limit, and the reply is `unsafe` with status 1 if and only
+/// if some run of at most K rounds fails an assert, and otherwise `safe` with 0; with `stats` a line follows for each
+/// procedure of the rewriting, which counts its entry valuations, its pairs and the messages due for it. For
+/// `Sequential`, the bytes are the printed form of the rewriting, with status 0, and within the limits of texts they
+/// are read back as it. If the status is 2, a fault of the text stands, and the bytes are its line. If it is 3, there
+/// is no verdict: memory ran out, some procedure has more path edges than the limit, a thread was refused, or a worker
+/// used up its calls. A reply with status 2 or 3 has the refusal that stands, and one with 0 or 1 has none.
 pub fn answer<R>(rt: &R, text: &[u8], order: Order) -> Reply<R::A>
 where
     R: Alloc + Wait + Threads + Sync,

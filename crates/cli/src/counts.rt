@@ -1,4 +1,4 @@
-//! What is counted of the procedures of a program's rewriting, line by line.
+//! The counts of the procedures of a program's rewriting, a line for each.
 
 ghost use Rattle.std.specs.Prelude.{◌≡◌, ◌≤◌, ◌<◌, ◌++◌, OnOk, Some, count_by, length, slice_get};
 ghost use Rattle.std.specs.String.{string_bytes};
@@ -51,8 +51,8 @@ fn push_line<A: Allocator>(
 }
 
 /// Writes a line for each procedure of a program's rewriting, in the order of their numbers: its name, how many entry
-/// valuations and pairs the summaries have of it, and how many messages were taken from its mailbox. At an error memory
-/// gave out, and a part may be written.
+/// valuations and pairs the summaries have of it, and how many messages were taken from its mailbox. An error means
+/// that memory ran out; a part may have been written.
 pub(crate) fn push_counts<A: Allocator, N: Allocator, S: Allocator, H: Allocator>(
     lines: &mut String<A>,
     program: &Program<N>,

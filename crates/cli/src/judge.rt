@@ -1,4 +1,4 @@
-//! What comes of a checked program: a report, or why there is none.
+//! The result for a checked program: a report, or why there is none.
 
 ghost use Rattle.std.specs.Prelude.{ℕ, List, Some, IfErr, IfOk};
 ghost use Rattle.syntax.specs.Text.{Text};
@@ -18,7 +18,7 @@ use std::sync::Wait;
 use std::thread::Threads;
 use summaries::{EdgeLimit, NoVerdict};
 
-/// The refusal that a cause is told as: of a program that is too wide with its first procedure that is.
+/// The refusal for a cause: if the rewriting is too wide, with the first procedure that is.
 fn refusal_of<N: Allocator, A: Allocator + Copy>(
     alloc: &A,
     program: &Checked<N>,
@@ -36,8 +36,8 @@ fn refusal_of<N: Allocator, A: Allocator + Copy>(
     }
 }
 
-/// The report on a checked program for K rounds, and at most `limit` path edges a procedure: the workers have the
-/// board `B`, keep path edges in sets of the type `S`, and tell the gate of what they take and post.
+/// The report on a checked program for K rounds, with at most `edges` path edges per procedure: the workers have the
+/// board `B`, keep path edges in sets of the type `S`, and call the gate when they have taken or posted a message.
 pub(crate) fn judge<R, B, S, K, N>(
     rt: &R,
     heap: B::Heap,

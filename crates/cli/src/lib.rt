@@ -1,5 +1,5 @@
-//! The program bebopk, but for what the system hands it: from bytes to a reply, from a reader to the standard streams,
-//! and from the words of the command line to a status.
+//! The program bebopk, except for what the system hands to it: from bytes to a reply, from a reader to the standard
+//! streams, and from the words of the command line to a status.
 #![tactic(auto)]
 
 mod answers;

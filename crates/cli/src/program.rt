@@ -1,4 +1,4 @@
-//! The program, but for what the system hands it: the words, the files and the standard streams.
+//! The program, except for what the system hands to it: the words, the files and the standard streams.
 
 ghost use Rattle.std.specs.Prelude.{◌≤◌, map};
 ghost use Rattle.std.specs.Fn.{FnOnceReturnsAt};
@@ -19,7 +19,7 @@ use std::rt::Env;
 use std::sync::Wait;
 use std::thread::Threads;
 
-/// Why words were not handed over: one is no UTF-8, or memory gave out.
+/// Why the system did not pass on the words: one is not UTF-8, or memory ran out.
 fn fault_of(alloc: Global, error: &io::Error) -> LineFault
     ensures { AreUnread (error_kind error.now) result }
 {
@@ -32,8 +32,8 @@ fn fault_of(alloc: Global, error: &io::Error) -> LineFault
     }
 }
 
-/// The program: does what the words of the command line ask for, with the file that `opener` gives for the path among
-/// them, and ends with the status of that.
+/// The program: does what the words of the command line ask for, with the file that `opener` returns for the path among
+/// them, and returns the exit status.
 pub fn ended<X, G, F, O, W, L>(rt: &X, words: G, opener: O, writer: &mut W, log: &mut L) -> ExitCode
 where
     X: AllocGlobal + Wait + Threads + Sync,
@@ -61,7 +61,7 @@ where
     }
 }
 
-/// The words of the command line that the system hands over, the program's own name first.
+/// The words of the command line, from the system, the program's own name first.
 pub fn words<R: Env + AllocGlobal>(rt: &R) -> io::Result<Vec<String>> {
     Ok(env::args(rt)?.collect(rt.alloc())?)
 }

@@ -11,14 +11,14 @@ use std::borrow::CowSlice;
 pub struct Reply<A: Allocator> {
     pub bytes: CowSlice<'static, u8, A>,
     pub status: u8,
-    /// Why the text got no verdict, or was not rewritten; `None` where it did.
+    /// Why the text got no verdict, or was not rewritten; `None` if it got one or was rewritten.
     pub refusal: Option<Refusal>,
 }
 
 impl<A: Allocator> Reply<A> {
     ghost use Rattle.cli.specs.Written.{bytes_of};
 
-    /// A reply to a text that is not refused, whose words are fixed: it takes no memory.
+    /// A reply with a fixed text, and no refusal: it takes no memory.
     pub(crate) fn fixed(text: &'static str, status: u8) -> Self
         ensures bytes { bytes_of result ≡ text.entry.now }
         ensures status { result.status ≡ status }

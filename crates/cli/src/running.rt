@@ -13,8 +13,8 @@ use std::io::{self, Read};
 use std::sync::Wait;
 use std::thread::Threads;
 
-/// Answers words that give no order, and gives the status: help on `writer` with 0; `refused: line` with 2, and the
-/// reason on `log`; for want of memory 3. Where a write to `writer` fails, the status is 3.
+/// Replies to words that give no order, and returns the status: help or the version on `writer` with 0; `refused: line`
+/// with 2, and the reason on `log`; the reply for lack of memory with 3. If a write to `writer` fails, the status is 3.
 pub fn decline<W: Stream, L: Stream>(fault: &LineFault, writer: &mut W, log: &mut L) -> u8
     ensures { Declines fault.now (streams (W.held writer.old) (L.held log.old))
         (streams (W.held writer.new) (L.held log.new)) result }
@@ -30,8 +30,9 @@ pub fn decline<W: Stream, L: Stream>(fault: &LineFault, writer: &mut W, log: &mu
 }
 
 /// Does what the words of the command line ask for, the program's own name first. The file that they name is what
-/// `opener` gives for its path. The reply to it goes to `writer`, and why there is no verdict to `log`; the status is
-/// that of `serve` or of `decline`.
+/// `opener` returns for its path. The reply to it goes to `writer`, and the reason why there is no verdict to `log`.
+/// The status is that of `decline` if the words give no order, and otherwise that of `serve`, for which a file that is
+/// not opened counts as one that can't be read.
 pub fn run<X, F, O, W, L>(rt: &X, words: &[String], opener: O, writer: &mut W, log: &mut L) -> u8
 where
     X: AllocGlobal + Wait + Threads + Sync,

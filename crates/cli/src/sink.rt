@@ -6,16 +6,16 @@ ghost use Rattle.cli.specs.Streams.{KnownStream, Logs, StreamTakes, Writes};
 
 use std::io::{ErrorKind, Write};
 
-/// A stream that is written to, as the standard output: it takes bytes one behind the other, until a write fails.
+/// A stream that is written to, such as the standard output: it takes bytes one after the other, until a write fails.
 pub trait Stream {
     ghost held: { Self → KnownStream };
 
-    /// Writes the bytes, and tells whether the stream took all of them, as it does but where a write fails.
+    /// Writes the bytes, and returns whether the stream took all of them, as it does unless a write fails.
     fn put(&mut self, bytes: &[u8]) -> bool
         ensures { StreamTakes (held self.old) (held self.new) bytes.now result };
 }
 
-/// Writes the bytes, and gives how many of them the writer took: all of them but after a failed write.
+/// Writes the bytes, and returns how many of them the writer took: all, unless a write fails or takes none.
 fn taken_of<W: Write>(writer: &mut W, bytes: &[u8]) -> usize
     ensures within { result ≤ length bytes.now }
     ensures took { Appends (W.contents writer.old) (W.contents writer.new) (take result bytes.now) }
@@ -38,7 +38,7 @@ fn taken_of<W: Write>(writer: &mut W, bytes: &[u8]) -> usize
     at
 }
 
-/// A writer does not tell whether a write to it has failed, so of each it may be.
+/// A writer does not say whether a write to it has failed, so for every writer one may have.
 impl<W: Write> Stream for W {
     ghost held = { λ w. record { bytes = W.contents w; may_have_failed = true } };
 
@@ -47,14 +47,14 @@ impl<W: Write> Stream for W {
     }
 }
 
-/// Writes the bytes of a reply, and gives its status; 3 where a write fails.
+/// Writes the bytes of a reply, and returns its status, or 3 if a write fails.
 pub(crate) fn say<W: Stream>(writer: &mut W, bytes: &[u8], status: u8) -> u8
     ensures { Writes (W.held writer.old) (W.held writer.new) bytes.now status result }
 {
     if writer.put(bytes) { status } else { 3 }
 }
 
-/// Writes a message. Where a write fails, a beginning of it is written, and nothing else comes of that.
+/// Writes a message. If a write fails, only a beginning of it is written, and that has no other effect.
 pub(crate) fn tell<L: Stream>(log: &mut L, message: &[u8])
     ensures { Logs (L.held log.old) (L.held log.new) message.now }
 {

@@ -1,4 +1,4 @@
-//! The bytes of a reader, up to what a text may have and one more.
+//! The bytes of a reader, up to one more than a text may have.
 
 ghost use Rattle.std.specs.Prelude.{◌≡◌, ◌≤◌, OnErr, IfOk, length, take, vec_items};
 ghost use Rattle.cli.specs.Served.{GavePart, Gave, most_read};
@@ -7,10 +7,10 @@ use std::alloc::Allocator;
 use std::io::{self, ErrorKind, Read};
 use tokens::MOST_BYTES;
 
-/// One byte more than a text may have, so that a longer one is seen to be longer.
+/// One byte more than a text may have, so that a longer one is recognized.
 const MOST: usize = MOST_BYTES + 1;
 
-/// Reads to the end, or until no room is left, and gives how many bytes were read.
+/// Reads to the end, or until no room is left, and returns how many bytes were read.
 fn fill<R: Read>(reader: &mut R, room: &mut [u8]) -> io::Result<usize>
     ensures within { IfOk result (λ n. n ≤ length room.new) }
     ensures gave { IfOk result
@@ -40,7 +40,7 @@ fn fill<R: Read>(reader: &mut R, room: &mut [u8]) -> io::Result<usize>
     Ok(filled)
 }
 
-/// Reads to the end, or as much as shows that the bytes are no text.
+/// Reads to the end, or as many bytes as show that they are too many for a text.
 pub(crate) fn text_of<R: Read, A: Allocator>(alloc: A, reader: &mut R) -> io::Result<Vec<u8, A>>
     ensures gave { IfOk result
         (λ text. Gave most_read (R.remaining reader.old) (R.remaining reader.new)

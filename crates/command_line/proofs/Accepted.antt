@@ -1,4 +1,4 @@
--- What the command line takes is an order.
+-- Words that the command line accepts give an order.
 use Rattle.std.proofs.Common.{◌&&◌, ◌==◌, ◌||◌, ◌∙◌, ◌∷◌, ◌≡◌, ◌≤◌, [], ap, arith, Bool, codes, cond, drop, false}
 use Rattle.std.proofs.Common.{find, fold, inl, inr, is_some, List, lit<, None, not, Option, pos, refl, Some, subst}
 use Rattle.std.proofs.Common.{suc, sym, true, unwrap_or, zero, ℕ}
@@ -40,12 +40,12 @@ use Rattle.orders.specs.declared.order.Order.{Order}
 use Rattle.orders.specs.declared.order.Order.TheVariants.{Check, Sequential}
 use Rattle.command_line.proofs.Walks.{AreFit, AreUsable, defaulted, given_row, kept_by_defaults, level_fit, none, row_read}
 
--- the word is no call for help about a command
+-- the step does not enter the command `help`
 abbrev IsNoHelp : Step → Type 0
 IsNoHelp (subcommand name) = bytes_eq name (codes "help") ≡ false
 IsNoHelp _ = Unit {0}
 
--- and the walk has met none
+-- the walk did not stop at the command `help`
 abbrev StopsAtNoHelp : Option (Text × List Text) → Type 0
 StopsAtNoHelp None = Unit {0}
 StopsAtNoHelp (Some p) = bytes_eq p.0 (codes "help") ≡ false
@@ -140,7 +140,7 @@ without_minus-cond (x ∷ xs) = go (x == 45)
     go true = refl
     go false = refl
 
--- a text that passed a range above 0 reads as a number in it
+-- a text that passed the parser of a range from 1 reads as a number in that range
 in_range : (high : ℕ) (t : Text) → IsSignedIn (pos 1) (pos high) t
     → (n : ℕ) × (1 ≤ n) × (n ≤ high) × IsNumeral 10 (without_leading_plus (without_minus t))
     × (digits_value 10 (without_leading_plus (without_minus t)) ≡ n)
@@ -172,7 +172,7 @@ passes i p t e = accepts-Accepts i p t (go (accepts i p t) e)
     go true e = refl
     go false e = cc
 
--- a text that passed the parser of an option without a value says whether it was given
+-- a text that passed the parser of an option without a value says whether the option was given
 as_flag : (t : Text) → (bytes_eq t (codes "true") || bytes_eq t (codes "false")) ≡ true → (b : Bool) × (t ≡ flag_text b)
 as_flag t e = go (bytes_eq t (codes "true")) refl e
   where
@@ -200,7 +200,7 @@ ready = refl
 abbrev rule : Shape → ℕ → Rule
 rule s i = slice_index_or s.rules i file
 
--- a number from 1 to the greatest is a number of rounds, and one from 1 to the greatest limit a limit
+-- a number from 1 to the most rounds is a number of rounds, and one from 1 to the greatest limit is a limit
 as_rounds : (n : ℕ) → 1 ≤ n → n ≤ most_rounds → (r : Rounds) × (n ≡ count_of r)
 as_rounds zero low high = absurd (omega arith)
 as_rounds (suc k) low high = (record { last = k; few = omega arith }, refl)
@@ -212,7 +212,7 @@ as_edges n low high = (record { edges = n; some = low; few = high }, refl)
 abbrev IsOrder : Text × List Row → Type 0
 IsOrder command = (order : Order) × (path : Text) × Orders command order path
 
--- where nothing that is required is missing, it was given
+-- if no required argument is missing, the one that is required was given
 wants : (b : Bool) → check_kinds false false (not b || false) ≡ [] → b ≡ true
 wants true e = refl
 wants false e = cc
@@ -246,7 +246,7 @@ sequential_usable = (
   ),
 )
 
--- a row of an option that takes a number from 1 to the greatest one
+-- a row of an option that takes a number from 1 to the greatest one reads as such a number
 number_read : (c : List Rule) (rows : List Row) (id : Text) (a : Rule) (most : ℕ) → AreFit c rows
     → arg_by_id c id ≡ Some a
     → a.parser ≡ Some (Signed (pos 1) (pos most)) → has_row id rows ≡ true
@@ -261,7 +261,7 @@ number_read c rows id a most fit is parser has =
     ∙ ap (λ (p : ValueParser). Some (read_as (reading_of p) v)) by in
     (n.0, n.1, n.2, (without_minus v, one, n.3, n.4))
 
--- the rows of a command without a fault are an order
+-- the rows of a command without a fault give an order
 check_rows : (rows : List Row) → AreFit check_ready.rules (fold with_default rows check_ready.rules)
     → check_fault check_ready (fold with_default rows check_ready.rules) false ≡ []
     → IsOrder (codes "check", fold with_default rows check_ready.rules)
@@ -309,7 +309,7 @@ sequential_rows rows fit fault =
     let rounds = as_rounds k.0 k.1 k.2 in
     (Sequential rounds.0, path.0, ((refl, subst (ReadsNumber all (codes "rounds")) rounds.1 k.3), path.1))
 
--- the command that was entered, one of two, where the third is not
+-- what holds for the first two of three commands holds for the command that was entered, if that is not the third
 entered_one : (a : App) (x y z : Shape) (R : Text × List Row → Type 0) → a.subs ≡ x ∷ y ∷ z ∷ []
     → ((ws : List Text) → level_fault x [] nothing_held ws false [] ≡ [] → R (rows_at x ws))
     → ((ws : List Text) → level_fault y [] nothing_held ws false [] ≡ [] → R (rows_at y ws))
@@ -349,13 +349,13 @@ not_help t other = go (bytes_eq (codes "help") t) refl
         (sym ((bytes_eq-Decides t (codes "help")).1 (sym ((bytes_eq-Decides (codes "help") t).0 is))) ∙ other))
     go false is = refl
 
--- where no command is missing, one was entered
+-- if no command is missing, one was entered
 needs : (x z has : Bool) → check_kinds x (not has && true) z ≡ [] → has ≡ true
 needs x z true e = refl
 needs true z false e = cc
 needs false z false e = cc
 
--- the words that the command line takes are an order on a file
+-- words that the command line accepts give an order on a file
 pub accepted : (words : List Text) → fault_of bebopk words ≡ []
     → (order : Order) × (path : Text) × GivesOrder (subcommand_of bebopk words) order path
 accepted words e =

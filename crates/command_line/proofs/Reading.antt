@@ -1,4 +1,4 @@
--- What is read of the matches of a command.
+-- What is read from the matches of a command.
 use Rattle.std.proofs.Common.{◌≡◌, ◌∙◌, ◌<◌, ◌^◌, ℕ, Bool, true, false, List, Option, None, Some, Result, Ok, Err, arith}
 use Rattle.std.proofs.Common.{option_map, refl, sym, ap, ap₂, subst, codes}
 use Rattle.std.specs.Box.{box_value}
@@ -16,7 +16,7 @@ use Rattle.orders.specs.declared.order.Order.{Order}
 use Rattle.orders.specs.declared.order.Order.TheVariants.{Check, Sequential}
 use Rattle.path_sets.specs.EdgeLimits.{most_of}
 
--- a number that is got of an option is what its text reads as
+-- a number that is returned for an option is what its text reads as
 pub reads : {E : Type 0} (gives : List ℕ → Result ℕ E → Type 0) (bits : ℕ)
     → ((t : List ℕ) (n : ℕ) → gives t (Ok n) → ParsesUnsigned {E = E} bits 10 t (Ok n))
     → (f : Found) (id : Text) (r : Option ℕ) (n : ℕ) → r ≡ Some n → (one_text f id ≡ None → r ≡ None)
@@ -44,7 +44,7 @@ met : (m : ArgMatches) (n : Text) (r : List Row) → subcommand_name_of m ≡ So
 met m n r e h = paired (λ b. (out-SubCommand (box_value b)).name.now)
     (λ b. rows_of (found_of (out-SubCommand (box_value b)).matches)) (out-ArgMatches m).subcommand n r e h
 
--- the same, where it is got from the matches
+-- the same for a command that the matches return
 pub is_met : {P : Type 0} (name : P → Text) (found : P → Found) (m : ArgMatches) (o : Option P) (p : P) → o ≡ Some p
     → option_map name o ≡ subcommand_name_of m
     → option_map (λ q. rows_of (found q)) o ≡ option_map (λ (q : Text × List Row). q.1) (subcommand_rows_of m)
@@ -53,12 +53,12 @@ is_met name found m o p was names rows =
     met m (name p) (rows_of (found p)) (sym names ∙ ap (option_map name) was)
     (sym rows ∙ ap (option_map (λ q. rows_of (found q))) was)
 
--- the text of the value that is got of an option without one
+-- a text that parses as a truth value is the text of that value
 same_flag : (t : Text) (b : Bool) → MatchBool b (t ≡ true_text) (t ≡ false_text) → t ≡ flag_text b
 same_flag t true e = e
 same_flag t false e = e
 
--- an option without a value that is got is given, or is not
+-- what is returned for an option without a value is whether it was given
 pub is_given : (E : Type 0) (f : Found) (id : Text) (r : Option Bool) (b : Bool) → r ≡ Some b → (one_text f id ≡ None → r ≡ None)
     → ((t : List ℕ) → one_text f id ≡ Some t → ReadsOne {E = E} ParsesBool t r) → IsGiven (rows_of f) id b
 is_given E f id r b some none value = go (one_text f id) refl
@@ -67,7 +67,7 @@ is_given E f id r b some none value = go (one_text f id) refl
     go None e = absurd (none-some b (sym (none e) ∙ some))
     go (Some t) e = sym (one_text-rows f id) ∙ e ∙ ap Some (same_flag t b (subst (ReadsOne {E = E} ParsesBool t) some (value t e)))
 
--- an order of the name, the numbers and the option without a value that were found
+-- an order with the name, the numbers and the option without a value that were found is what the command gives
 pub gives : (name : Text) (rows : List Row) (k : ℕ) (n : Option ℕ) (s : Option Bool) (o : Order) → IsNamed name k n s o
     → ReadsNumber rows (codes "rounds") k → ((e : ℕ) → n ≡ Some e → ReadsNumber rows (codes "edges") e)
     → ((b : Bool) → s ≡ Some b → IsGiven rows (codes "stats") b) → CommandGives name rows o
@@ -75,7 +75,7 @@ gives name rows k n s (Check r e b) h rounds edges stats =
     (h.0, subst (ReadsNumber rows (codes "rounds")) (sym h.1) rounds, edges (most_of e) h.2, stats b h.3)
 gives name rows k n s (Sequential r) h rounds edges stats = (h.0, subst (ReadsNumber rows (codes "rounds")) (sym h.1) rounds)
 
--- what an option reads as is the number that is got of it, where that fits
+-- the number that an option reads as is returned for it, if it fits the width
 pub number : {E : Type 0} (gives : List ℕ → Result ℕ E → Type 0) (bits : ℕ)
     → ((t : List ℕ) (r : Result ℕ E) → gives t r → ParsesUnsigned {E = E} bits 10 t r)
     → (f : Found) (id : Text) (r : Option ℕ) (n : ℕ) → n < 2 ^ bits → ReadsNumber (rows_of f) id n
@@ -86,7 +86,7 @@ number gives bits parses f id r n fits h value = go r (value h.0 (one_text-rows 
     go (Some v) g = ap Some ((parses h.0 (Ok v) g).1 ∙ h.3)
     go None g = absurd (parses h.0 (Err g.0) g.1 (h.2, subst (λ k. k < 2 ^ bits) (sym h.3) fits))
 
--- an option without a value that was given, or was not, is got so
+-- whether an option without a value was given is what is returned for it
 pub flag : (E : Type 0) (f : Found) (id : Text) (r : Option Bool) (b : Bool) → IsGiven (rows_of f) id b
     → ((t : List ℕ) → one_text f id ≡ Some t → ReadsOne {E = E} ParsesBool t r) → r ≡ Some b
 flag E f id r b h value = go b r (value (flag_text b) (one_text-rows f id ∙ h))
@@ -105,7 +105,7 @@ pub has_rounds : (name : Text) (rows : List Row) (o : Order) → CommandGives na
 has_rounds name rows (Check r e b) h = (count_of r, omega (arith, r.few), h.1)
 has_rounds name rows (Sequential r) h = (count_of r, omega (arith, r.few), h.1)
 
--- an order that was found is named by what is got of its options
+-- an order that was found has the name of its command and what is returned for its options
 pub is_named : (name : Text) (rows : List Row) (k : ℕ) (n : Option ℕ) (s : Option Bool) (o : Order) → CommandGives name rows o
     → ((j : ℕ) → j < 2 ^ 8 → ReadsNumber rows (codes "rounds") j → k ≡ j)
     → ((e : ℕ) → e < 2 ^ 32 → ReadsNumber rows (codes "edges") e → n ≡ Some e)

@@ -1,4 +1,4 @@
--- What a parse finds passes the parsers of the arguments, where the words have no fault.
+-- What a parse finds passes the parsers of its arguments, if the words have no fault.
 use Rattle.std.proofs.Common.{◌&&◌, ◌++◌, ◌<◌, ◌==◌, ◌||◌, ◌∙◌, ◌∷◌, ◌≡◌, ◌⊎◌, [], ap, arith, Bool, cond, drop, false}
 use Rattle.std.proofs.Common.{find, fold, inl, inr, is_some, length, List, None, Option, refl, Some, subst, suc, sym}
 use Rattle.std.proofs.Common.{true, zero, ℕ}
@@ -33,12 +33,12 @@ use Rattle.clap.specs.declared.parser.matches.ValueSource.TheVariants.{CommandLi
 use Rattle.clap.specs.declared.builder.value_parser.Reading.{Reading}
 use Rattle.clap.specs.declared.builder.value_parser.ValueParser.{ValueParser}
 
--- neither has a fault
+-- if two lists of faults that `or_else` joins have none, each has none
 pub none : (a b : Kinds) → or_else a b ≡ [] → (a ≡ []) × (b ≡ [])
 none [] b e = (refl, e)
 none (x ∷ xs) b e = cc
 
--- the values are some, pass the parser of the argument with this id, and are read as it says
+-- there are values, they pass the parser of the argument with this id, and they are read as it says
 pub record Fits (c : List Rule) (id : Text) (values : List Text) (how : Reading) : Type 0 where
   pub rule : Rule
   pub own : arg_by_id c id ≡ Some rule
@@ -46,12 +46,12 @@ pub record Fits (c : List Rule) (id : Text) (values : List Text) (how : Reading)
   pub pass : values_fault rule values ≡ []
   pub read : how ≡ reading_by rule
 
--- each row does
+-- each row fits its argument
 abbrev pub AreFit : List Rule → List Row → Type 0
 AreFit c [] = Unit {0}
 AreFit c (r ∷ rs) = Fits c r.id r.values r.reading × AreFit c rs
 
--- a use of the argument that has no fault has a value
+-- a use of the argument without a fault has a value
 abbrev HasValue : Rule → Type 0
 HasValue a = (0 < (unwrap_or_range a.range).start_inclusive) ⊎ (0 < length a.missing)
 
@@ -85,7 +85,7 @@ longer [] ys h = absurd (omega arith)
 longer (x ∷ xs) ys h = omega arith
 
 module _ (c : List Rule) where
-  -- rows stay fit where such values are written
+  -- rows stay fit if fitting values are written to them
   pub with_fit : (id : Text) (how : Reading) (s : ValueSource) (vs : List Text) (rows : List Row) → Fits c id vs how
       → AreFit c rows → AreFit c (with_values id how s vs rows)
   with_fit id how s vs [] f h = (f, tt)
@@ -359,7 +359,7 @@ defaults_fit c (a ∷ rest) rows all e g =
         with_fit c a.id (reading_by a) DefaultValue (v ∷ vs) rows
         (record { rule = a; own = all.0.own; some = omega arith; pass = pass; read = refl }) g
 
--- what a level finds is fit, where it has no fault
+-- the rows that a level finds are fit, if it has no fault
 pub level_fit : (s : Shape) (names : Names) (words : List Text) (has : Bool) (below : Kinds) → AreUsable s.rules s.rules
     → level_fault s names nothing_held words has below ≡ []
     → AreFit s.rules (finished s.rules (walk s.rules names nothing_held words).held)
@@ -374,7 +374,7 @@ level_fit s names words has below all e =
     let rows = settled_fit s.rules s.args_override_self all end r.0 walked_fit in
     (defaults_fit s.rules s.rules (settled s.rules end).rows all t.0 rows, q.0, t.1)
 
--- a row that is there gives a value that passes its argument's parser
+-- a row that exists has a value that passes its argument's parser
 pub row_read : (c : List Rule) (rows : List Row) (id : Text) (a : Rule) → AreFit c rows → arg_by_id c id ≡ Some a
     → has_row id rows ≡ true
     → (v : Text) × (first_of id rows ≡ Some v) × (one_of id rows ≡ Some (read_as (reading_by a) v))
@@ -436,7 +436,7 @@ kept_by_default other rows a has = go (has_row a.id rows) a.defaults
     go false [] = has
     go false (v ∷ vs) = kept other a.id (reading_by a) DefaultValue (v ∷ vs) rows has
 
--- a row stays there while the others get their defaults
+-- a row stays while arguments without one get their defaults
 pub kept_by_defaults : (other : Text) (xs : List Rule) (rows : List Row) → has_row other rows ≡ true
     → has_row other (fold with_default rows xs) ≡ true
 kept_by_defaults other [] rows has = has

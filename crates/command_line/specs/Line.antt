@@ -96,14 +96,14 @@ Orders command order path = CommandGives command.0 command.1 order × (first_of 
 abbrev pub GivesOrder : Option (Text × List Row) → Order → Text → Type 0
 GivesOrder found order path = (command : Text × List Row) × (found ≡ Some command) × Orders command order path
 
--- The command line takes the words, the program's own name first, and gives this order on this file for them.
+-- The command line accepts the words, the program's own name first, and gives this order on this file for them.
 pub record AskFor (words : List Text) (order : Order) (path : Text) : Type 0 where
   pub taken : fault_of bebopk words ≡ []
   pub command : Text × List Row
   pub met : subcommand_of bebopk words ≡ Some command
   pub orders : Orders command order path
 
--- What is said of this kind is no fault of the words.
+-- An error of this kind only shows help or the version.
 abbrev pub IsShown : ErrorKind → Type 0
 IsShown error_kind = (error_kind ≡ kind.DisplayHelp) ⊎ (error_kind ≡ kind.DisplayVersion)
 
@@ -113,8 +113,8 @@ IsOfKind error_kind (Help text) = IsShown error_kind × (error_kind ≢ kind.Out
 IsOfKind error_kind (Refused text) = ¬ IsShown error_kind × (error_kind ≢ kind.OutOfMemory)
 IsOfKind error_kind Memory = ⊤
 
--- The command line does not take the words: help is asked for, or they have another fault. Memory may run out at any
--- words.
+-- The command line does not accept the words: they ask for help or for the version, or have another fault. Memory may
+-- run out for any words.
 abbrev pub RefusesWords : List Text → LineFault → Type 0
 RefusesWords words (Help text) = (k : ErrorKind) × IsAmong k (fault_of bebopk words) × IsShown k
 RefusesWords words (Refused text) = (k : ErrorKind) × IsAmong k (fault_of bebopk words) × ¬ IsShown k

@@ -5,8 +5,8 @@
 pub enum LineFault {
     /// Help or the version was asked for: its text.
     Help(String),
-    /// The words are refused: why.
+    /// The words are refused: the reason.
     Refused(String),
-    /// A growth was refused.
+    /// An allocation was refused.
     Memory,
 }

@@ -112,7 +112,7 @@ fn command<'a>(alloc: Global) -> Result<Command<'a>, AllocError>
         .subcommand(sequential)
 }
 
-/// The fault that an error of `clap` is.
+/// The fault for an error of `clap`.
 fn fault_of(alloc: Global, error: &Error) -> LineFault
     ensures { line.IsOfKind (kind_of error.now) result }
 {
@@ -128,7 +128,7 @@ fn fault_of(alloc: Global, error: &Error) -> LineFault
     }
 }
 
-/// The order of this name with these numbers, and with `--stats` or without, if there is one.
+/// The order of the command with this name, with these numbers, and with or without `--stats`, if there is one.
 fn order_of(name: &str, rounds: u8, edges: Option<u32>, stats: Option<bool>) -> Option<Order>
     ensures { MatchOption result
         ((order : Order) → ¬ line.IsNamed name.now rounds edges stats order)
@@ -150,7 +150,7 @@ fn order_of(name: &str, rounds: u8, edges: Option<u32>, stats: Option<bool>) -> 
     }
 }
 
-/// The order and the file of what was found for the words, if it is an order.
+/// The order and the file that the matches give, if they give an order.
 fn asked<'a>(matches: &ArgMatches<'a>) -> Option<(Order, &'a str)>
     ensures { let found = subcommand_rows_of matches.now in
         MatchOption result ((order : Order) (path : Text) → ¬ line.GivesOrder found order path)
@@ -165,8 +165,8 @@ fn asked<'a>(matches: &ArgMatches<'a>) -> Option<(Order, &'a str)>
     Some((order, file))
 }
 
-/// The order and the file that the command line gives for the words, the program's own name first, or why it gives
-/// none.
+/// The order and the file that the command line gives for the words, the program's own name first, or the reason why it
+/// gives none.
 pub fn order(alloc: Global, words: &[String]) -> Result<(Order, String), LineFault>
     ensures asks { IfOk result
         (λ o. line.AskFor (map string_bytes words.now) o.0 (string_bytes o.1)) }

@@ -1,4 +1,4 @@
--- What was found for the words is an order.
+-- What was found for words that are accepted is an order on a file.
 use Rattle.command_line.proofs.Accepted.{accepted}
 use Rattle.command_line.proofs.laws.what_is_taken_is_an_order.Goals as goal
 

@@ -1,4 +1,4 @@
--- What is found for the words is the order, and where there is none, no order is found for them.
+-- An order that is returned is what the matches give, and if none is returned, they give none.
 use Rattle.std.proofs.Common.{◌≡◌, ◌∙◌, ℕ, Bool, List, Some, Result, option_map, sym, ap, codes}
 use Rattle.std.specs.Str.Parse.{ParsesUnsigned, ExplainsUnsignedError, HasUnsignedDigitsIfOk}
 use Rattle.std.specs.declared.num.ParseIntError.{ParseIntError}

@@ -1,4 +1,4 @@
--- The order is that of the command line that is written down.
+-- The order is the one that the command line that is written down gives for the words.
 use Rattle.std.proofs.Common.{◌≡◌, ◌∙◌, ◌⊎◌, List, Some, map, sym, ap, subst, inl, inr}
 use Rattle.std.specs.String.{string_bytes}
 use Rattle.clap.specs.Words.{App, IsAmong, Text, app_of, fault_of, is_simple, is_simple_and_free, kind_of, subcommand_of}
