@@ -15,6 +15,7 @@
 //! | `all pairs, each allocation: WORDS \| TEXT` | one of these over each pair of board and set |
 //! | `message: WORDS \| TEXT` | the reply, and what standard error tells of it, where each allocation refused leaves that or an error |
 //! | `message without memory: WORDS \| TEXT` | the same, where the first allocation of the answer is refused |
+//! | `message of the edge limit: WORDS \| TEXT` | what standard error tells where a procedure passes the limit of the words |
 //!
 //! A line that begins with `#` is a heading, and has no answer. A text may use the shorthand of `text.rt`.
 #![tactic(auto)]
