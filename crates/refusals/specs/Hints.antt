@@ -1,8 +1,8 @@
 -- What helps where a text does not go on as a program does: each hint is a rule of the language, chosen by the tokens
 -- before the place and by what stands there.
-use Rattle.std.specs.Prelude.{◌≡◌, ℕ, ◌-◌, ◌<◌, ◌⊎◌, Bool, false, ◌&&◌, ◌||◌, ◌==◌, List, [], ◌∷◌, ◌++◌, Option}
-use Rattle.std.specs.Prelude.{None, Some, bytes_eq, codes, drop, if◌then◌else◌, length, nat_lt, not, option_map}
-use Rattle.std.specs.Prelude.{slice_get, take}
+use Rattle.std.specs.Prelude.{◌≡◌, ℕ, ◌-◌, ◌<◌, ◌⊎◌, Bool, false, ◌&&◌, ◌||◌, ◌==◌, List, []}
+use Rattle.std.specs.Prelude.{◌∷◌, ◌++◌, Option, None, Some, bytes_eq, codes, drop, if◌then◌else◌, length, nat_lt, not}
+use Rattle.std.specs.Prelude.{option_map, slice_get, take}
 use Rattle.std.specs.Char.{is_ascii_digit}
 use Rattle.std.specs.Str.{IsAscii}
 use Rattle.diagnostics.specs.Message.{word_or_sign}

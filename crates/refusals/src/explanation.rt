@@ -1,6 +1,6 @@
 //! What standard error tells of a refusal.
 
-ghost use Rattle.std.specs.Prelude.{◌≡◌, ◌++◌, OnOk, drop, length, min, option_map};
+ghost use Rattle.std.specs.Prelude.{◌≡◌, ◌++◌, OnOk, option_map};
 ghost use Rattle.std.specs.String.{string_bytes};
 ghost use Rattle.refusals.specs.Explained.{Explains, ExplainsUnread, edge_line, no_memory};
 ghost use Rattle.orders.specs.Parts.{rounds_of};
@@ -23,7 +23,8 @@ use tokens::MOST_BYTES;
 pub const NO_MEMORY: &str = "bebopk: out of memory\n";
 
 /// What makes a check smaller.
-const SMALLER: &str = "hint: fewer rounds, fewer bits for a counter, locals in place of globals, or one property at a time\n";
+const SMALLER: &str =
+    "hint: fewer rounds, fewer bits for a counter, locals in place of globals, or one property at a time\n";
 
 /// Writes that memory gave out.
 fn push_no_memory<A: Allocator>(message: &mut String<A>) -> Result<(), AllocError>

@@ -186,10 +186,7 @@ fn after_kind(last: Kind, here: &[u8]) -> &'static str
     match last {
         Kind::Decl => "after `decl` comes a name",
         Kind::Begin => "after `begin` comes `decl` or a statement, such as `skip;`",
-        Kind::End => or_else(
-            closed(here),
-            "after `end` comes a procedure or `thread`",
-        ),
+        Kind::End => or_else(closed(here), "after `end` comes a procedure or `thread`"),
         Kind::Thread => "after `thread` comes the name of a procedure",
         Kind::Skip => "after `skip` comes `;`",
         Kind::If | Kind::While | Kind::Assert | Kind::Assume => {
@@ -208,7 +205,12 @@ fn after_kind(last: Kind, here: &[u8]) -> &'static str
         Kind::Colon => "after a label comes a statement, such as `skip;`",
         Kind::Assign => "after `:=` comes an expression, `?` or a call",
         Kind::Any => "after `?` comes `,`, `;` or `)`: it is a whole right side or condition",
-        Kind::Implies | Kind::Or | Kind::Xor | Kind::And | Kind::Equal | Kind::Differs
+        Kind::Implies
+        | Kind::Or
+        | Kind::Xor
+        | Kind::And
+        | Kind::Equal
+        | Kind::Differs
         | Kind::Not => "after an operator comes a name, `0`, `1`, `!` or `(`",
         Kind::Zero | Kind::One => after_operand(here),
         _ => "",
