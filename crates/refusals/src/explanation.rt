@@ -4,7 +4,8 @@ ghost use Rattle.std.specs.Prelude.{◌≡◌, ◌++◌, OnOk, option_map};
 ghost use Rattle.std.specs.String.{string_bytes};
 ghost use Rattle.refusals.specs.Explained.{Explains, ExplainsUnread, edge_line, no_memory};
 ghost use Rattle.orders.specs.Parts.{rounds_of};
-ghost use Rattle.refusals.specs.Explained.{is_constant, one_round, scope_told, undeclared, ways_out};
+ghost use Rattle.refusals.specs.Explained.{is_constant, one_round, scope_told, undeclared};
+ghost use Rattle.refusals.specs.Explained.{ways_out};
 ghost use Rattle.refusals.specs.declared.refusal.Refusal.TheVariants.{TooWide};
 
 use crate::hints::{is, push_hint, rest_of};

@@ -316,8 +316,9 @@ pub(crate) fn push_hint<A: Allocator>(
     text: &[u8],
     at: u32,
 ) -> Result<(), AllocError>
-    ensures { OnOk result (told.AddsHint text.now (min (length text.now) at) (string_bytes message.old)
-        (string_bytes message.new)) }
+    ensures { OnOk result
+        (told.AddsHint text.now (min (length text.now) at)
+        (string_bytes message.old) (string_bytes message.new)) }
 {
     let here = word_or_sign(rest_of(text, at));
     let hint = hint_after(alloc, front_of(text, at), here)?;
