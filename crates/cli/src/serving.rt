@@ -33,7 +33,7 @@ fn tell_why<X: Alloc, L: Stream>(
         return;
     };
     let mut message = String::new(rt.alloc());
-    match explain(&mut message, path, text, order, refusal) {
+    match explain(rt.alloc(), &mut message, path, text, order, refusal) {
         Ok(()) => tell(log, message.as_bytes()),
         Err(_) => tell(log, NO_MEMORY.as_bytes()),
     }

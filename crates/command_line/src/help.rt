@@ -26,6 +26,9 @@ Replies and statuses:
   no verdict: spent       3  a worker used up its 2^56 calls
 Standard error says where and why a text is refused.
 
+One round is enough for one thread. Fewer path edges come of fewer rounds, fewer bits for a
+counter, locals in place of globals, and one property at a time.
+
 With --stats a verdict is followed by a line for each procedure of the sequential program:
   NAME entries E pairs P taken T
 E valuations enter it, it has P pairs of an entry and what is left then, and T messages

@@ -30,6 +30,10 @@ is_word_byte byte = is_ascii_alphanumeric byte || byte == 95
 abbrev pub first_word : List ℕ → List ℕ
 first_word bytes = before_first (λ byte. not (is_word_byte byte)) bytes
 
+-- the word at the beginning of some bytes, else their first byte, if there is one
+abbrev pub word_or_sign : List ℕ → List ℕ
+word_or_sign bytes = if length (first_word bytes) == 0 then take 1 bytes else first_word bytes
+
 -- two dots where more bytes stand there than are shown
 abbrev pub dots : ℕ → List ℕ → List ℕ
 dots most bytes = if nat_lt most (length bytes) then codes ".." else []

@@ -4,4 +4,4 @@
 mod message;
 mod position;
 
-pub use message::{Wrong, at_offset, not_ascii};
+pub use message::{Wrong, at_offset, first_word, not_ascii, word_or_sign};

@@ -68,12 +68,24 @@ fn end_of_word(bytes: &[u8]) -> Option<usize>
 }
 
 /// The word at the beginning of some bytes, which may be empty.
-fn first_word(bytes: &[u8]) -> &[u8]
+pub fn first_word(bytes: &[u8]) -> &[u8]
     ensures { result.now ≡ told.first_word bytes.now }
 {
     match end_of_word(bytes) {
         Some(end) => &bytes[..end],
         None => bytes,
+    }
+}
+
+/// The word at the beginning of some bytes, else their first byte, if there is one.
+pub fn word_or_sign(bytes: &[u8]) -> &[u8]
+    ensures { result.now ≡ told.word_or_sign bytes.now }
+{
+    let word = first_word(bytes);
+    if word.is_empty() {
+        first(bytes, 1)
+    } else {
+        word
     }
 }
 

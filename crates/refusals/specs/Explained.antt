@@ -1,35 +1,50 @@
 -- What standard error tells of a refusal.
-use Rattle.std.specs.Prelude.{◌≡◌, ℕ, List, [], ◌++◌, Option, Some, None, MatchOption, codes, length, min}
+use Rattle.std.specs.Prelude.{◌≡◌, ℕ, Bool, ◌||◌, ◌==◌, List, [], ◌++◌, Option, Some, None, MatchOption}
+use Rattle.std.specs.Prelude.{bytes_eq, codes, drop, if◌then◌else◌, length, min, nat_lt}
 use Rattle.std.specs.Fmt.{decimal}
 use Rattle.syntax.specs.declared.fault.ReadFault.{ReadFault}
 use Rattle.syntax.specs.declared.fault.ReadFault.TheVariants as read
 use Rattle.scopes.specs.declared.fault.ScopeFault.{ScopeFault}
 use Rattle.scopes.specs.declared.fault.ScopeFault.TheVariants as scope
 use Rattle.resolved.specs.Limits.{most_places}
-use Rattle.diagnostics.specs.Message.{Locates, LocatesForeign, needs, of_name, unexpected}
+use Rattle.diagnostics.specs.Message.{Locates, LocatesForeign, first_word, needs, of_name, unexpected}
 use Rattle.path_sets.specs.EdgeLimits.{most_of}
 use Rattle.path_sets.specs.Limits.{most_edges}
+use Rattle.round_rewrite.specs.Programs.{count_of}
 use Rattle.tokens.specs.Limits.{most_bytes}
 use Rattle.orders.specs.Parts.{rounds_of}
 use Rattle.orders.specs.declared.order.Order.{Order}
 use Rattle.orders.specs.declared.order.Order.TheVariants.{Check, Sequential}
+use Rattle.refusals.specs.Hints.{AddsHint}
 use Rattle.refusals.specs.declared.refusal.Refusal.{Refusal}
 use Rattle.refusals.specs.declared.refusal.Refusal.TheVariants.{Unread, Unchecked, TooWide, EdgeLimit, Memory, NoWorker, Spent}
 
+-- The word is a constant in other languages.
+abbrev pub is_constant : List ℕ → Bool
+is_constant word =
+    bytes_eq word (codes "true") || bytes_eq word (codes "false") || bytes_eq word (codes "T") || bytes_eq word (codes "F")
+
+-- what is told of the name at an offset, which is not declared
+abbrev pub undeclared : List ℕ → ℕ → List ℕ
+undeclared text at =
+    if is_constant (first_word (drop (min (length text) at) text))
+    then codes " is not declared; the constants are `0` and `1`\n"
+    else codes " is not declared\n"
+
 -- where a fault of scopes stands, and what is told of the name there; want of memory has no place
-abbrev pub scope_told : ScopeFault → Option (ℕ × List ℕ)
-scope_told (scope.Undeclared at) = Some (at, codes " is not declared\n")
-scope_told (scope.DeclaredTwice at) =
+abbrev pub scope_told : List ℕ → ScopeFault → Option (ℕ × List ℕ)
+scope_told text (scope.Undeclared at) = Some (at, undeclared text at)
+scope_told text (scope.DeclaredTwice at) =
     Some (at, codes " is declared a second time, or assigned twice by one statement\n")
-scope_told (scope.WrongCount at) =
+scope_told text (scope.WrongCount at) =
     Some (at, codes ": targets and right sides, or arguments and formals, differ in number\n")
-scope_told (scope.BadThread at) = Some (at, codes " is no procedure without formals\n")
-scope_told (scope.BadLabel at) = Some (at, codes " is no label of this procedure, or labels a second statement\n")
-scope_told (scope.Reserved at) =
+scope_told text (scope.BadThread at) = Some (at, codes " is no procedure without formals\n")
+scope_told text (scope.BadLabel at) = Some (at, codes " is no label of this procedure, or labels a second statement\n")
+scope_told text (scope.Reserved at) =
     Some (at, codes " has two underscores in a row, which only the rewriting may write\n")
-scope_told (scope.TooMany at) =
+scope_told text (scope.TooMany at) =
     Some (at, codes " is past the limit of 31 procedures, 8 threads and 1000 statements\n")
-scope_told scope.Memory = None
+scope_told text scope.Memory = None
 
 -- the line for want of memory
 abbrev pub no_memory : List ℕ
@@ -40,16 +55,39 @@ abbrev pub ExplainsUnread : List ℕ → List ℕ → ReadFault → List ℕ →
 ExplainsUnread path text read.TooLong old new =
     new ≡ old ++ (path ++ (codes ": the text has more than " ++ (decimal most_bytes ++ codes " bytes\n")))
 ExplainsUnread path text read.NotAscii old new = LocatesForeign path text old new
-ExplainsUnread path text (read.Syntax at) old new = Locates path text (min (length text) at) unexpected old new
+ExplainsUnread path text (read.Syntax at) old new =
+    (located : List ℕ) × Locates path text (min (length text) at) unexpected old located
+    × AddsHint text (min (length text) at) located new
 ExplainsUnread path text read.TooDeep old new = new ≡ old ++ (path
     ++ codes ": more than 64 of `(`, `begin`, `if` and `while` are open at once, or more than 64 operators stand in one run\n")
 ExplainsUnread path text read.Memory old new = new ≡ old ++ no_memory
 
--- the line of a passed limit of path edges; an order without such a limit has none
+-- the line about the rounds of a check that was too large
+abbrev pub one_round : ℕ → List ℕ
+one_round rounds = if nat_lt 1 rounds then codes "hint: one round is enough for one thread\n" else []
+
+-- the line about what makes a check smaller
+abbrev pub smaller : List ℕ
+smaller = codes "hint: fewer rounds, fewer bits for a counter, locals in place of globals, or one property at a time\n"
+
+-- what helps where the highest limit of path edges was passed
+abbrev pub no_higher : ℕ → List ℕ
+no_higher rounds =
+    codes " path edges, and no limit is higher\n" ++ (smaller ++ one_round rounds)
+
+-- what helps where another limit was passed
+abbrev pub higher : ℕ → List ℕ
+higher rounds = codes " path edges; --edges N raises the limit, up to " ++ (decimal most_edges ++ (codes "\n" ++ one_round rounds))
+
+-- what helps where this limit was passed
+abbrev pub ways_out : ℕ → ℕ → List ℕ
+ways_out rounds most = if most == most_edges then no_higher rounds else higher rounds
+
+-- the lines of a passed limit of path edges; an order without such a limit has none
 abbrev pub edge_line : List ℕ → Order → List ℕ
 edge_line path (Check rounds edges stats) =
-    path ++ (codes ": some procedure has more than " ++ (decimal (most_of edges)
-    ++ (codes " path edges; --edges N raises the limit, up to " ++ (decimal most_edges ++ codes "\n"))))
+    (path ++ (codes ": some procedure has more than " ++ decimal (most_of edges)))
+    ++ ways_out (count_of rounds) (most_of edges)
 edge_line path (Sequential rounds) = []
 
 -- the line of a program that is too wide in some procedure
@@ -63,7 +101,7 @@ wide_line path rounds =
 abbrev pub Explains : List ℕ → List ℕ → Order → Refusal → List ℕ → List ℕ → Type 0
 Explains path text order (Unread fault) old new = ExplainsUnread path text fault old new
 Explains path text order (Unchecked fault) old new =
-    MatchOption (scope_told fault) (new ≡ old ++ no_memory)
+    MatchOption (scope_told text fault) (new ≡ old ++ no_memory)
     (λ t. Locates path text (min (length text) t.0) (of_name t.1) old new)
 Explains path text order (TooWide wide) old new =
     MatchOption wide (new ≡ old ++ wide_line path (rounds_of order))

@@ -4,11 +4,13 @@ ghost use Rattle.std.specs.Prelude.{◌≡◌, ◌++◌, OnOk, option_map};
 ghost use Rattle.std.specs.String.{string_bytes};
 ghost use Rattle.refusals.specs.Explained.{Explains, ExplainsUnread, edge_line, no_memory};
 ghost use Rattle.orders.specs.Parts.{rounds_of};
-ghost use Rattle.refusals.specs.Explained.{scope_told};
+ghost use Rattle.refusals.specs.Explained.{is_constant, one_round, scope_told, undeclared};
+ghost use Rattle.refusals.specs.Explained.{ways_out};
 ghost use Rattle.refusals.specs.declared.refusal.Refusal.TheVariants.{TooWide};
 
+use crate::hints::{is, push_hint, rest_of};
 use crate::refusal::Refusal;
-use diagnostics::{Wrong, at_offset, not_ascii};
+use diagnostics::{Wrong, at_offset, first_word, not_ascii};
 use orders::Order;
 use path_sets::MOST_EDGES;
 use resolved::MOST_PLACES;
@@ -21,6 +23,10 @@ use tokens::MOST_BYTES;
 /// What is told where memory gave out.
 pub const NO_MEMORY: &str = "bebopk: out of memory\n";
 
+/// What makes a check smaller.
+const SMALLER: &str =
+    "hint: fewer rounds, fewer bits for a counter, locals in place of globals, or one property at a time\n";
+
 /// Writes that memory gave out.
 fn push_no_memory<A: Allocator>(message: &mut String<A>) -> Result<(), AllocError>
     ensures { OnOk result (string_bytes message.new ≡ string_bytes message.old ++ no_memory) }
@@ -30,6 +36,7 @@ fn push_no_memory<A: Allocator>(message: &mut String<A>) -> Result<(), AllocErro
 
 /// Writes why a text is not read.
 fn unread<A: Allocator>(
+    alloc: A,
     message: &mut String<A>,
     path: &str,
     text: &[u8],
@@ -44,7 +51,10 @@ fn unread<A: Allocator>(
             "{path}: the text has more than {MOST_BYTES} bytes\n"
         ),
         ReadFault::NotAscii => not_ascii(message, path, text),
-        ReadFault::Syntax(at) => at_offset(message, path, text, *at, Wrong::Unexpected),
+        ReadFault::Syntax(at) => {
+            at_offset(message, path, text, *at, Wrong::Unexpected)?;
+            push_hint(alloc, message, text, *at)
+        }
         ReadFault::TooDeep => write!(
             message,
             "{path}: more than 64 of `(`, `begin`, `if` and `while` are open at once, or more than 64 operators stand in one run\n"
@@ -53,12 +63,30 @@ fn unread<A: Allocator>(
     }
 }
 
+/// Whether a word is a constant in other languages.
+fn is_constant(word: &[u8]) -> bool
+    ensures { result ≡ is_constant word.now }
+{
+    is(word, "true") || is(word, "false") || is(word, "T") || is(word, "F")
+}
+
+/// What is told of the name at an offset, which is not declared.
+fn undeclared(text: &[u8], at: u32) -> &'static str
+    ensures { result.now ≡ undeclared text.now at }
+{
+    if is_constant(first_word(rest_of(text, at))) {
+        " is not declared; the constants are `0` and `1`\n"
+    } else {
+        " is not declared\n"
+    }
+}
+
 /// Where a fault of scopes stands, and what is told of the name that stands there; `None` where memory gave out.
-fn told(fault: &ScopeFault) -> Option<(u32, &'static str)>
-    ensures { option_map (λ t. (t.0, t.1.now)) result ≡ scope_told fault.now }
+fn told(text: &[u8], fault: &ScopeFault) -> Option<(u32, &'static str)>
+    ensures { option_map (λ t. (t.0, t.1.now)) result ≡ scope_told text.now fault.now }
 {
     match fault {
-        ScopeFault::Undeclared(at) => Some((*at, " is not declared\n")),
+        ScopeFault::Undeclared(at) => Some((*at, undeclared(text, *at))),
         ScopeFault::DeclaredTwice(at) => Some((
             *at,
             " is declared a second time, or assigned twice by one statement\n",
@@ -84,7 +112,41 @@ fn told(fault: &ScopeFault) -> Option<(u32, &'static str)>
     }
 }
 
-/// Writes which limit of path edges was passed; nothing of an order that has none.
+/// What is told of the rounds where a check was too large.
+fn one_round(rounds: u8) -> &'static str
+    ensures { result.now ≡ one_round rounds }
+{
+    if rounds > 1 {
+        "hint: one round is enough for one thread\n"
+    } else {
+        ""
+    }
+}
+
+/// Writes what helps where this limit of path edges was passed.
+fn push_ways_out<A: Allocator>(
+    message: &mut String<A>,
+    rounds: u8,
+    edges: u32,
+) -> Result<(), AllocError>
+    ensures { OnOk result
+        (string_bytes message.new ≡ string_bytes message.old ++ ways_out rounds edges) }
+{
+    let one = one_round(rounds);
+    if edges == MOST_EDGES {
+        write!(
+            message,
+            " path edges, and no limit is higher\n{SMALLER}{one}"
+        )
+    } else {
+        write!(
+            message,
+            " path edges; --edges N raises the limit, up to {MOST_EDGES}\n{one}"
+        )
+    }
+}
+
+/// Writes which limit of path edges was passed, and what helps; nothing of an order that has none.
 fn edge_limit<A: Allocator>(
     message: &mut String<A>,
     path: &str,
@@ -94,12 +156,10 @@ fn edge_limit<A: Allocator>(
         (string_bytes message.new ≡ string_bytes message.old ++ edge_line path.now order) }
 {
     match order {
-        Order::Check { edges, .. } => {
+        Order::Check { rounds, edges, .. } => {
             let edges = edges.edges();
-            write!(
-                message,
-                "{path}: some procedure has more than {edges} path edges; --edges N raises the limit, up to {MOST_EDGES}\n"
-            )
+            write!(message, "{path}: some procedure has more than {edges}")?;
+            push_ways_out(message, rounds.count(), edges)
         }
         Order::Sequential { .. } => Ok(()),
     }
@@ -145,8 +205,11 @@ fn too_wide<A: Allocator>(
 /// Writes what standard error tells of a refusal: for a fault with an offset a line `FILE:LINE:COLUMN: ` with what is
 /// wrong there, the source line (at most 60 bytes of it before the place and 40 from it on, with `..` where more
 /// stands), and a caret under the place; for each other refusal one line. Lines and columns are counted from 1, and
-/// each byte is a column. At an error memory gave out, and a part of the message may be written.
+/// each byte is a column. A line `hint: ` follows where a rule of the language, or of the command line, may help.
+/// The memory for the tokens before a syntax fault is taken from `alloc`. At an error memory gave out, and a part of
+/// the message may be written.
 pub fn explain<A: Allocator>(
+    alloc: A,
     message: &mut String<A>,
     path: &str,
     text: &[u8],
@@ -157,8 +220,8 @@ pub fn explain<A: Allocator>(
         (string_bytes message.new)) }
 {
     match refusal {
-        Refusal::Unread(fault) => unread(message, path, text, fault),
-        Refusal::Unchecked(fault) => match told(fault) {
+        Refusal::Unread(fault) => unread(alloc, message, path, text, fault),
+        Refusal::Unchecked(fault) => match told(text, fault) {
             Some((at, what)) => at_offset(message, path, text, at, Wrong::Word(what)),
             None => push_no_memory(message),
         },

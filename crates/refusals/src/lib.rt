@@ -2,6 +2,7 @@
 #![tactic(auto)]
 
 mod explanation;
+mod hints;
 mod lines;
 mod refusal;
 

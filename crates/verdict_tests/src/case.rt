@@ -1,7 +1,7 @@
 //! One case.
 
 use crate::beginnings::beginnings;
-use crate::message::{print_told, print_told_without};
+use crate::message::{print_edge_limit, print_told, print_told_without};
 use crate::refused::{in_turn, over_pairs, sweep_of};
 use crate::schedules::schedules;
 use crate::text::bytes_of;
@@ -39,6 +39,9 @@ fn to_text<R: Print + AllocGlobal + Wait + Threads + Sync>(
             "message" => print_told(rt, file.as_str(), text.as_slice(), order),
             "message without memory" => {
                 print_told_without(rt, file.as_str(), text.as_slice(), order)
+            }
+            "message of the edge limit" => {
+                print_edge_limit(rt, file.as_str(), text.as_slice(), order)
             }
             _ => print_how(rt, how, text.as_slice(), order),
         },

@@ -14,6 +14,7 @@
 //! | `all pairs, each allocation: WORDS \| TEXT` | one of these over each pair of board and set |
 //! | `message: WORDS \| TEXT` | the reply, and what standard error says about it, if each allocation refused leaves that or an error |
 //! | `message without memory: WORDS \| TEXT` | the same, if the first allocation of the answer is refused |
+//! | `message of the edge limit: WORDS \| TEXT` | what standard error says if a procedure passes the limit of the words |
 //!
 //! A line that begins with `#` is a heading, and has no answer. A text may use the shorthand of `text.rt`.
 #![tactic(auto)]

@@ -24,7 +24,7 @@ fn is_whole_or_none(
     for nth in 1..=MOST {
         let scarce = Scarce::refusing(alloc, nth);
         let mut message = String::new(&scarce);
-        let told = explain(&mut message, file, text, order, refusal).is_ok();
+        let told = explain(&scarce, &mut message, file, text, order, refusal).is_ok();
         if !scarce.refused() {
             return told && message.as_str() == whole;
         }
@@ -44,7 +44,7 @@ fn print_message<R: Print + AllocGlobal>(
     refusal: &Refusal,
 ) -> io::Result<()> {
     let mut message = String::new(rt.alloc());
-    let told = explain(&mut message, file, text, order, refusal).is_ok();
+    let told = explain(rt.alloc(), &mut message, file, text, order, refusal).is_ok();
     let whole = message.as_str();
     if told && is_whole_or_none(rt.alloc(), file, text, order, refusal, whole) {
         rt.print(whole)
@@ -82,4 +82,15 @@ pub fn print_told_without<R: Print + AllocGlobal + Wait + Threads + Sync>(
         Some(refusal) => print_message(rt, file, text, order, refusal),
         None => rt.print("nothing is told\n"),
     }
+}
+
+/// Prints what standard error tells where a procedure passes the limit of an order, which may be one that no test
+/// reaches.
+pub fn print_edge_limit<R: Print + AllocGlobal>(
+    rt: &R,
+    file: &str,
+    text: &[u8],
+    order: Order,
+) -> io::Result<()> {
+    print_message(rt, file, text, order, &Refusal::EdgeLimit)
 }
