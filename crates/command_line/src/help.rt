@@ -1,16 +1,16 @@
-//! What help tells at its end: what the replies and statuses mean, the limits, and an example; and the version.
+//! The end of the help: what the replies and statuses mean, the limits, and an example. The version.
 
-/// What `--version` tells behind the name: the version, and the line of the kit that the program is proved with.
+/// What `--version` prints after the name: the version, and the line of the kit that the program is proved with.
 pub(crate) const VERSION: &str = "0.1.0\nrattle-kit-13f logic dac8208d650f15bf";
 
 /// The end of the help of `bebopk`.
 pub(crate) const BEBOPK: &str = "\
 Statuses:
-  0  safe, or the sequential program is printed; help and --version too
+  0  safe, or the sequential program, help or the version was printed
   1  unsafe
   2  the text, the file or the command line is refused
-  3  no verdict: a limit, memory or threads gave out, or the reply could not be written
-Standard output has the reply alone; standard error says where and why a text is refused.
+  3  no verdict: the limit was passed, memory or threads ran out, or the reply could not be written
+Standard output has only the reply; standard error says where and why a text is refused.
 
 Example: bebopk check --rounds 2 examples/driver_two_rounds.bp";
 
@@ -21,13 +21,13 @@ Replies and statuses:
   unsafe                  1  some run of at most K rounds does
   refused: ..             2  the text, the file or the command line is at fault
   no verdict: edge limit  3  some procedure has more than N path edges: try a greater N
-  no verdict: memory      3  memory gave out
+  no verdict: memory      3  memory ran out
   no verdict: no worker   3  the system refused a thread: each procedure has one
   no verdict: spent       3  a worker used up its 2^56 calls
 Standard error says where and why a text is refused.
 
-One round is enough for one thread. Fewer path edges come of fewer rounds, fewer bits for a
-counter, locals in place of globals, and one property at a time.
+One round is enough for one thread. A check is smaller with fewer rounds, fewer bits for a
+counter, locals in place of globals, or one property at a time.
 
 With --stats a verdict is followed by a line for each procedure of the sequential program:
   NAME entries E pairs P taken T
@@ -46,7 +46,7 @@ pub(crate) const SEQUENTIAL: &str = "\
 Replies and statuses:
   the sequential program  0
   refused: ..             2  the text, the file or the command line is at fault
-  no verdict: memory      3  memory gave out
+  no verdict: memory      3  memory ran out
 Standard error says where and why a text is refused.
 
 Limits: as for check (bebopk check --help).

@@ -38,8 +38,8 @@ scope_told text (scope.DeclaredTwice at) =
     Some (at, codes " is declared a second time, or assigned twice by one statement\n")
 scope_told text (scope.WrongCount at) =
     Some (at, codes ": targets and right sides, or arguments and formals, differ in number\n")
-scope_told text (scope.BadThread at) = Some (at, codes " is no procedure without formals\n")
-scope_told text (scope.BadLabel at) = Some (at, codes " is no label of this procedure, or labels a second statement\n")
+scope_told text (scope.BadThread at) = Some (at, codes " is not a procedure without formals\n")
+scope_told text (scope.BadLabel at) = Some (at, codes " is not a label of this procedure, or labels a second statement\n")
 scope_told text (scope.Reserved at) =
     Some (at, codes " has two underscores in a row, which only the rewriting may write\n")
 scope_told text (scope.TooMany at) =
@@ -59,7 +59,7 @@ ExplainsUnread path text (read.Syntax at) old new =
     (located : List ℕ) × Locates path text (min (length text) at) unexpected old located
     × AddsHint text (min (length text) at) located new
 ExplainsUnread path text read.TooDeep old new = new ≡ old ++ (path
-    ++ codes ": more than 64 of `(`, `begin`, `if` and `while` are open at once, or more than 64 operators stand in one run\n")
+    ++ codes ": more than 64 of `(`, `begin`, `if` and `while` are open at once, or more than 64 operators are in one run\n")
 ExplainsUnread path text read.Memory old new = new ≡ old ++ no_memory
 
 -- the line about the rounds of a check that was too large

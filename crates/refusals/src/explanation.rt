@@ -57,7 +57,7 @@ fn unread<A: Allocator>(
         }
         ReadFault::TooDeep => write!(
             message,
-            "{path}: more than 64 of `(`, `begin`, `if` and `while` are open at once, or more than 64 operators stand in one run\n"
+            "{path}: more than 64 of `(`, `begin`, `if` and `while` are open at once, or more than 64 operators are in one run\n"
         ),
         ReadFault::Memory => push_no_memory(message),
     }
@@ -95,10 +95,10 @@ fn told(text: &[u8], fault: &ScopeFault) -> Option<(u32, &'static str)>
             *at,
             ": targets and right sides, or arguments and formals, differ in number\n",
         )),
-        ScopeFault::BadThread(at) => Some((*at, " is no procedure without formals\n")),
+        ScopeFault::BadThread(at) => Some((*at, " is not a procedure without formals\n")),
         ScopeFault::BadLabel(at) => Some((
             *at,
-            " is no label of this procedure, or labels a second statement\n",
+            " is not a label of this procedure, or labels a second statement\n",
         )),
         ScopeFault::Reserved(at) => Some((
             *at,
