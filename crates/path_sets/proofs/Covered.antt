@@ -12,7 +12,7 @@ use Rattle.path_sets.specs.Masks.{bit_of, bits_below, Marks}
 use Rattle.path_sets.specs.Triples.{Triple}
 use Rattle.path_sets.specs.Edges.{edge_at, edges, edges_in, place_eq}
 use Rattle.path_sets.specs.Inserts.{PutsIn}
-use Rattle.path_sets.specs.Diagrams.{merged_has, TakesGiven}
+use Rattle.path_sets.specs.Diagrams.{merged_has}
 use Rattle.path_sets.specs.Members.{all_edges, Covers, IsEdgeThere, PutsEdge}
 use Rattle.path_sets.proofs.Gathering.{edges_append}
 use Rattle.path_sets.proofs.Grouped.{absent, Groups, no_edge}
@@ -20,30 +20,13 @@ use Rattle.path_sets.proofs.Inserted.{is_in, is_new_or_old, stays_in}
 use Rattle.path_sets.proofs.Masks.{bits_hold, bits_known}
 use Rattle.path_sets.proofs.Universe.{any_member, Fits, is_member, member_any, member_is, members_more, one_longer, same_gathered}
 
-module _ (ns ms : List Quad) (rs ss : List (Row × ℕ)) (masks : Groups) where
-  -- diagrams that take what is gathered have no more at its places
-  pub covers_on : Covers ns rs masks → TakesGiven (λ t. Member t (edges masks)) ns ms rs ss → Covers ms ss masks
-  covers_on covers takes p bit small key has = elim (takes.sound (edge_at p bit) has) [
-    | inl was ↦ covers p bit small key was
-    | inr given ↦ member_any (edge_at p bit) (edges masks) given
-  ]
-
-  -- where nothing is gathered there is no place
-  pub covers_none : masks ≡ [] → Covers ms ss masks
-  covers_none none p bit small key has = absurd (subst (λ es. Member p (keys_of es) → ⊥) (sym none) (λ m. elim m [ ]) key)
-
--- the same diagrams
-pub covers_same : (ns ms : List Quad) (rs ss : List (Row × ℕ)) (masks : Groups) → ms ≡ ns → ss ≡ rs → Covers ns rs masks
-    → Covers ms ss masks
-covers_same ns ms rs ss masks nodes rows covers =
-    subst (λ n. Covers n ss masks) (sym nodes) (subst (λ r. Covers ns r masks) (sym rows) covers)
-
--- a key of places and one more
-one_more_key : (gs : Groups) (p q : Place) (w : ℕ) → Member q (keys_of (gs ++ (p, w) ∷ [])) → Member q (keys_of gs) ⊎ (q ≡ p)
+-- a key of entries and one more
+pub one_more_key : {K V : Type 0} (es : List (K × V)) (p q : K) (w : V) → Member q (keys_of (es ++ (p, w) ∷ []))
+    → Member q (keys_of es) ⊎ (q ≡ p)
 one_more_key [] p q w (inl is) = inr is
 one_more_key [] p q w (inr later) = elim later [ ]
-one_more_key (g ∷ gs) p q w (inl is) = inl (inl is)
-one_more_key (g ∷ gs) p q w (inr later) = elim (one_more_key gs p q w later) [ inl old ↦ inl (inr old) | inr is ↦ inr is ]
+one_more_key (e ∷ es) p q w (inl is) = inl (inl is)
+one_more_key (e ∷ es) p q w (inr later) = elim (one_more_key es p q w later) [ inl old ↦ inl (inr old) | inr is ↦ inr is ]
 
 module _ (ns : List Quad) (rs : List (Row × ℕ)) (p : Place) (bit : ℕ) (small : bit < 64) (old new : Groups)
     (covers : Covers ns rs old) where

@@ -26,3 +26,5 @@ pub mod Unique
 pub mod Chains
 pub mod Gathering
 pub mod Covered
+pub mod Placed
+pub mod Batched

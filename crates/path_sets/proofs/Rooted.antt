@@ -3,6 +3,7 @@ use Rattle.std.proofs.Common.{◌≡◌, ℕ, zero, suc, ◌<◌, Bool, true, fa
 use Rattle.std.proofs.Common.{Option, None}
 use Rattle.std.proofs.Common.{Some, IfSome, get_or, length, is_some, ◌⊎◌, inl, inr, subst, arith}
 use Rattle.std.proofs.Common.{slice_get, position, refl, sym, ap, ap₂, ◌∙◌, true≢false, eq-eqb}
+use Rattle.std.specs.List.{AllZip}
 use Rattle.std.specs.Option.{option_map, option_map_or}
 use Rattle.std.proofs.lemmas.Bool.{cases_eq}
 use Rattle.std.specs.Map.{keys_of, lookup}
@@ -126,3 +127,10 @@ pub same_within : (rs ss : List (Row × ℕ)) (i : ℕ) → keys_of ss ≡ keys_
 same_within rs ss i same less =
     let (row, there) = row_there rs i less in
     row_within ss i row (ap (λ ks. slice_get ks i) same ∙ there)
+
+-- a clone's entries are the same
+pub same_clone : {K V : Type 0} (es fs : List (K × V)) → AllZip (λ p q. (q.0 ≡ p.0) × (q.1 ≡ p.1)) es fs → fs ≡ es
+same_clone [] [] h = refl
+same_clone [] (f ∷ fs) h = elim h [ ]
+same_clone (e ∷ es) [] h = elim h [ ]
+same_clone (e ∷ es) (f ∷ fs) (h, rest) = λ j. (h.0 j, h.1 j) ∷ same_clone es fs rest j

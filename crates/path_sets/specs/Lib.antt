@@ -12,4 +12,6 @@ pub mod Diagrams
 pub mod Cells
 pub mod Binary
 pub mod Members
+pub mod Spots
+pub mod Batches
 pub mod Suffixes

@@ -9,8 +9,7 @@ use Rattle.path_sets.specs.declared.quad.Quad.{Quad}
 use Rattle.path_sets.specs.declared.place.Place.{Place}
 use Rattle.path_sets.specs.declared.rows.Row.{Row}
 use Rattle.path_sets.specs.Triples.{Triple, triple}
-use Rattle.indexmap.specs.IndexMap.{IndexMap, IsUnique}
-use Rattle.path_sets.specs.Edges.{edge_at, edges, place_eq}
+use Rattle.path_sets.specs.Edges.{edge_at, edges}
 use Rattle.path_sets.specs.Diagrams.{merged_has}
 
 -- the numbers below this one, the greatest first
@@ -52,11 +51,6 @@ abbrev pub Covers : List Quad → List (Row × ℕ) → List (Place × ℕ) → 
 Covers nodes rows masks =
     (p : Place) (bit : ℕ) → bit < 64 → Member p (keys_of masks) → merged_has nodes rows (edge_at p bit) ≡ true
     → is_gathered masks (edge_at p bit) ≡ true
-
--- Each place is gathered once, and what the diagrams have there is among it.
-pub record AreGathered {S : Type 0} (nodes : List Quad) (rows : List (Row × ℕ)) (gathered : IndexMap Place ℕ S) : Type 0 where
-  pub unique : IsUnique place_eq gathered
-  pub covers : Covers nodes rows gathered.entries
 
 -- The path edge was not there, and it and what was there is; or it was there, and what is gathered is the same. The
 -- answer says which.

@@ -1,30 +1,25 @@
 //! A set of path edges that keeps a decision diagram for each entry and block of points.
 
-ghost use Rattle.std.specs.Prelude.{◌≡◌, ◌<◌, None, length, IfOk, OnErr};
-ghost use Rattle.std.specs.Map.{lookup};
-ghost use Rattle.std.proofs.lemmas.Map.Keys.{IsDistinct-prop};
-ghost use Rattle.indexmap.specs.IndexMap.{IsUnique, keys};
+ghost use Rattle.std.specs.Prelude.{◌≡◌, ◌<◌, Some, length, slice_get, IfOk};
+ghost use Rattle.indexmap.specs.IndexMap.{keys};
 ghost use Rattle.language.specs.Lists.{Member, NoneTwice, NoneTwice-prop};
 ghost use Rattle.language.specs.Words.{word_bits};
-ghost use Rattle.path_sets.specs.Edges.{edge_at, place_eq};
 ghost use Rattle.path_sets.specs.Suffixes.{HasNodes};
 ghost use Rattle.path_sets.specs.Triples.{triple};
-ghost use Rattle.path_sets.specs.Members.{all_edges, AreGathered, Covers, PutsEdge};
+ghost use Rattle.path_sets.specs.Members.{all_edges};
+ghost use Rattle.path_sets.specs.Batches.{AllWithin, CoversEach, places_in};
 
-use crate::gathered::put_all;
+use crate::gathered::{put_all, put_batches};
 use crate::halves::Halves;
-use crate::mask::{has, mark};
+use crate::mask::has;
 use crate::merged::Merged;
 use crate::path_set::PathSet;
-use crate::place::{Place, place_of};
-use crate::points::{Masks, begin, find, mark_at};
+use crate::place::place_of;
 use crate::rows::{Row, row_of};
-use indexmap::IndexMap;
+use crate::spot::Spot;
+use crate::waiting::Gathered;
 use language::{Point, Word};
 use std::alloc::{AllocError, Allocator};
-
-/// How many places are gathered at most.
-const MANY: usize = 4_096;
 
 /// Path edges as decision diagrams over the bits of a valuation, one for each entry and block of 64 points, whose nodes
 /// are shared (Bryant 1986). A diagram gives a valuation the mask of its points, two bits of it at each node, the least
@@ -33,33 +28,56 @@ const MANY: usize = 4_096;
 #[derive(Drop)]
 pub struct DiagramEdges<A: Allocator> {
     /// The points of the places that are gathered, those that the diagrams have there too.
-    gathered: Masks<A>,
-    /// The index of the place that was used last, which is mostly that of the next path edge.
-    last: usize,
+    gathered: Gathered<A>,
     merged: Merged<A>,
     count: u64,
-    ghost unique: { IsUnique place_eq gathered } by { IsDistinct-prop place_eq (keys gathered) },
-    ghost covers: { Covers merged.nodes.kept.keys merged.rows.entries gathered.entries },
-    ghost counted: { count
-        ≡ length (all_edges merged.nodes.kept.keys merged.rows.entries gathered.entries) },
-    ghost once: { NoneTwice
-        (all_edges merged.nodes.kept.keys merged.rows.entries gathered.entries) } by { NoneTwice-prop
-            (all_edges merged.nodes.kept.keys merged.rows.entries gathered.entries) },
+    ghost within: { AllWithin (keys merged.rows) gathered.batches.items },
+    ghost covers: { CoversEach merged.nodes.kept.keys merged.rows.entries gathered.batches.items },
+    ghost counted: { count ≡ length (all_edges merged.nodes.kept.keys merged.rows.entries
+        (places_in (keys merged.rows) gathered.batches.items)) },
+    ghost once: { NoneTwice (all_edges merged.nodes.kept.keys merged.rows.entries
+        (places_in (keys merged.rows) gathered.batches.items)) } by { NoneTwice-prop
+            (all_edges merged.nodes.kept.keys merged.rows.entries
+            (places_in (keys merged.rows) gathered.batches.items)) },
 }
 
 impl<A: Allocator + Copy> DiagramEdges<A> {
-    /// Puts what is gathered into the diagrams, where it is much. Where memory is refused, all stays gathered.
+    /// Puts the places of a batch into the diagrams. Where memory is refused, all stay gathered.
+    fn merge(&mut self, at: usize) -> Result<(), AllocError>
+        requires { at < length self.old.gathered.batches.items }
+        ensures { all_edges self.new.merged.nodes.kept.keys self.new.merged.rows.entries
+            (places_in (keys self.new.merged.rows) self.new.gathered.batches.items)
+            ≡ all_edges self.old.merged.nodes.kept.keys self.old.merged.rows.entries
+            (places_in (keys self.old.merged.rows) self.old.gathered.batches.items) }
+    {
+        put_all(&mut self.merged, &self.gathered.batches[at].masks)?;
+        self.gathered.clear(at);
+        Ok(())
+    }
+
+    /// Puts the oldest of the places that are gathered into the diagrams, where there are many. Where memory is refused,
+    /// all stay gathered.
     fn make_room(&mut self) -> Result<(), AllocError>
         ensures { all_edges self.new.merged.nodes.kept.keys self.new.merged.rows.entries
-            self.new.gathered.entries
+            (places_in (keys self.new.merged.rows) self.new.gathered.batches.items)
             ≡ all_edges self.old.merged.nodes.kept.keys self.old.merged.rows.entries
-            self.old.gathered.entries }
+            (places_in (keys self.old.merged.rows) self.old.gathered.batches.items) }
     {
-        if self.gathered.len() >= MANY {
-            put_all(&mut self.merged, &self.gathered)?;
-            self.gathered.clear();
+        match self.gathered.full() {
+            Some(at) => self.merge(at),
+            None => Ok(()),
         }
-        Ok(())
+    }
+
+    /// The index of a row, which has a diagram from now on, be it one with nothing.
+    fn settle(&mut self, row: Row) -> Result<usize, AllocError>
+        ensures at { IfOk result (λ at. slice_get (keys self.new.merged.rows) at ≡ Some row) }
+        ensures members { all_edges self.new.merged.nodes.kept.keys self.new.merged.rows.entries
+            (places_in (keys self.new.merged.rows) self.new.gathered.batches.items)
+            ≡ all_edges self.old.merged.nodes.kept.keys self.old.merged.rows.entries
+            (places_in (keys self.old.merged.rows) self.old.gathered.batches.items) }
+    {
+        self.merged.settle(row)
     }
 
     /// How many inner nodes the diagram of an entry and a point has whose nodes test one bit each, bit 0 first: one for
@@ -68,88 +86,27 @@ impl<A: Allocator + Copy> DiagramEdges<A> {
     pub fn nodes(&self, entry: Word, point: Point) -> Result<u64, AllocError>
         ensures { IfOk result (HasNodes word_bits (λ v. Member (triple entry point v)
             (all_edges self.now.merged.nodes.kept.keys self.now.merged.rows.entries
-            self.now.gathered.entries))) }
+            (places_in (keys self.now.merged.rows) self.now.gathered.batches.items)))) }
     {
         let (place, bit) = place_of(entry, point, 0);
         let row = Row {
             entry: Halves::new(entry),
             block: place.block,
         };
-        let mut merged = self.merged.alone(row)?;
-        put_all(&mut merged, &self.gathered)?;
+        let mut merged = self.merged.copy()?;
+        put_batches(&mut merged, &self.gathered.batches)?;
         merged.count(&row, bit)
-    }
-}
-
-/// Puts a point into the mask of a place that is not gathered yet, which begins with the points that the diagrams have.
-/// Answers whether it is new; else the place stays where it is.
-fn gather<A: Allocator + Copy>(
-    gathered: &mut Masks<A>,
-    merged: &mut Merged<A>,
-    place: Place,
-    bit: usize,
-) -> Result<bool, AllocError>
-    requires bit { bit < 64 }
-    requires none { lookup (place_eq place) gathered.old.entries ≡ None }
-    requires gathered { AreGathered merged.old.nodes.kept.keys merged.old.rows.entries
-        gathered.old }
-    ensures nodes { merged.new.nodes ≡ merged.old.nodes }
-    ensures rows { merged.new.rows ≡ merged.old.rows }
-    ensures ok { IfOk result
-        (PutsEdge merged.new.nodes.kept.keys merged.new.rows.entries (edge_at place bit)
-        gathered.old.entries gathered.new.entries) }
-    ensures err { OnErr result (gathered.new.entries ≡ gathered.old.entries) }
-    ensures gathered { AreGathered merged.new.nodes.kept.keys merged.new.rows.entries gathered.new }
-{
-    let row = row_of(&place);
-    merged.seek(&row);
-    let mut mask = merged.points(&row, place.values.word());
-    if !mark(&mut mask, bit) {
-        return Ok(false);
-    }
-    begin(gathered, place, mask)?;
-    Ok(true)
-}
-
-/// Puts a point into the mask of its place. Answers whether it is new.
-fn put<A: Allocator + Copy>(
-    gathered: &mut Masks<A>,
-    last: &mut usize,
-    merged: &mut Merged<A>,
-    place: Place,
-    bit: usize,
-) -> Result<bool, AllocError>
-    requires bit { bit < 64 }
-    requires gathered { AreGathered merged.old.nodes.kept.keys merged.old.rows.entries
-        gathered.old }
-    ensures nodes { merged.new.nodes ≡ merged.old.nodes }
-    ensures rows { merged.new.rows ≡ merged.old.rows }
-    ensures ok { IfOk result
-        (PutsEdge merged.new.nodes.kept.keys merged.new.rows.entries (edge_at place bit)
-        gathered.old.entries gathered.new.entries) }
-    ensures err { OnErr result (gathered.new.entries ≡ gathered.old.entries) }
-    ensures gathered { AreGathered merged.new.nodes.kept.keys merged.new.rows.entries gathered.new }
-{
-    match find(gathered, *last, &place) {
-        Some(at) => {
-            *last = at;
-            Ok(mark_at(gathered, at, bit))
-        }
-        None => {
-            *last = gathered.len();
-            gather(gathered, merged, place, bit)
-        }
     }
 }
 
 impl<A: Allocator + Copy> PathSet<A> for DiagramEdges<A> {
     ghost members = { λ s.
-        all_edges s.merged.nodes.kept.keys s.merged.rows.entries s.gathered.entries };
+        all_edges s.merged.nodes.kept.keys s.merged.rows.entries
+        (places_in (keys s.merged.rows) s.gathered.batches.items) };
 
     fn empty(alloc: A) -> Self {
         DiagramEdges {
-            gathered: IndexMap::new(alloc),
-            last: 0,
+            gathered: Gathered::new(alloc),
             merged: Merged::new(alloc),
             count: 0,
         }
@@ -158,13 +115,12 @@ impl<A: Allocator + Copy> PathSet<A> for DiagramEdges<A> {
     fn insert(&mut self, entry: Word, point: Point, values: Word) -> Result<bool, AllocError> {
         self.make_room()?;
         let (place, bit) = place_of(entry, point, values);
-        let added = put(
-            &mut self.gathered,
-            &mut self.last,
-            &mut self.merged,
-            place,
-            bit,
-        )?;
+        let row = self.settle(row_of(&place))?;
+        let spot = Spot {
+            row,
+            values: place.values,
+        };
+        let added = self.gathered.gather(&self.merged, spot, bit)?;
         if added {
             self.count += 1;
         }
@@ -173,9 +129,16 @@ impl<A: Allocator + Copy> PathSet<A> for DiagramEdges<A> {
 
     fn contains(&self, entry: Word, point: Point, values: Word) -> bool {
         let (place, bit) = place_of(entry, point, values);
-        match find(&self.gathered, self.last, &place) {
-            Some(at) => has(self.gathered[at], bit),
-            None => has(self.merged.points(&row_of(&place), values), bit),
+        let Some(row) = self.merged.find(&row_of(&place)) else {
+            return false;
+        };
+        let spot = Spot {
+            row,
+            values: place.values,
+        };
+        match self.gathered.mask(&spot) {
+            Some(mask) => has(mask, bit),
+            None => has(self.merged.points_at(row, values), bit),
         }
     }
 

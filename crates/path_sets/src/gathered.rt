@@ -1,48 +1,45 @@
 //! Path edges that are gathered go into the diagrams.
 
-ghost use Rattle.std.specs.Prelude.{◌≡◌, ℕ, ◌<◌, ◌≤◌, true, Some, length, slice_get, IfOk, OnOk};
+ghost use Rattle.std.specs.Prelude.{◌≡◌, ℕ, ◌<◌, ◌≤◌, true, List, Some, length, slice_get, IfOk, OnOk};
 ghost use Rattle.std.specs.Prelude.{IsPermutation};
 ghost use Rattle.indexmap.specs.IndexMap.{index_map_len, keys};
 ghost use Rattle.language.specs.Lists.{Member};
 ghost use Rattle.path_sets.specs.declared.cell.Cell.{Cell};
+ghost use Rattle.path_sets.specs.declared.rows.Row.{Row};
 ghost use Rattle.path_sets.specs.Triples.{Triple};
 ghost use Rattle.path_sets.specs.Edges.{edges};
 ghost use Rattle.path_sets.specs.Diagrams.{TakesGiven, merged_has};
-ghost use Rattle.path_sets.specs.Cells.{AreCells, InCells, RowsStay};
+ghost use Rattle.path_sets.specs.Cells.{AreCells, InCells};
+ghost use Rattle.path_sets.specs.Batches.{AllWithin, places_in};
+ghost use Rattle.path_sets.specs.Spots.{AreWithin, places_of};
 
+use crate::batch::Batch;
 use crate::cell::{Cell, cell_at, cell_of, order_of};
 use crate::merged::Merged;
-use crate::place::Place;
-use crate::points::Masks;
-use crate::rows::row_of;
+use crate::spot::Spot;
+use crate::spots::Spots;
 use std::alloc::{AllocError, Allocator};
 
-/// The place at an index, and its mask.
-fn place_at<A: Allocator + Copy>(masks: &Masks<A>, at: usize) -> (Place, u64)
+/// The spot at an index, and its mask.
+fn spot_at<A: Allocator + Copy>(masks: &Spots<A>, at: usize) -> (Spot, u64)
     requires { at < length masks.now.entries }
     ensures { slice_get masks.now.entries at ≡ Some result }
 {
     match masks.get_index(at) {
-        Some((place, mask)) => (*place, *mask),
+        Some((spot, mask)) => (*spot, *mask),
         None => unreachable!(),
     }
 }
 
-/// The cells of the places, whose rows are among those of the diagrams from now on.
-fn cells_of<A: Allocator + Copy>(
-    merged: &mut Merged<A>,
-    masks: &Masks<A>,
-) -> Result<Vec<Cell, A>, AllocError>
-    ensures nodes { merged.new.nodes ≡ merged.old.nodes }
-    ensures rows { RowsStay merged.old.rows.entries merged.new.rows.entries }
-    ensures cells { IfOk result
-        (λ cells. AreCells (keys merged.new.rows) masks.now.entries cells.items) }
+/// The cells of the spots.
+fn cells_of<A: Allocator + Copy>(masks: &Spots<A>) -> Result<Vec<Cell, A>, AllocError>
+    ensures { IfOk result (λ cells. (rows : List Row) → AreWithin rows masks.now.entries
+        → AreCells rows (places_of rows masks.now.entries) cells.items) }
 {
     let mut cells = Vec::with_capacity(*masks.allocator(), masks.len())?;
     for at in 0..masks.len() {
-        let (place, mask) = place_at(masks, at);
-        let row = merged.settle(row_of(&place))?;
-        cells.push(cell_of(row, place.values.word(), mask))?;
+        let (spot, mask) = spot_at(masks, at);
+        cells.push(cell_of(spot.row, spot.values.word(), mask))?;
     }
     Ok(cells)
 }
@@ -76,6 +73,7 @@ fn run_of(cells: &[Cell], row: usize) -> usize
 /// memory is refused, some of them may be in.
 fn put_cells<A: Allocator + Copy>(merged: &mut Merged<A>, cells: &[Cell]) -> Result<(), AllocError>
     requires { (c : Cell) → Member c cells.now → c.row < index_map_len merged.old.rows }
+    ensures keys { keys merged.new.rows ≡ keys merged.old.rows }
     ensures takes { TakesGiven (InCells (keys merged.old.rows) cells.now)
         merged.old.nodes.kept.keys merged.new.nodes.kept.keys
         merged.old.rows.entries merged.new.rows.entries }
@@ -92,18 +90,40 @@ fn put_cells<A: Allocator + Copy>(merged: &mut Merged<A>, cells: &[Cell]) -> Res
     Ok(())
 }
 
-/// Puts all path edges of the places into the diagrams. Where memory is refused, some of them may be in.
+/// Puts all path edges of the spots into the diagrams. Where memory is refused, some of them may be in.
 pub(crate) fn put_all<A: Allocator + Copy>(
     merged: &mut Merged<A>,
-    masks: &Masks<A>,
+    masks: &Spots<A>,
 ) -> Result<(), AllocError>
-    ensures takes { TakesGiven (λ t. Member t (edges masks.now.entries))
+    requires { AreWithin (keys merged.old.rows) masks.now.entries }
+    ensures keys { keys merged.new.rows ≡ keys merged.old.rows }
+    ensures takes { TakesGiven (λ t. Member t (edges (places_of (keys merged.old.rows) masks.now.entries)))
         merged.old.nodes.kept.keys merged.new.nodes.kept.keys
         merged.old.rows.entries merged.new.rows.entries }
-    ensures all { OnOk result ((t : Triple) → Member t (edges masks.now.entries)
+    ensures all { OnOk result
+        ((t : Triple) → Member t (edges (places_of (keys merged.old.rows) masks.now.entries))
         → merged_has merged.new.nodes.kept.keys merged.new.rows.entries t ≡ true) }
 {
-    let mut cells = cells_of(merged, masks)?;
+    let mut cells = cells_of(masks)?;
     sort(&mut cells)?;
     put_cells(merged, &cells)
+}
+
+/// Puts all path edges of the batches into the diagrams. Where memory is refused, some of them may be in.
+pub(crate) fn put_batches<A: Allocator + Copy>(
+    merged: &mut Merged<A>,
+    batches: &[Batch<A>],
+) -> Result<(), AllocError>
+    requires { AllWithin (keys merged.old.rows) batches.now }
+    ensures takes { TakesGiven (λ t. Member t (edges (places_in (keys merged.old.rows) batches.now)))
+        merged.old.nodes.kept.keys merged.new.nodes.kept.keys
+        merged.old.rows.entries merged.new.rows.entries }
+    ensures all { OnOk result
+        ((t : Triple) → Member t (edges (places_in (keys merged.old.rows) batches.now))
+        → merged_has merged.new.nodes.kept.keys merged.new.rows.entries t ≡ true) }
+{
+    for at in 0..batches.len() {
+        put_all(merged, &batches[at].masks)?;
+    }
+    Ok(())
 }

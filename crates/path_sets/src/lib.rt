@@ -5,6 +5,7 @@
 //! once, where `insert` answers that it was new.
 #![tactic(auto)]
 
+mod batch;
 mod binary;
 mod cell;
 mod diagram;
@@ -16,6 +17,7 @@ mod inner;
 mod laws;
 mod mask;
 mod merged;
+mod newest;
 mod node;
 mod nodes;
 mod ordered;
@@ -27,7 +29,10 @@ mod quads;
 mod rows;
 mod seek;
 mod shards;
+mod spot;
+mod spots;
 mod union;
+mod waiting;
 
 pub use diagram::DiagramEdges;
 pub use edge_limit::{EdgeLimit, MOST_EDGES};

@@ -1,7 +1,8 @@
 //! Diagrams of valuations with their points, one for each row.
 
 ghost use Rattle.std.specs.Prelude.{◌≡◌, ℕ, ◌+◌, ◌*◌, ◌<◌, ◌/◌, ◌%◌, ◌^◌, ◌⊎◌, true, false, IfOk};
-ghost use Rattle.std.specs.Prelude.{Some, slice_get, OnOk};
+ghost use Rattle.std.specs.Prelude.{None, Some, slice_get, OnOk, IfSome, IsNone};
+ghost use Rattle.std.specs.Map.{lookup};
 ghost use Rattle.language.specs.Words.{word_bits};
 ghost use Rattle.path_sets.specs.Suffixes.{HasNodes};
 ghost use Rattle.std.proofs.lemmas.Map.Keys.{IsDistinct-prop};
@@ -16,8 +17,7 @@ use crate::binary::binary;
 use crate::cell::Cell;
 use crate::inner::inner_nodes;
 use crate::quads::Quads;
-use crate::rows::{Row, Rows, begin, index_of, root, root_at, set_root};
-use crate::seek::seek;
+use crate::rows::{Row, Rows, find, index_of, root, root_at, set_root};
 use crate::union::union;
 use indexmap::IndexMap;
 use language::Word;
@@ -46,39 +46,35 @@ impl<A: Allocator + Copy> Merged<A> {
         }
     }
 
-    /// The diagram of one row alone.
-    pub(crate) fn alone(&self, row: Row) -> Result<Self, AllocError>
-        ensures { IfOk result
-            (λ m. (bit v : ℕ) → bit < 64 → merged_has m.nodes.kept.keys m.rows.entries
-            (triple row.entry (64 * row.block + bit) v)
-            ≡ merged_has self.now.nodes.kept.keys self.now.rows.entries
-            (triple row.entry (64 * row.block + bit) v)) }
+    /// The same diagrams of the same rows.
+    pub(crate) fn copy(&self) -> Result<Self, AllocError>
+        ensures nodes { IfOk result (λ m. m.nodes.kept.keys ≡ self.now.nodes.kept.keys) }
+        ensures rows { IfOk result (λ m. m.rows.entries ≡ self.now.rows.entries) }
     {
         let nodes = self.nodes.copy()?;
-        let mut rows = IndexMap::new(*self.rows.allocator());
-        begin(&mut rows, row, root(&self.rows, self.last, &row))?;
         Ok(Merged {
             nodes,
-            rows,
+            rows: self.rows.clone()?,
             last: 0,
         })
     }
 
-    /// Has a row tried first from now on.
-    pub(crate) fn seek(&mut self, row: &Row)
-        ensures nodes { self.new.nodes ≡ self.old.nodes }
-        ensures rows { self.new.rows ≡ self.old.rows }
+    /// The index of a row, where it has a diagram.
+    pub(crate) fn find(&self, row: &Row) -> Option<usize>
+        ensures here { IfSome result (λ at. slice_get (keys self.now.rows) at ≡ Some row.now) }
+        ensures none { IsNone result → lookup (row_eq row.now) self.now.rows.entries ≡ None }
     {
-        self.last = seek(&self.rows, self.last, row);
+        find(&self.rows, self.last, row)
     }
 
-    /// The points of a row that a valuation is at.
-    pub(crate) fn points(&self, row: &Row, values: Word) -> u64
-        ensures { (bit : ℕ) → bit < 64
+    /// The points that a valuation is at by the diagram of the row at an index.
+    pub(crate) fn points_at(&self, at: usize, values: Word) -> u64
+        requires { at < index_map_len self.now.rows }
+        ensures { (row : Row) (bit : ℕ) → slice_get (keys self.now.rows) at ≡ Some row → bit < 64
             → bit_of result bit ≡ merged_has self.now.nodes.kept.keys self.now.rows.entries
-            (triple row.now.entry (64 * row.now.block + bit) values) }
+            (triple row.entry (64 * row.block + bit) values) }
     {
-        self.nodes.points(root(&self.rows, self.last, row), values)
+        self.nodes.points(root_at(&self.rows, at), values)
     }
 
     /// The index of a row, which has a diagram from now on, be it one with nothing. Where memory is refused, the rows

@@ -62,7 +62,8 @@ pub(crate) fn root_at<A: Allocator + Copy>(rows: &Rows<A>, at: usize) -> u32
 }
 
 /// The index of a row, where it has a diagram; the one used last is tried first.
-fn find<A: Allocator + Copy>(rows: &Rows<A>, last: usize, row: &Row) -> Option<usize>
+#[inline(always)]
+pub(crate) fn find<A: Allocator + Copy>(rows: &Rows<A>, last: usize, row: &Row) -> Option<usize>
     ensures here { IfSome result (λ at. slice_get (keys rows.now) at ≡ Some row.now) }
     ensures none { IsNone result → lookup (row_eq row.now) rows.now.entries ≡ None }
 {
@@ -75,11 +76,7 @@ fn find<A: Allocator + Copy>(rows: &Rows<A>, last: usize, row: &Row) -> Option<u
 }
 
 /// Gives a row that has no diagram the number of one. Where memory is refused, it has none.
-pub(crate) fn begin<A: Allocator + Copy>(
-    rows: &mut Rows<A>,
-    row: Row,
-    number: u32,
-) -> Result<(), AllocError>
+fn begin<A: Allocator + Copy>(rows: &mut Rows<A>, row: Row, number: u32) -> Result<(), AllocError>
     requires { lookup (row_eq row) rows.old.entries ≡ None }
     ensures ok { OnOk result (rows.new.entries ≡ rows.old.entries ++ (row, number) ∷ []) }
     ensures roots { OnOk result (Roots rows.old.entries row number rows.new.entries) }

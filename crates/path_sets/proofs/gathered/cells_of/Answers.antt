@@ -1,23 +1,34 @@
-use Rattle.std.proofs.Common.{Some, slice_get, ap, ◌∙◌}
-use Rattle.indexmap.specs.IndexMap.{keys}
-use Rattle.path_sets.proofs.Gathering.{next_cell}
+use Rattle.std.proofs.Common.{◌≡◌, Some, slice_get, length, take, sym, ap, ◌∙◌, subst, arith}
+use Rattle.path_sets.specs.Cells.{AreCells}
+use Rattle.path_sets.specs.Diagrams.{row_of}
+use Rattle.path_sets.specs.Spots.{place_at, places_of}
+use Rattle.path_sets.proofs.Batched.{key_of}
+use Rattle.path_sets.proofs.Gathering.{at_index, next_cell}
+use Rattle.path_sets.proofs.Placed.{at_places, item_there, place_is, take_places}
 use Rattle.path_sets.proofs.gathered.cells_of.Goals as goal
 
 pub loop-at-preserved : goal.loop-at-preserved
-loop-at-preserved g c =
-    let i = c.loop-at.invariant in
-    let ks = keys c.loop-at.merged.rows in
-    let ls = keys c.settle.new.self.rows in
-    let stay = c.settle.ensures.stay in record {
-      nodes = c.settle.ensures.nodes ∙ i.nodes;
-      stay = record {
-        indexes = λ k row h. stay.indexes k row (i.stay.indexes k row h);
-        numbers = λ e b. stay.numbers e b ∙ i.stay.numbers e b;
-      };
-      cells = next_cell ks ls c.args.masks.now.entries c.loop-at.at c.loop-at.cells.items c.push.new.self.items c.place_at-place.result
-          c.cell_of.result c.place_at-place.ensures c.in_ok-push.ensures.items stay.indexes i.cells (
-            ap (slice_get ls) c.cell_of.ensures.row ∙ c.in_ok-row.ensures.at ∙ ap Some c.row_of.ensures,
-            c.cell_of.ensures.values ∙ c.word.ensures,
-            c.cell_of.ensures.mask,
-          );
-    }
+loop-at-preserved g c = record {
+  cells = λ rows within.
+      let es = c.args.masks.now.entries in
+      let at = c.loop-at.at in
+      let d = c.spot_at-spot.result in
+      let s = d.0 in
+      let cell = c.cell_of.result in
+      let there = c.spot_at-spot.ensures in
+      let (r, here) = item_there rows s.row (within s (key_of es d (at_index es d at there))) in
+      let place = place_is rows s r here in
+      next_cell rows rows (places_of rows es) at c.loop-at.cells.items c.push.new.self.items (place_at rows s, d.1) cell
+      (at_places rows es at d there) c.in_ok-push.ensures.items (λ k row h. h) (c.loop-at.invariant.cells rows within) (
+        ap (slice_get rows) c.cell_of.ensures.row ∙ here ∙ ap (λ p. Some (row_of p)) (sym place),
+        c.cell_of.ensures.values ∙ c.word.ensures ∙ ap (λ p. p.values) (sym place),
+        c.cell_of.ensures.mask,
+      );
+}
+
+pub returns : goal.returns
+returns g c rows within =
+    let es = c.args.masks.now.entries in
+    let end : c.loop-at.at ≡ length es = omega arith in
+    subst (λ ps. AreCells rows ps c.loop-at.cells.items) (ap (λ n. take n (places_of rows es)) end ∙ take_places rows es)
+    (c.loop-at.invariant.cells rows within)

@@ -1,37 +1,78 @@
-use Rattle.std.proofs.Common.{ap, sym, ◌∙◌, ◌+◌, ◌*◌, inl, inr, subst, refl, arith}
+use Rattle.std.proofs.Common.{◌≡◌, ◌+◌, ◌*◌, Some, refl, ap, sym, ◌∙◌, inl, inr, subst, true≢false, arith}
+use Rattle.std.specs.Map.{lookup}
+use Rattle.std.proofs.lemmas.Option.{slice_get_within}
+use Rattle.indexmap.specs.IndexMap.{keys}
 use Rattle.language.specs.Lists.{Member}
-use Rattle.path_sets.specs.Edges.{edges}
+use Rattle.path_sets.specs.declared.rows.Row.{Row}
+use Rattle.path_sets.specs.declared.spot.Spot.{Spot}
+use Rattle.path_sets.specs.Batches.{places_in}
+use Rattle.path_sets.specs.Cells.{row_at}
+use Rattle.path_sets.specs.Diagrams.{merged_has, row_eq, row_of}
+use Rattle.path_sets.specs.Edges.{edge_at, edges}
+use Rattle.path_sets.specs.Members.{IsEdgeThere}
+use Rattle.path_sets.specs.Spots.{place_at}
 use Rattle.path_sets.specs.Triples.{Triple, triple}
-use Rattle.path_sets.specs.Diagrams.{merged_has}
-use Rattle.path_sets.proofs.Gathering.{at_index}
-use Rattle.path_sets.proofs.Grouped.{absent, in_group, no_edge, only_in_group, pair_at}
-use Rattle.path_sets.proofs.Masks.{bits_hold, bits_known}
-use Rattle.path_sets.proofs.Universe.{any_member, Fits, is_member, member_is}
+use Rattle.path_sets.proofs.Batched.{mask_is, no_row, not_gathered, row_of_edge}
+use Rattle.path_sets.proofs.Placed.{place_is}
+use Rattle.path_sets.proofs.Rooted.{row_within}
+use Rattle.path_sets.proofs.Universe.{Fits, is_member, member_is}
+use Rattle.path_sets.proofs.diagram.DiagramEdgesPathSet.contains.Given as given
 use Rattle.path_sets.proofs.diagram.DiagramEdgesPathSet.contains.Goals as goal
+use Rattle.path_sets.proofs.diagram.DiagramEdgesPathSet.contains.Goals.{After-row_of, In-Some}
 
-pub returns-in-Some : goal.returns-in-Some
-returns-in-Some g c =
+-- the row is that of the path edge
+row_is : (g : given.Over) (c : After-row_of g) → c.row_of.result ≡ row_at (triple c.args.entry c.args.point c.args.values)
+row_is g c =
+    let p = c.place_of-place.result.0 in
+    c.row_of.ensures ∙ sym (row_of_edge (row_of p) p.values c.place_of-place.result.1 c.place_of-place.ensures.bit)
+    ∙ ap row_at c.place_of-place.ensures.edge
+
+-- the spot at the row's index stands for its place
+edge_is : (g : given.Over) (c : In-Some g)
+    → edge_at (place_at (keys c.args.self.now.merged.rows) (record { row = c.in-Some.row; values = c.place_of-place.result.0.values }))
+    c.place_of-place.result.1
+    ≡ triple c.args.entry c.args.point c.args.values
+edge_is g c =
+    let p = c.place_of-place.result.0 in
+    let s : Spot = record { row = c.in-Some.row; values = p.values } in
+    ap (λ q. edge_at q c.place_of-place.result.1)
+    (place_is (keys c.args.self.now.merged.rows) s (row_of p) (c.in-Some.ensures.here ∙ ap Some c.row_of.ensures))
+    ∙ c.place_of-place.ensures.edge
+
+pub returns-in_default : goal.returns-in_default
+returns-in_default g c =
     let s = c.args.self.now in
     let ns = s.merged.nodes.kept.keys in
     let rs = s.merged.rows.entries in
-    let gs = s.gathered.entries in
+    let bs = s.gathered.batches.items in
+    let x = triple c.args.entry c.args.point c.args.values in
+    let none = ap (λ r. lookup (row_eq r) rs) (sym (row_is g (goal.at.returns-in_default g c).After-row_of))
+    ∙ c.in_default.ensures.none refl in (
+      λ h. absurd (true≢false (sym h)),
+      λ there. absurd (no_row s.gathered.homes.items ns rs bs s.gathered.home s.within s.merged.unique s.covers x none
+          (member_is ns rs (places_in (keys s.merged.rows) bs) x there)),
+    )
+
+pub points_at-requires : goal.points_at-requires
+points_at-requires g c =
+    row_within c.args.self.now.merged.rows.entries c.in-Some.row c.row_of.result c.in-Some.ensures.here
+
+pub returns-in-Some-mask : goal.returns-in-Some-mask
+returns-in-Some-mask g c =
+    let s = c.args.self.now in
+    let ns = s.merged.nodes.kept.keys in
+    let rs = s.merged.rows.entries in
+    let bs = s.gathered.batches.items in
+    let gs = places_in (keys s.merged.rows) bs in
     let x = triple c.args.entry c.args.point c.args.values in
     let fits : Fits x = record { entry = omega arith; point = omega arith; values = omega arith } in
-    let p = c.place_of-place.result.0 in
-    let b = c.place_of-place.result.1 in
-    let small = c.place_of-place.ensures.bit in
-    let edge = c.place_of-place.ensures.edge in
-    let m = c.index.result.now in
-    let i = c.in-Some.at in
-    let here = c.in-Some.ensures.here in
-    let at = pair_at gs i p m here c.index.ensures in (
-      λ h. is_member ns rs gs x fits (inr (subst (λ t. Member t (edges gs)) edge
-          (in_group gs i p m b at (bits_hold m b 64 small (sym c.has.ensures ∙ h))))),
-      λ there. c.has.ensures ∙ (bits_known m b 64 (only_in_group gs i p m b small s.unique at
-          (elim (member_is ns rs gs x there) [
-            | inl merged ↦ any_member _ (edges gs) (s.covers p b small (at_index _ p i here) (ap (merged_has ns rs) edge ∙ merged))
-            | inr gathered ↦ subst (λ t. Member t (edges gs)) (sym edge) gathered
-          ]))).1,
+    let spot : Spot = record { row = c.in-Some.row; values = c.place_of-place.result.0.values } in
+    let (k, own) = c.in-Some-mask.ensures.some in
+    let edge = edge_is g (goal.at.returns-in-Some-mask g c).In-Some in
+    let known = mask_is s.gathered.homes.items ns rs bs s.gathered.home s.within s.merged.unique s.covers k spot c.in-Some-mask.mask
+    c.place_of-place.result.1 own c.place_of-place.ensures.bit in (
+      λ h. is_member ns rs gs x fits (subst (IsEdgeThere ns rs gs) edge (known.0 (sym c.has.ensures ∙ h))),
+      λ there. c.has.ensures ∙ known.1 (subst (IsEdgeThere ns rs gs) (sym edge) (member_is ns rs gs x there)),
     )
 
 pub returns-in-None : goal.returns-in-None
@@ -39,21 +80,25 @@ returns-in-None g c =
     let s = c.args.self.now in
     let ns = s.merged.nodes.kept.keys in
     let rs = s.merged.rows.entries in
-    let gs = s.gathered.entries in
+    let bs = s.gathered.batches.items in
+    let gs = places_in (keys s.merged.rows) bs in
     let x = triple c.args.entry c.args.point c.args.values in
     let fits : Fits x = record { entry = omega arith; point = omega arith; values = omega arith } in
     let p = c.place_of-place.result.0 in
     let b = c.place_of-place.result.1 in
     let small = c.place_of-place.ensures.bit in
-    let edge = c.place_of-place.ensures.edge in
-    let values = ap (λ (t : Triple). t.values) edge in
-    let same = c.has-in-None.ensures ∙ c.points.ensures b small
-    ∙ ap (λ r. merged_has ns rs (triple r.entry (64 * r.block + b) c.args.values)) c.row_of.ensures
-    ∙ (λ j. merged_has ns rs (triple p.entry (64 * p.block + b) (sym values j))) ∙ ap (merged_has ns rs) edge in (
+    let spot : Spot = record { row = c.in-Some.row; values = p.values } in
+    let edge = edge_is g (goal.at.returns-in-None g c).In-Some in
+    let values = ap (λ (t : Triple). t.values) c.place_of-place.ensures.edge in
+    let same = c.has-in-None.ensures ∙ c.points_at.ensures c.row_of.result b c.in-Some.ensures.here small
+    ∙ ap (λ (r : Row). merged_has ns rs (triple r.entry (64 * r.block + b) c.args.values)) c.row_of.ensures
+    ∙ ap (λ v. merged_has ns rs (triple p.entry (64 * p.block + b) v)) (sym values)
+    ∙ ap (merged_has ns rs) c.place_of-place.ensures.edge in (
       λ h. is_member ns rs gs x fits (inl (sym same ∙ h)),
       λ there. elim (member_is ns rs gs x there) [
         | inl merged ↦ same ∙ merged
-        | inr gathered ↦ absurd (no_edge gs p b small (absent gs p (c.in-None.ensures.none refl))
+        | inr gathered ↦ absurd (not_gathered s.gathered.homes.items ns rs bs s.gathered.home s.within s.merged.unique s.covers spot b
+            small (slice_get_within (keys s.merged.rows) c.in-Some.row c.row_of.result c.in-Some.ensures.here) (c.in-None.ensures.none refl)
             (subst (λ t. Member t (edges gs)) (sym edge) gathered))
       ],
     )

@@ -1,10 +1,16 @@
-use Rattle.std.proofs.Common.{◌≡◌, ◌+◌, Bool, true, false, ap, sym, ◌∙◌, subst, arith}
+use Rattle.std.proofs.Common.{◌≡◌, ◌+◌, Bool, true, false, Some, length, refl, ap, sym, ◌∙◌, subst, arith}
 use Rattle.std.proofs.lemmas.Bool.{OnFalse_from, OnTrue_from}
+use Rattle.indexmap.specs.IndexMap.{keys}
+use Rattle.path_sets.specs.declared.spot.Spot.{Spot}
+use Rattle.path_sets.specs.Batches.{places_in}
+use Rattle.path_sets.specs.Diagrams.{row_of}
 use Rattle.path_sets.specs.Edges.{edge_at}
-use Rattle.path_sets.specs.Triples.{Triple, triple}
 use Rattle.path_sets.specs.Members.{all_edges, PutsEdge}
+use Rattle.path_sets.specs.Spots.{place_at}
+use Rattle.path_sets.specs.Triples.{Triple, triple}
 use Rattle.path_sets.proofs.Grouped.{Groups}
-use Rattle.path_sets.proofs.Covered.{longer, members_kept, members_put, was_known, was_new}
+use Rattle.path_sets.proofs.Covered.{longer, members_kept, members_put, members_same, was_known, was_new}
+use Rattle.path_sets.proofs.Placed.{place_is}
 use Rattle.path_sets.proofs.Universe.{Fits, all_none_twice}
 use Rattle.path_sets.proofs.diagram.DiagramEdgesPathSet.insert.Given as given
 use Rattle.path_sets.proofs.diagram.DiagramEdgesPathSet.insert.Goals as goal
@@ -16,58 +22,82 @@ module _ (g : given.Over) (c : In_ok-added g) where
 
   -- what is gathered before and after it
   abbrev old : Groups
-  old = c.make_room.new.self.gathered.entries
+  old = places_in (keys c.settle.new.self.merged.rows) c.settle.new.self.gathered.batches.items
 
   abbrev new : Groups
-  new = c.put.new.gathered.entries
+  new = places_in (keys c.settle.new.self.merged.rows) c.gather.new.self.batches.items
 
   fits : Fits x
   fits = record { entry = omega arith; point = omega arith; values = omega arith }
 
-  -- what was there is there before the path edge is put in
-  here : all_edges c.put.new.merged.nodes.kept.keys c.put.new.merged.rows.entries old
-      ≡ all_edges c.make_room.new.self.merged.nodes.kept.keys c.make_room.new.self.merged.rows.entries old
-  here j = all_edges (c.put.ensures.nodes j).kept.keys (c.put.ensures.rows j).entries old
+  abbrev spot : Spot
+  spot = record { row = c.in_ok-row.row; values = c.place_of-place.result.0.values }
+
+  -- the spot at the row's index stands for its place
+  edge : edge_at (place_at (keys c.settle.new.self.merged.rows) spot) c.place_of-place.result.1 ≡ x
+  edge =
+      ap (λ q. edge_at q c.place_of-place.result.1)
+      (place_is (keys c.settle.new.self.merged.rows) spot (row_of c.place_of-place.result.0)
+      (c.in_ok-row.ensures.at ∙ ap Some c.row_of.ensures))
+      ∙ c.place_of-place.ensures.edge
+
+  -- the members before are those that there were
+  here : all_edges c.settle.new.self.merged.nodes.kept.keys c.settle.new.self.merged.rows.entries old
+      ≡ all_edges c.args.self.now.merged.nodes.kept.keys c.args.self.now.merged.rows.entries
+      (places_in (keys c.args.self.now.merged.rows) c.args.self.now.gathered.batches.items)
+  here = c.in_ok-row.ensures.members ∙ c.in_ok-make_room.ensures
 
   -- what is put in, or is there, as the answer says
   puts : (b : Bool) → c.in_ok-added.added ≡ b
-      → PutsEdge c.put.new.merged.nodes.kept.keys c.put.new.merged.rows.entries
-      (edge_at c.place_of-place.result.0 c.place_of-place.result.1) old new b
-  puts b is = subst (PutsEdge c.put.new.merged.nodes.kept.keys c.put.new.merged.rows.entries
-      (edge_at c.place_of-place.result.0 c.place_of-place.result.1) old new) is c.in_ok-added.ensures.ok
+      → PutsEdge c.settle.new.self.merged.nodes.kept.keys c.settle.new.self.merged.rows.entries
+      (edge_at (place_at (keys c.settle.new.self.merged.rows) spot) c.place_of-place.result.1) old new b
+  puts b is = subst (PutsEdge c.settle.new.self.merged.nodes.kept.keys c.settle.new.self.merged.rows.entries
+      (edge_at (place_at (keys c.settle.new.self.merged.rows) spot) c.place_of-place.result.1) old new) is c.in_ok-added.ensures.ok
 
 pub invariant_of-self-then-added : goal.invariant_of-self-then-added
 invariant_of-self-then-added g c =
     let i = (goal.at.invariant_of-self-then-added g c).In_ok-added in
+    let s = c.settle.new.self in
     let more =
-    longer _ _ (x g i) _ (old g i) (new g i) _ (fits g i) c.place_of-place.ensures.edge (here g i) (puts g i true c.if-added.true) in
+    longer s.merged.nodes.kept.keys s.merged.rows.entries (x g i) _ (old g i) (new g i) _ (fits g i) (edge g i) refl
+    (puts g i true c.if-added.true) in
     record {
-      unique = c.put.ensures.gathered.unique;
-      covers = c.put.ensures.gathered.covers;
-      counted = ap (λ n. n + 1) c.make_room.new.self.counted ∙ sym more;
-      once = all_none_twice c.put.new.merged.nodes.kept.keys c.put.new.merged.rows.entries c.put.new.gathered.entries;
+      within = c.gather.ensures.within;
+      covers = c.gather.ensures.covers;
+      counted = ap (λ n. n + 1) s.counted ∙ sym more;
+      once = all_none_twice s.merged.nodes.kept.keys s.merged.rows.entries (new g i);
+    }
+
+pub invariant_of-self-else-added : goal.invariant_of-self-else-added
+invariant_of-self-else-added g c =
+    let i = (goal.at.invariant_of-self-else-added g c).In_ok-added in
+    let s = c.settle.new.self in
+    record {
+      within = c.gather.ensures.within;
+      covers = c.gather.ensures.covers;
+      counted = s.counted ∙ sym (ap length (members_same s.merged.nodes.kept.keys s.merged.rows.entries (x g i) _ (old g i) (new g i) _
+          (fits g i) (edge g i) refl (puts g i false c.if-added.false)));
+      once = all_none_twice s.merged.nodes.kept.keys s.merged.rows.entries (new g i);
     }
 
 pub returns-then-added-clause-members : goal.returns-then-added-clause-members
 returns-then-added-clause-members g c =
     let i = (goal.at.returns-then-added-clause-members g c).In_ok-added in
-    members_put _ _ (x g i) _ (old g i) (new g i) _ (fits g i) c.place_of-place.ensures.edge (here g i ∙ c.in_ok-make_room.ensures)
-    (puts g i true c.if-added.true)
+    members_put _ _ (x g i) _ (old g i) (new g i) _ (fits g i) (edge g i) (here g i) (puts g i true c.if-added.true)
 
 pub returns-then-added-clause-new : goal.returns-then-added-clause-new
 returns-then-added-clause-new g c =
     let i = (goal.at.returns-then-added-clause-new g c).In_ok-added in
-    OnTrue_from c.in_ok-added.added _ (λ is. was_new _ _ (x g i) _ (old g i) (new g i) _ (fits g i) c.place_of-place.ensures.edge
-    (here g i ∙ c.in_ok-make_room.ensures) (puts g i true is))
+    OnTrue_from c.in_ok-added.added _
+    (λ is. was_new _ _ (x g i) _ (old g i) (new g i) _ (fits g i) (edge g i) (here g i) (puts g i true is))
 
 pub returns-else-added-clause-members : goal.returns-else-added-clause-members
 returns-else-added-clause-members g c =
     let i = (goal.at.returns-else-added-clause-members g c).In_ok-added in
-    members_kept _ _ (x g i) _ (old g i) (new g i) _ (fits g i) c.place_of-place.ensures.edge (here g i ∙ c.in_ok-make_room.ensures)
-    (puts g i false c.if-added.false)
+    members_kept _ _ (x g i) _ (old g i) (new g i) _ (fits g i) (edge g i) (here g i) (puts g i false c.if-added.false)
 
 pub returns-else-added-clause-known : goal.returns-else-added-clause-known
 returns-else-added-clause-known g c =
     let i = (goal.at.returns-else-added-clause-known g c).In_ok-added in
-    OnFalse_from c.in_ok-added.added _ (λ is. was_known _ _ (x g i) _ (old g i) (new g i) _ (fits g i) c.place_of-place.ensures.edge
-    (here g i ∙ c.in_ok-make_room.ensures) (puts g i false is))
+    OnFalse_from c.in_ok-added.added _
+    (λ is. was_known _ _ (x g i) _ (old g i) (new g i) _ (fits g i) (edge g i) (here g i) (puts g i false is))
