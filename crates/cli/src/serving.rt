@@ -17,7 +17,7 @@ use std::io::{self, ErrorKind, Read};
 use std::sync::Wait;
 use std::thread::Threads;
 
-/// Tells why a text gets no verdict, if it gets none, or that memory gave out over that.
+/// Writes to `log` why a text gets no verdict, if it gets none, or that memory ran out for this message.
 fn tell_why<X: Alloc, L: Stream>(
     rt: &X,
     path: &str,
@@ -39,7 +39,7 @@ fn tell_why<X: Alloc, L: Stream>(
     }
 }
 
-/// Answers that memory gave out, and tells it.
+/// Replies that memory ran out, and writes the same to `log`.
 pub(crate) fn no_room<W: Stream, L: Stream>(writer: &mut W, log: &mut L) -> u8
     ensures { Says (streams (W.held writer.old) (L.held log.old))
         (streams (W.held writer.new) (L.held log.new))
@@ -61,7 +61,7 @@ fn reason<A: Allocator + Copy>(
     format!(in alloc; "{path}: {words}\n")
 }
 
-/// Tells why the system does not read a file, or that memory gave out over that.
+/// Writes to `log` why the system does not read a file, or that memory ran out for this message.
 fn tell_reason<A: Allocator + Copy, L: Stream>(alloc: A, path: &str, error: &io::Error, log: &mut L)
     ensures { (message : List ℕ) × IsReason path.now message
         × Logs (L.held log.old) (L.held log.new) message }
@@ -72,8 +72,8 @@ fn tell_reason<A: Allocator + Copy, L: Stream>(alloc: A, path: &str, error: &io:
     }
 }
 
-/// Answers that a file is not opened or read, with the system's reason to `log`, and gives the status: 2, or 3 where
-/// memory gave out or a write fails.
+/// Replies that a file cannot be opened or read, and writes the system's reason to `log`; if the error is that memory
+/// ran out, it replies that instead. Returns the status: 2, or 3 if memory ran out or a write to `writer` fails.
 pub(crate) fn unread<A: Allocator + Copy, W: Stream, L: Stream>(
     alloc: A,
     path: &str,
@@ -92,9 +92,9 @@ pub(crate) fn unread<A: Allocator + Copy, W: Stream, L: Stream>(
     say(writer, b"refused: file\n", 2)
 }
 
-/// `serve`, with the name of what is read, and with a stream to which is told why there is no verdict, as a compiler
-/// does: what `explain` says of a refused text, and the system's reason where reading fails. Writes to it that fail
-/// change nothing.
+/// `serve` with the name of what is read, and with a stream to which it writes why there is no verdict, as a compiler
+/// does: what `explain` says about a refused text, and the system's reason if reading fails. A failed write to that
+/// stream changes neither the reply nor the status.
 pub fn serve_telling<X: Alloc + Wait + Threads + Sync, R: Read, W: Stream, L: Stream>(
     rt: &X,
     path: &str,
@@ -123,12 +123,13 @@ where
     say(writer, reply.bytes.as_slice(), reply.status)
 }
 
-/// Reads a text, writes the reply to it and gives the status.
+/// Reads a text, writes the reply to it and returns the status.
 ///
-/// It reads to the end, or 65,537 bytes where there are more, which are answered as too long. Where room for them is
-/// refused, it writes the reply for want of memory and gives 3; after a failed read it writes the line `refused: file`
-/// and gives 2; after a failed write it gives 3. A read or a write that a signal interrupts is made again. Where it
-/// gives 0 or 1, it read all that the reader had, and wrote just the bytes that `answer` promises for that, once.
+/// It reads to the end, or 65,537 bytes if there are more, which are refused as too long. If the memory for them is
+/// refused, it writes the reply for lack of memory and returns 3; after a failed read it writes the line
+/// `refused: file` and returns 2; after a failed write it returns 3. A read or a write that a signal interrupts is made
+/// again. If it returns 0 or 1, it read all that the reader had, and wrote exactly the bytes that `answer` promises for
+/// that, once.
 pub fn serve<X: Alloc + Wait + Threads + Sync, R: Read, W: Stream>(
     rt: &X,
     reader: &mut R,

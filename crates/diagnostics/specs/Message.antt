@@ -1,4 +1,4 @@
--- What a message about a place of a text tells, part by part.
+-- What a message about a place of a text says, part by part.
 use Rattle.std.specs.Prelude.{◌≡◌, ℕ, ◌-◌, Bool, not, ◌||◌, ◌==◌, List, [], ◌∷◌, ◌++◌, Option, MatchOption}
 use Rattle.std.specs.Prelude.{if◌then◌else◌, codes, drop, length, map, nat_le, nat_lt, position, take}
 use Rattle.std.specs.Char.{is_ascii_alphanumeric}
@@ -18,7 +18,7 @@ head path line column = path ++ (codes ":" ++ (decimal line ++ (codes ":" ++ (de
 abbrev pub shown : ℕ → ℕ
 shown byte = if byte == 9 || is_in_range 32 126 byte then byte else (if byte == 13 then 32 else 63)
 
--- what stands under a byte: a tab under a tab, else a blank
+-- what is written under a byte: a tab under a tab, else a blank
 abbrev pub blank : ℕ → ℕ
 blank byte = if byte == 9 then 9 else 32
 
@@ -34,24 +34,24 @@ first_word bytes = before_first (λ byte. not (is_word_byte byte)) bytes
 abbrev pub word_or_sign : List ℕ → List ℕ
 word_or_sign bytes = if length (first_word bytes) == 0 then take 1 bytes else first_word bytes
 
--- two dots where more bytes stand there than are shown
+-- two dots if there are more bytes than are shown
 abbrev pub dots : ℕ → List ℕ → List ℕ
 dots most bytes = if nat_lt most (length bytes) then codes ".." else []
 
--- the first 40 bytes of a name between quotes, with dots where it has more
+-- the first 40 bytes of a name between quotes, with dots if it has more
 abbrev pub quoted : List ℕ → List ℕ
 quoted name = codes "`" ++ (map shown (take 40 name) ++ (dots 40 name ++ codes "`"))
 
--- a sign between quotes, the number of a byte that is neither word nor sign, or that nothing more stands there
+-- a sign between quotes, the number of a byte that is neither word nor sign, or that nothing more follows
 abbrev pub sign_or_number : List ℕ → List ℕ
 sign_or_number [] = codes "end of the text"
 sign_or_number (byte ∷ rest) = if is_in_range 33 126 byte then quoted (byte ∷ []) else codes "byte " ++ decimal byte
 
--- what stands first in the rest of a line: a word between quotes, or what else stands there
+-- what comes first in the rest of a line: a word between quotes, or else what is there
 abbrev pub first_item : List ℕ → List ℕ
 first_item rest = if length (first_word rest) == 0 then sign_or_number rest else quoted (first_word rest)
 
--- the name at the beginning of the rest of a line, and what is told of it
+-- the name at the beginning of the rest of a line, and what is said about it
 abbrev pub of_name : List ℕ → List ℕ → List ℕ
 of_name what rest = quoted (first_word rest) ++ what
 
@@ -61,7 +61,7 @@ needs places rounds most =
     codes " needs " ++ (decimal places ++ (codes " places with --rounds " ++ (decimal rounds
     ++ (codes ", and " ++ (decimal most ++ codes " is the limit\n")))))
 
--- that the text does not go on there as a program does
+-- that the text does not continue there as a program does
 abbrev pub unexpected : List ℕ → List ℕ
 unexpected rest = codes "unexpected " ++ (first_item rest ++ codes "\n")
 
@@ -69,7 +69,7 @@ unexpected rest = codes "unexpected " ++ (first_item rest ++ codes "\n")
 abbrev pub foreign : List ℕ → List ℕ
 foreign rest = first_item rest ++ codes " is not ASCII\n"
 
--- what is told of a fault where the rest of a line begins
+-- what is said about a fault where the rest of a line begins
 abbrev pub of_fault : Wrong → List ℕ → List ℕ
 of_fault (Word what) = of_name what.now
 of_fault (Wide places rounds most) = of_name (needs places rounds most)
@@ -80,7 +80,7 @@ of_fault NotAscii = foreign
 abbrev pub near : List ℕ → List ℕ
 near before = drop (length before - 60) before
 
--- the line of a place: at most 60 bytes before it and 40 from it on, with dots where more stand
+-- the line of a place: at most 60 bytes before it and 40 from it on, with dots for what is left out
 abbrev pub source_line : List ℕ → List ℕ → List ℕ
 source_line before behind =
     dots 60 before ++ (map shown (near before) ++ (map shown (take 40 behind) ++ (dots 40 behind ++ codes "\n")))
@@ -89,7 +89,8 @@ source_line before behind =
 abbrev pub caret_line : List ℕ → List ℕ
 caret_line before = map blank (dots 60 before) ++ (map blank (near before) ++ codes "^\n")
 
--- The message is the old one, the place of the offset, what is told of the rest of its line, that line and the caret.
+-- The message is the old one, the place of the offset, what is said about the rest of its line, that line and the
+-- caret.
 pub record Locates (path text : List ℕ) (at : ℕ) (told : List ℕ → List ℕ) (old new : List ℕ) : Type 0 where
   pub line : ℕ
   pub column : ℕ
@@ -103,11 +104,11 @@ pub record Locates (path text : List ℕ) (at : ℕ) (told : List ℕ → List �
 abbrev pub first_foreign : List ℕ → Option ℕ
 first_foreign text = position (λ byte. nat_le 128 byte) text
 
--- the line of a text of which no byte is named
+-- the line for a text of which no byte is named
 abbrev pub some_foreign : List ℕ → List ℕ
 some_foreign path = path ++ codes ": a byte is not ASCII\n"
 
--- The message is about the first byte that is not ASCII; where each byte is, it has no place.
+-- The message is about the first byte that is not ASCII; if every byte is ASCII, it has no place.
 abbrev pub LocatesForeign : List ℕ → List ℕ → List ℕ → List ℕ → Type 0
 LocatesForeign path text old new =
     MatchOption (first_foreign text) (new ≡ old ++ some_foreign path) (λ at. Locates path text at foreign old new)

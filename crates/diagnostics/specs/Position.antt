@@ -1,14 +1,15 @@
--- Where an offset of a text stands.
+-- Where an offset of a text is.
 use Rattle.std.specs.Prelude.{◌≡◌, ◌≢◌, ℕ, ◌+◌, ◌-◌, ◌<◌, ◌≤◌, ◌==◌, List, count_by, length, slice_index}
 use Rattle.std.specs.Prelude.{slice_range, take}
 
--- how many newlines stand in some bytes
+-- how many newlines some bytes contain
 abbrev pub newlines : List ℕ → ℕ
 newlines bytes = count_by (λ byte. byte == 10) bytes
 
--- The offset stands in the line that goes from `start` to `end`: no newline stands in it, one stands before it where it
--- is not the first, and one behind it where it is not the last. The line's number is one more than the newlines before
--- the offset, and the column one more than the bytes of the line before it; `behind` is the rest of the line.
+-- The offset is in the line that goes from `start` to `end`: the line contains no newline, there is one before it
+-- unless it is the first, and one after it unless it is the last. The line's number is one more than the number of
+-- newlines before the offset, and the column is one more than the number of bytes of the line before it; `behind` is
+-- the rest of the line.
 pub record IsPosition (text : List ℕ) (at line column : ℕ) (before behind : List ℕ) : Type 0 where
   pub start : ℕ
   pub end : ℕ

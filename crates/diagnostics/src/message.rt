@@ -21,11 +21,11 @@ const NAME: usize = 40;
 /// What is wrong at a place.
 #[derive(Clone, Copy)]
 pub enum Wrong<'a> {
-    /// The word there: what is told behind it.
+    /// The word there: what the message says after it.
     Word(&'a str),
-    /// The procedure whose name stands there: how many places it needs with how many rounds, and how many it may have.
+    /// The procedure whose name is there: how many places it needs with how many rounds, and how many it may have.
     Wide(u128, u8, usize),
-    /// The text does not go on there as a program does.
+    /// The text does not continue there as a program does.
     Unexpected,
     /// The byte there is not ASCII.
     NotAscii,
@@ -53,14 +53,14 @@ fn last(bytes: &[u8], most: usize) -> &[u8]
     }
 }
 
-/// Whether a byte may stand in a word of the language.
+/// Whether a byte may occur in a word of the language.
 fn is_of_word(byte: u8) -> bool
     ensures { result ≡ told.is_word_byte byte }
 {
     byte.is_ascii_alphanumeric() || byte == b'_'
 }
 
-/// Where the word at the beginning of some bytes ends, if more stands behind it.
+/// Where the word at the beginning of some bytes ends, if more bytes follow it.
 fn end_of_word(bytes: &[u8]) -> Option<usize>
     ensures { result ≡ position (λ byte. not (told.is_word_byte byte)) bytes.now }
 {
@@ -89,7 +89,7 @@ pub fn word_or_sign(bytes: &[u8]) -> &[u8]
     }
 }
 
-/// Two dots where there are more bytes than are shown.
+/// Two dots if there are more bytes than are shown.
 fn dots(bytes: &[u8], most: usize) -> &'static str
     ensures { result.now ≡ told.dots most bytes.now }
 {
@@ -103,8 +103,8 @@ fn push<A: Allocator>(message: &mut String<A>, words: &str) -> Result<(), AllocE
     message.push_str(words)
 }
 
-/// How a byte of a text is shown: a tab stays, a carriage return is a blank, and what else is no printable character of
-/// ASCII is a question mark.
+/// How a byte of a text is shown: a tab stays, a carriage return is a blank, and any other byte that is not a printable
+/// ASCII character is a question mark.
 fn shown(byte: u8) -> char
     ensures is { result ≡ told.shown byte }
     ensures ascii { result < 128 }
@@ -127,7 +127,7 @@ fn push_bytes<A: Allocator>(message: &mut String<A>, bytes: &[u8]) -> Result<(),
     Ok(())
 }
 
-/// What stands under a byte: a tab under a tab, else a blank.
+/// What is written under a byte: a tab under a tab, else a blank.
 fn blank(byte: u8) -> char
     ensures is { result ≡ told.blank byte }
     ensures ascii { result < 128 }
@@ -135,7 +135,7 @@ fn blank(byte: u8) -> char
     if byte == b'\t' { '\t' } else { ' ' }
 }
 
-/// Writes as many blanks as there are bytes; a tab stays one, so that what follows stands under them.
+/// Writes as many blanks as there are bytes; a tab stays a tab, so that the columns agree with the line above.
 fn push_blanks<A: Allocator>(message: &mut String<A>, bytes: &[u8]) -> Result<(), AllocError>
     ensures { OnOk result
         (string_bytes message.new ≡ string_bytes message.old ++ map told.blank bytes.now) }
@@ -157,7 +157,7 @@ fn push_name<A: Allocator>(message: &mut String<A>, name: &[u8]) -> Result<(), A
     push(message, "`")
 }
 
-/// Writes the line of a place, as much of it as stands near the place.
+/// Writes the line of a place, as much of it as is near the place.
 fn push_source<A: Allocator>(
     message: &mut String<A>,
     before: &[u8],
@@ -221,8 +221,8 @@ fn push_number<A: Allocator>(message: &mut String<A>, byte: u8) -> Result<(), Al
     write!(message, "byte {byte}")
 }
 
-/// Writes what stands first in the rest of a line, where no word does: a sign, the number of a byte that is none, or
-/// that nothing more does.
+/// Writes what comes first in the rest of a line that does not begin with a word: a sign, the number of another byte,
+/// or that nothing more follows.
 fn push_sign<A: Allocator>(message: &mut String<A>, rest: &[u8]) -> Result<(), AllocError>
     ensures { OnOk result
         (string_bytes message.new ≡ string_bytes message.old ++ told.sign_or_number rest.now) }
@@ -234,7 +234,7 @@ fn push_sign<A: Allocator>(message: &mut String<A>, rest: &[u8]) -> Result<(), A
     }
 }
 
-/// Writes what stands first in the rest of a line.
+/// Writes what comes first in the rest of a line.
 fn push_first<A: Allocator>(message: &mut String<A>, rest: &[u8]) -> Result<(), AllocError>
     ensures { OnOk result
         (string_bytes message.new ≡ string_bytes message.old ++ told.first_item rest.now) }
@@ -277,7 +277,7 @@ fn push_wrong<A: Allocator>(
     }
 }
 
-/// Writes where a byte of a text stands, what is wrong there, and its line.
+/// Writes where a byte of a text is, what is wrong there, and its line.
 fn at_byte<A: Allocator>(
     message: &mut String<A>,
     path: &str,
@@ -296,7 +296,7 @@ fn at_byte<A: Allocator>(
     push_caret(message, place.before)
 }
 
-/// Writes where an offset of a text stands, what is wrong there, and its line. One past the text stands at its end.
+/// Writes where an offset of a text is, what is wrong there, and its line. An offset past the text counts as its end.
 pub fn at_offset<A: Allocator>(
     message: &mut String<A>,
     path: &str,
@@ -311,7 +311,7 @@ pub fn at_offset<A: Allocator>(
     at_byte(message, path, text, text.len().min(at as usize), wrong)
 }
 
-/// Where the first byte stands that is not ASCII.
+/// Where the first byte is that is not ASCII.
 fn first_foreign(text: &[u8]) -> Option<usize>
     ensures { result ≡ told.first_foreign text.now }
 {

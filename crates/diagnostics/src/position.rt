@@ -1,22 +1,22 @@
-//! Where an offset of a text stands, for a reader: its line, its column, and the line itself.
+//! Where an offset of a text is, for a reader: its line, its column, and the line itself.
 
 ghost use Rattle.std.specs.Prelude.{◌≡◌, ◌≢◌, ◌-◌, ◌<◌, ◌≤◌, ℕ, length, slice_index};
 ghost use Rattle.diagnostics.specs.Position.{IsPosition, newlines};
 
-/// Where an offset of a text stands.
+/// Where an offset of a text is.
 #[derive(Clone, Copy, Debug)]
 pub(crate) struct Position<'a> {
     /// The number of the line, counted from 1.
     pub line: usize,
     /// The number of the byte in the line, counted from 1.
     pub column: usize,
-    /// What stands in the line before the place.
+    /// The bytes of the line before the place.
     pub before: &'a [u8],
-    /// What stands in the line from the place on, without the newline.
+    /// The bytes of the line from the place on, without the newline.
     pub behind: &'a [u8],
 }
 
-/// How many newlines stand in some bytes.
+/// How many newlines some bytes contain.
 fn newlines_in(bytes: &[u8]) -> usize
     ensures count { result ≡ newlines bytes.now }
     ensures few { result ≤ length bytes.now }
@@ -24,7 +24,7 @@ fn newlines_in(bytes: &[u8]) -> usize
     bytes.iter().filter(|byte| **byte == b'\n').count()
 }
 
-/// Where the line begins in which the offset stands.
+/// Where the line that contains the offset begins.
 fn start_of(text: &[u8], at: usize) -> usize
     requires { at ≤ length text.now }
     ensures within { result ≤ at }
@@ -40,7 +40,7 @@ fn start_of(text: &[u8], at: usize) -> usize
     start
 }
 
-/// Where the line ends in which the offset stands: at its newline, or at the end of the text.
+/// Where the line that contains the offset ends: at its newline, or at the end of the text.
 fn end_of(text: &[u8], at: usize) -> usize
     requires { at ≤ length text.now }
     ensures from { at ≤ result }
@@ -56,7 +56,7 @@ fn end_of(text: &[u8], at: usize) -> usize
     text.len()
 }
 
-/// Where an offset stands.
+/// Where an offset is.
 pub(crate) fn position_of<'a>(text: &'a [u8], at: usize) -> Position<'a>
     requires { at ≤ length text.now }
     ensures { IsPosition text.now at result.line result.column result.before.now result.behind.now }

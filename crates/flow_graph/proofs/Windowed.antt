@@ -40,8 +40,8 @@ lowered n k j = ap (λ x. x % 2) (shr-shr n k j)
 max_zero : (n : ℕ) → max n 0 ≡ n
 max_zero n = omega arith
 
--- a bit of a word that is rotated to the right is that of the word so many places up, and from the word's end on again
--- those from its beginning
+-- a bit of a word that is rotated to the right is the bit of the word that many places up, where the places after the
+-- word's end are those from its beginning on
 pub rotated : (n r j : ℕ) → n < 2 ^ 64 → r < 64 → j < 64 → bit_at (rotate_right w64 n r) j ≡ bit_at n ((j + r) % 64)
 rotated n zero j fits small below =
     let same : (j + 0) % 64 ≡ j = omega (arith, below) in
@@ -76,7 +76,7 @@ rotated n (suc q) j fits small below =
 
 -- ---- a window
 
--- some bits of a number, if they are those of a valuation from a bit on
+-- bits of a number, read together, if they are those of a valuation from a bit on
 pub read_together : (x p s v n : ℕ) → ((i : ℕ) → i < n → bit_at x (p + i) ≡ bit_at v (s + i))
     → x / 2 ^ p % 2 ^ n ≡ coded (map (bit_of v) (span s n))
 read_together x p s v zero same = omega arith
@@ -91,7 +91,7 @@ read_together x p s v (suc n) same =
     ap (λ k. y % 2 ^ k) (let z : suc n ≡ n + 1 = omega arith in z) ∙ parts ∙ ap (λ k. k % 2 ^ n * 2 ^ 1 + y % 2 ^ 1) next
     ∙ omega (arith, later, first)
 
--- the bits of a window stand behind those in front of it
+-- the bits of a window are read to the places after those in front of it
 pub window_read : (v half front : ℕ) (w : Window) → half < 2 ^ 64
     → ((i : ℕ) → i < word_bits → i / 64 ≡ w.first / 64 → bit_at half (i % 64) ≡ bit_at v i)
     → w.count + front ≤ most_inputs → IsWindow front w
@@ -138,7 +138,7 @@ room front (suc k) (w ∷ ws) laid =
     let both = length-append (span w.first w.count) (seen (take k ws)) in
     omega (arith, more, both, length_span w.first w.count)
 
--- a window behind others
+-- a window after others
 pub window_at : (front i : ℕ) (ws : List Window) (d : Window) → AreWindows front ws → i < length ws
     → IsWindow (length (seen (take i ws)) + front) (get_or ws i d)
 window_at front i [] d laid less = absurd (omega (arith, less))
@@ -195,7 +195,7 @@ widened ws last w bit front laid at few within next inner first count turn mask 
           ∙ ap (λ bits. bits ++ bit ∷ []) (sym (seen_last ws last)),
     )
 
--- or a window of its own does
+-- or a new window does
 pub opened : (ws : List Window) (w : Window) (bit front : ℕ) → AreWindows 0 ws → front ≡ length (seen ws) → front < most_inputs
     → IsWindow front w → w.first ≡ bit → w.count ≡ 1 → AreWindows 0 (ws ++ w ∷ []) × (seen (ws ++ w ∷ []) ≡ seen ws ++ bit ∷ [])
 opened ws w bit front laid at few is first count = (

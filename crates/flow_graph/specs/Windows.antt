@@ -1,4 +1,4 @@
--- Windows: neighbouring bits of a valuation that are read together, and where they stand in a row.
+-- Windows: neighbouring bits of a valuation that are read together, and their places in a row.
 use mathlib.Core.HLevel.{×_prop}
 use native.Mathlib.Nat.{ℕ_set}
 use Rattle.std.specs.Prelude.{◌≡◌, ◌≤◌, ◌+◌, ◌-◌, ◌%◌, ◌^◌, ℕ, zero, suc, List, [], ◌∷◌, ◌++◌}
@@ -17,14 +17,14 @@ abbrev pub seen : List Window → List ℕ
 seen [] = []
 seen (w ∷ ws) = span w.first w.count ++ seen ws
 
--- The window lies in one half of a valuation. If that half is rotated to the right by the turn, its bits stand behind as many
--- others as are in front of it in the row, and the mask is 1 for them alone.
+-- The window lies in one half of a valuation. If that half is rotated to the right by the turn, its bits come after as
+-- many others as are in front of it in the row, and the mask is 1 for them alone.
 abbrev pub IsWindow : ℕ → Window → Type 0
 IsWindow front w =
     (w.first % 64 + w.count ≤ 64) × ((w.first + w.count ≤ word_bits)
     × ((w.turn ≡ (w.first % 64 + 64 - front) % 64) × (w.mask ≡ 2 ^ (w.count + front) - 2 ^ front)))
 
--- windows of a row, each behind the bits of those in front of it; there are at most as many bits as a table has inputs
+-- windows of a row, each after the bits of those in front of it; they have at most as many bits as a table has inputs
 abbrev pub AreWindows : ℕ → List Window → Type 0
 AreWindows front [] = front ≤ most_inputs
 AreWindows front (w ∷ ws) = IsWindow front w × AreWindows (w.count + front) ws

@@ -9,7 +9,7 @@ use language::Word;
 /// How many bits half of a valuation has.
 pub(crate) const HALF: u8 = 64;
 
-/// The half of a valuation in which a bit stands: a shift of 128 bits takes several steps.
+/// The half of a valuation that contains a bit: a shift of 128 bits takes several steps.
 #[inline(always)]
 pub(crate) fn half(values: Word, at: u8) -> u64
     ensures { (i : ℕ) → i < word_bits → i / 64 ≡ at / 64 → bit_at result (i % 64) ≡ bit_at values i }

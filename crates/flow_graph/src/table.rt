@@ -19,11 +19,11 @@ use resolved::MOST_PLACES;
 use std::alloc::{AllocError, Allocator};
 use trees::{Expr, Op};
 
-/// The most bits that a table is made of.
+/// The most inputs that a table may have.
 const MOST: usize = 10;
 
-/// An expression as a truth table: if each input has the value of its bit of j, the expression has the value output
-/// j.
+/// An expression as a truth table: if input i has the value of bit i of j for each i, the expression has the value of
+/// output j.
 #[derive(Debug, Drop)]
 pub struct Table<A: Allocator> {
     pub(crate) inputs: Windows,
@@ -60,7 +60,7 @@ fn read(inputs: &mut ArrayVec<u8, MOST>, bit: u8) -> Option<[u64; WORDS]>
     }
 }
 
-/// These bits in order, so that neighbours are read together. The order makes no difference to what a table says.
+/// These bits in order, so that neighbours are read together. The order makes no difference to the value of a table.
 fn in_order(bits: &[u8]) -> ArrayVec<u8, MOST>
     ensures { AreBits result.items }
 {
@@ -76,8 +76,8 @@ fn in_order(bits: &[u8]) -> ArrayVec<u8, MOST>
 impl<'a, N: Allocator> Scope<'a, N> {
     ghost use Rattle.flow_graph.specs.Formulas.{IsTruthTableIn};
 
-    /// The outputs of an expression for values as known, whose other bits become inputs if they were not; `None` if
-    /// more than ten would be. If the left operand decides, the right one makes no inputs.
+    /// The outputs of an expression, given the known values. Its other bits become inputs if they were not; `None` if
+    /// there would be more than ten inputs. If the left operand decides, the right one adds no inputs.
     fn outputs(
         &self,
         e: &Expr<N>,
@@ -119,7 +119,7 @@ impl<'a, N: Allocator> Scope<'a, N> {
         }
     }
 
-    /// An expression as a truth table for values as known; `None` if it has more than ten bits besides.
+    /// An expression as a truth table, given the known values; `None` if it would have more than ten inputs.
     pub(crate) fn table<A: Allocator + Clone>(
         &self,
         alloc: &A,

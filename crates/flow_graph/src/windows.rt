@@ -18,9 +18,9 @@ const MOST: usize = 10;
 pub(crate) struct Window {
     pub(crate) first: u8,
     pub(crate) count: u8,
-    /// By how much the half is rotated, so that the bits stand at their places in the row.
+    /// By how much the half is rotated to the right, so that the bits are at their places in the row.
     pub(crate) turn: u8,
-    /// 1 at these places.
+    /// 1 at these places, 0 elsewhere.
     pub(crate) mask: u16,
 }
 

@@ -1,4 +1,4 @@
--- What follows in a message: the line of a hint, and what helps where a limit was passed.
+-- What follows in a message: the line of a hint, and what helps if a limit was passed.
 use Rattle.std.proofs.Common.{◌≡◌, ◌++◌, ℕ, List, Result, arith, drop, refl, subst, take}
 use Rattle.std.specs.Prelude.{OnOk}
 use Rattle.std.proofs.lemmas.Result.{on_ok_weaker}

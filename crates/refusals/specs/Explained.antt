@@ -1,4 +1,4 @@
--- What standard error tells of a refusal.
+-- What standard error says about a refusal.
 use Rattle.std.specs.Prelude.{◌≡◌, ℕ, Bool, ◌||◌, ◌==◌, List, [], ◌++◌, Option, Some, None, MatchOption}
 use Rattle.std.specs.Prelude.{bytes_eq, codes, drop, if◌then◌else◌, length, min, nat_lt}
 use Rattle.std.specs.Fmt.{decimal}
@@ -24,14 +24,14 @@ abbrev pub is_constant : List ℕ → Bool
 is_constant word =
     bytes_eq word (codes "true") || bytes_eq word (codes "false") || bytes_eq word (codes "T") || bytes_eq word (codes "F")
 
--- what is told of the name at an offset, which is not declared
+-- what the message says about the name at an offset, which is not declared
 abbrev pub undeclared : List ℕ → ℕ → List ℕ
 undeclared text at =
     if is_constant (first_word (drop (min (length text) at) text))
     then codes " is not declared; the constants are `0` and `1`\n"
     else codes " is not declared\n"
 
--- where a fault of scopes stands, and what is told of the name there; want of memory has no place
+-- the offset of a fault of scopes, and what the message says about the name there; lack of memory has no place
 abbrev pub scope_told : List ℕ → ScopeFault → Option (ℕ × List ℕ)
 scope_told text (scope.Undeclared at) = Some (at, undeclared text at)
 scope_told text (scope.DeclaredTwice at) =
@@ -46,11 +46,11 @@ scope_told text (scope.TooMany at) =
     Some (at, codes " is past the limit of 31 procedures, 8 threads and 1000 statements\n")
 scope_told text scope.Memory = None
 
--- the line for want of memory
+-- the line for lack of memory
 abbrev pub no_memory : List ℕ
 no_memory = codes "bebopk: out of memory\n"
 
--- Why a text is not read is told at a place of it, or in a line about the file.
+-- Why a text is not read is said at a place in it, or in a line about the file.
 abbrev pub ExplainsUnread : List ℕ → List ℕ → ReadFault → List ℕ → List ℕ → Type 0
 ExplainsUnread path text read.TooLong old new =
     new ≡ old ++ (path ++ (codes ": the text has more than " ++ (decimal most_bytes ++ codes " bytes\n")))
@@ -62,7 +62,7 @@ ExplainsUnread path text read.TooDeep old new = new ≡ old ++ (path
     ++ codes ": more than 64 of `(`, `begin`, `if` and `while` are open at once, or more than 64 operators are in one run\n")
 ExplainsUnread path text read.Memory old new = new ≡ old ++ no_memory
 
--- the line about the rounds of a check that was too large
+-- the hint about the rounds of a check that was too large; empty for one round
 abbrev pub one_round : ℕ → List ℕ
 one_round rounds = if nat_lt 1 rounds then codes "hint: one round is enough for one thread\n" else []
 
@@ -70,33 +70,33 @@ one_round rounds = if nat_lt 1 rounds then codes "hint: one round is enough for 
 abbrev pub smaller : List ℕ
 smaller = codes "hint: fewer rounds, fewer bits for a counter, locals in place of globals, or one property at a time\n"
 
--- what helps where the highest limit of path edges was passed
+-- what helps if the highest limit of path edges was passed
 abbrev pub no_higher : ℕ → List ℕ
 no_higher rounds =
     codes " path edges, and no limit is higher\n" ++ (smaller ++ one_round rounds)
 
--- what helps where another limit was passed
+-- what helps if another limit was passed
 abbrev pub higher : ℕ → List ℕ
 higher rounds = codes " path edges; --edges N raises the limit, up to " ++ (decimal most_edges ++ (codes "\n" ++ one_round rounds))
 
--- what helps where this limit was passed
+-- what helps if this limit was passed
 abbrev pub ways_out : ℕ → ℕ → List ℕ
 ways_out rounds most = if most == most_edges then no_higher rounds else higher rounds
 
--- the lines of a passed limit of path edges; an order without such a limit has none
+-- the lines for a passed limit of path edges; an order without such a limit has none
 abbrev pub edge_line : List ℕ → Order → List ℕ
 edge_line path (Check rounds edges stats) =
     (path ++ (codes ": some procedure has more than " ++ decimal (most_of edges)))
     ++ ways_out (count_of rounds) (most_of edges)
 edge_line path (Sequential rounds) = []
 
--- the line of a program that is too wide in some procedure
+-- the line for a program that is too wide in some procedure
 abbrev pub wide_line : List ℕ → ℕ → List ℕ
 wide_line path rounds =
     path ++ (codes ": some procedure needs more than " ++ (decimal most_places
     ++ (codes " places with --rounds " ++ (decimal rounds ++ codes "\n"))))
 
--- The message goes on from the old one with what is told of the refusal: at a place, which is the text's end where the
+-- The message continues the old one with what is said about the refusal: at a place, which is the text's end if the
 -- offset is past it, or in a line about the file.
 abbrev pub Explains : List ℕ → List ℕ → Order → Refusal → List ℕ → List ℕ → Type 0
 Explains path text order (Unread fault) old new = ExplainsUnread path text fault old new

@@ -1,5 +1,5 @@
--- What helps where a text does not go on as a program does: each hint is a rule of the language, chosen by the tokens
--- before the place and by what stands there.
+-- Hints for a text that does not continue as a program does: each hint is a rule of the language, chosen by the tokens
+-- before the place and by what is there.
 use Rattle.std.specs.Prelude.{◌≡◌, ℕ, ◌-◌, ◌<◌, ◌⊎◌, Bool, false, ◌&&◌, ◌||◌, ◌==◌, List, []}
 use Rattle.std.specs.Prelude.{◌∷◌, ◌++◌, Option, None, Some, bytes_eq, codes, drop, if◌then◌else◌, length, nat_lt, not}
 use Rattle.std.specs.Prelude.{option_map, slice_get, take}
@@ -13,7 +13,7 @@ use Rattle.tokens.specs.declared.vocabulary.Kind.{Kind}
 use Rattle.tokens.specs.declared.vocabulary.Kind.TheVariants as kind
 use Rattle.tokens.specs.declared.vocabulary.Token.{Token}
 
--- the first line, or the second where the first is empty
+-- the first line, or the second if the first is empty
 abbrev pub or_else : List ℕ → List ℕ → List ℕ
 or_else first second = if length first == 0 then second else first
 
@@ -30,13 +30,13 @@ foreign_sign here =
     else if bytes_eq here (codes "~") then codes "negation is written `!`"
     else []
 
--- The word begins with a digit and is no constant.
+-- The word begins with a digit and is not a constant.
 abbrev pub is_number : List ℕ → Bool
 is_number [] = false
 is_number (byte ∷ rest) =
     is_ascii_digit byte && not (bytes_eq (byte ∷ rest) (codes "0") || bytes_eq (byte ∷ rest) (codes "1"))
 
--- which constants there are, and where `?` and `decl` stand
+-- which constants there are, and where `?` and `decl` may be used
 abbrev pub misplaced : List ℕ → List ℕ
 misplaced here =
     if is_number here then codes "the constants are `0` and `1`"
@@ -45,7 +45,7 @@ misplaced here =
     then codes "declarations stand first in the text, or first in a procedure, after `begin`"
     else []
 
--- what C and Promela write behind a token of this kind, and how it is written here
+-- what C and Promela write after a token of this kind, and how it is written here
 abbrev pub doubled : Kind → List ℕ → List ℕ
 doubled last here =
     if same_kind last kind.Equal && bytes_eq here (codes "=") then codes "equality is written `=`"
@@ -87,14 +87,14 @@ foreign_word word here =
     then codes "the rest of a loop's body is left out by `goto L;`, where `L` labels a last `skip;` in it"
     else []
 
--- what comes after a name, a constant or a closed parenthesis in an expression
+-- what comes after a name or a constant in an expression
 abbrev pub after_operand : List ℕ → List ℕ
 after_operand here =
     if bytes_eq here (codes ";") then codes "a `(` is not closed"
     else if bytes_eq here (codes ")") then codes "no `(` is open"
     else codes "after an operand comes an operator, `,`, `;` or `)`"
 
--- what comes after a name, by what stands before the name
+-- what comes after a name, by the kind of the token before the name
 abbrev pub after_name : Option Kind → List ℕ → List ℕ
 after_name None here = codes "after the name of a procedure comes `(`"
 after_name (Some kind.End) here = codes "after the name of a procedure comes `(`"
@@ -119,7 +119,7 @@ after_name (Some kind.Differs) here = after_operand here
 after_name (Some kind.Not) here = after_operand here
 after_name (Some k) here = []
 
--- what comes after a token that is no name; nothing where that hangs on more than the token
+-- what comes after a token that is not a name; empty if that depends on more than the token
 abbrev pub after_kind : Kind → List ℕ → List ℕ
 after_kind kind.Decl here = codes "after `decl` comes a name"
 after_kind kind.Begin here = codes "after `begin` comes `decl` or a statement, such as `skip;`"
@@ -157,34 +157,34 @@ abbrev pub second_kind : List Token → Option Kind
 second_kind before =
     if nat_lt (length before) 2 then None else option_map (λ t. t.kind) (slice_get before (length before - 2))
 
--- the hint behind a token, of which the kind of the one before it is given too
+-- the hint after a token, given also the kind of the token before it
 abbrev pub after_token : Option Kind → Token → List ℕ → List ℕ
 after_token second last here =
     or_else (doubled last.kind here)
     (if same_kind last.kind kind.Id then or_else (foreign_word last.text.now here) (after_name second here)
     else after_kind last.kind here)
 
--- the same where there may be no token
+-- the hint after the last token, or at the beginning of the text
 abbrev pub after_last : Option Kind → Option Token → List ℕ → List ℕ
 after_last second None here = codes "a program begins with `decl` or a procedure"
 after_last second (Some last) here = after_token second last here
 
--- the hint behind these tokens
+-- the hint after these tokens
 abbrev pub after_tokens : List Token → List ℕ → List ℕ
 after_tokens before here =
     after_last (second_kind before) (slice_get before (length before - 1)) here
 
--- the hint where these tokens come before, and this word or sign is there
+-- the hint for this word or sign after these tokens
 abbrev pub hint_for : List Token → List ℕ → List ℕ
 hint_for before here = or_else (foreign_sign here) (or_else (misplaced here) (after_tokens before here))
 
--- No tokens are known of a text that is not ASCII, too long, or not cut into any.
+-- No tokens of the text are known: it is not ASCII, it is too long, or it cannot be cut into tokens.
 abbrev pub IsUncut : List ℕ → Type 0
 IsUncut text =
     (¬ IsAscii text) ⊎ ((most_bytes < length text) ⊎ ((tokens : List Tok) → Cuts 0 text tokens → ⊥))
 
--- The hint is that for the tokens of the text before and for what is there; there is none where that text has no
--- tokens, which is so at no offset that the reader names.
+-- The hint is that for the tokens of the text before the place and for what is there; there is none if no tokens of
+-- that text are known, which is never so at an offset that the reader names.
 abbrev pub IsHintAfter : List ℕ → List ℕ → List ℕ → Type 0
 IsHintAfter before here hint =
     ((tokens : List Token) × Cuts 0 before (toks_of tokens) × (hint ≡ hint_for tokens here))
@@ -194,7 +194,7 @@ IsHintAfter before here hint =
 abbrev pub hint_line : List ℕ → List ℕ
 hint_line hint = if length hint == 0 then [] else codes "hint: " ++ (hint ++ codes "\n")
 
--- The message goes on with the line of the hint for this place of the text.
+-- The message continues with the line of the hint for this place of the text.
 pub record AddsHint (text : List ℕ) (at : ℕ) (old new : List ℕ) : Type 0 where
   pub hint : List ℕ
   pub is_hint : IsHintAfter (take at text) (word_or_sign (drop at text)) hint

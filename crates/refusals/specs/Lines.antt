@@ -8,7 +8,7 @@ use Rattle.scopes.specs.declared.fault.ScopeFault.TheVariants as scope
 use Rattle.refusals.specs.declared.refusal.Refusal.{Refusal}
 use Rattle.refusals.specs.declared.refusal.Refusal.TheVariants.{Unread, Unchecked, TooWide, EdgeLimit, Memory, NoWorker, Spent}
 
--- the line for want of memory
+-- the line for lack of memory
 abbrev pub memory_line : List ℕ
 memory_line = codes "no verdict: memory\n"
 
@@ -24,7 +24,7 @@ unread_line (read.Syntax at) = line_at (codes "3 syntax") at
 unread_line read.TooDeep = codes "refused: 4 too deep\n"
 unread_line read.Memory = memory_line
 
--- the line of a program in which a fault of scopes stands
+-- the line of a program that has a fault of scopes
 abbrev pub unchecked_line : ScopeFault → List ℕ
 unchecked_line (scope.Undeclared at) = line_at (codes "6 undeclared") at
 unchecked_line (scope.DeclaredTwice at) = line_at (codes "7 declared twice") at
@@ -45,7 +45,7 @@ line_of Memory = memory_line
 line_of NoWorker = codes "no verdict: no worker\n"
 line_of Spent = codes "no verdict: spent\n"
 
--- The line names an offset, and is written when it is needed, which takes memory. Every other line is fixed, and takes
+-- The line names an offset, and is built when it is needed, which takes memory. Every other line is fixed, and takes
 -- none.
 abbrev pub NamesOffset : Refusal → Type 0
 NamesOffset (Unread (read.Syntax at)) = ⊤
@@ -58,7 +58,7 @@ NamesOffset Memory = ⊥
 NamesOffset NoWorker = ⊥
 NamesOffset Spent = ⊥
 
--- 2 where the text is refused, 3 where memory, the edge limit, threads or calls gave out
+-- 2 if the text is at fault, 3 if the edge limit was passed, or if memory, threads or calls ran out
 abbrev pub status_of : Refusal → ℕ
 status_of (Unread read.Memory) = 3
 status_of (Unread fault) = 2

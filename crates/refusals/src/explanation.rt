@@ -1,4 +1,4 @@
-//! What standard error tells of a refusal.
+//! What standard error says about a refusal.
 
 ghost use Rattle.std.specs.Prelude.{◌≡◌, ◌++◌, OnOk, option_map};
 ghost use Rattle.std.specs.String.{string_bytes};
@@ -20,14 +20,14 @@ use std::alloc::{AllocError, Allocator};
 use syntax::ReadFault;
 use tokens::MOST_BYTES;
 
-/// What is told where memory gave out.
+/// The message for lack of memory.
 pub const NO_MEMORY: &str = "bebopk: out of memory\n";
 
 /// What makes a check smaller.
 const SMALLER: &str =
     "hint: fewer rounds, fewer bits for a counter, locals in place of globals, or one property at a time\n";
 
-/// Writes that memory gave out.
+/// Writes that memory ran out.
 fn push_no_memory<A: Allocator>(message: &mut String<A>) -> Result<(), AllocError>
     ensures { OnOk result (string_bytes message.new ≡ string_bytes message.old ++ no_memory) }
 {
@@ -70,7 +70,7 @@ fn is_constant(word: &[u8]) -> bool
     is(word, "true") || is(word, "false") || is(word, "T") || is(word, "F")
 }
 
-/// What is told of the name at an offset, which is not declared.
+/// What the message says about the name at an offset, which is not declared.
 fn undeclared(text: &[u8], at: u32) -> &'static str
     ensures { result.now ≡ undeclared text.now at }
 {
@@ -81,7 +81,7 @@ fn undeclared(text: &[u8], at: u32) -> &'static str
     }
 }
 
-/// Where a fault of scopes stands, and what is told of the name that stands there; `None` where memory gave out.
+/// The offset of a fault of scopes, and what the message says about the name there; `None` if memory ran out.
 fn told(text: &[u8], fault: &ScopeFault) -> Option<(u32, &'static str)>
     ensures { option_map (λ t. (t.0, t.1.now)) result ≡ scope_told text.now fault.now }
 {
@@ -112,7 +112,7 @@ fn told(text: &[u8], fault: &ScopeFault) -> Option<(u32, &'static str)>
     }
 }
 
-/// What is told of the rounds where a check was too large.
+/// The hint about the rounds of a check that was too large; empty for one round.
 fn one_round(rounds: u8) -> &'static str
     ensures { result.now ≡ one_round rounds }
 {
@@ -123,7 +123,7 @@ fn one_round(rounds: u8) -> &'static str
     }
 }
 
-/// Writes what helps where this limit of path edges was passed.
+/// Writes what helps if this limit of path edges was passed.
 fn push_ways_out<A: Allocator>(
     message: &mut String<A>,
     rounds: u8,
@@ -146,7 +146,7 @@ fn push_ways_out<A: Allocator>(
     }
 }
 
-/// Writes which limit of path edges was passed, and what helps; nothing of an order that has none.
+/// Writes which limit of path edges was passed, and what helps; nothing for an order that has none.
 fn edge_limit<A: Allocator>(
     message: &mut String<A>,
     path: &str,
@@ -165,7 +165,7 @@ fn edge_limit<A: Allocator>(
     }
 }
 
-/// How many rounds an order is about.
+/// How many rounds an order names.
 fn rounds_in(order: Order) -> u8
     ensures { result ≡ rounds_of order }
 {
@@ -174,7 +174,7 @@ fn rounds_in(order: Order) -> u8
     }
 }
 
-/// Writes which procedure has too many places, and how many for how many rounds.
+/// Writes which procedure has too many places, and how many it needs for how many rounds.
 fn too_wide<A: Allocator>(
     message: &mut String<A>,
     path: &str,
@@ -202,12 +202,12 @@ fn too_wide<A: Allocator>(
     }
 }
 
-/// Writes what standard error tells of a refusal: for a fault with an offset a line `FILE:LINE:COLUMN: ` with what is
-/// wrong there, the source line (at most 60 bytes of it before the place and 40 from it on, with `..` where more
-/// stands), and a caret under the place; for each other refusal one line. Lines and columns are counted from 1, and
-/// each byte is a column. A line `hint: ` follows where a rule of the language, or of the command line, may help.
-/// The memory for the tokens before a syntax fault is taken from `alloc`. At an error memory gave out, and a part of
-/// the message may be written.
+/// Writes what standard error says about a refusal: for a fault at a place a line `FILE:LINE:COLUMN: ` with what is
+/// wrong there, the source line (at most 60 bytes of it before the place and 40 from it on, with `..` for what is left
+/// out), and a caret under the place; for each other refusal one line. Lines and columns are counted from 1, and each
+/// byte is a column. A line `hint: ` follows if a rule of the language, or of the command line, may help. The memory
+/// for the tokens before a syntax fault is taken from `alloc`. An error means that memory ran out; a part of the
+/// message may have been written.
 pub fn explain<A: Allocator>(
     alloc: A,
     message: &mut String<A>,

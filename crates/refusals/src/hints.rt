@@ -1,4 +1,4 @@
-//! What helps where a text does not go on as a program does: how that is written here, or what comes there.
+//! Hints for a text that does not continue as a program does: how something is written here, or what comes next.
 
 ghost use Rattle.std.specs.Prelude.{◌≡◌, ◌++◌, IfOk, OnOk, bytes_eq, drop, length, min, take};
 ghost use Rattle.std.specs.String.{string_bytes};
@@ -8,14 +8,14 @@ use diagnostics::word_or_sign;
 use std::alloc::{AllocError, Allocator};
 use tokens::{CutFault, Kind, MOST_BYTES, Token, as_ascii, cut};
 
-/// Whether a word or sign is spelled so.
+/// Whether a word or sign has this spelling.
 pub(crate) fn is(here: &[u8], spelled: &str) -> bool
     ensures { result ≡ bytes_eq here.now spelled.now }
 {
     here == spelled.as_bytes()
 }
 
-/// The first line, or the second where the first is empty.
+/// The first line, or the second if the first is empty.
 fn or_else(first: &'static str, second: &'static str) -> &'static str
     ensures { result.now ≡ told.or_else first.entry.now second.entry.now }
 {
@@ -47,7 +47,7 @@ fn foreign_sign(here: &[u8]) -> &'static str
     }
 }
 
-/// Whether a word begins with a digit and is no constant.
+/// Whether a word begins with a digit and is not a constant.
 fn is_number(here: &[u8]) -> bool
     ensures { result ≡ told.is_number here.now }
 {
@@ -57,7 +57,7 @@ fn is_number(here: &[u8]) -> bool
     }
 }
 
-/// Which constants there are, and where `?` and `decl` stand.
+/// Which constants there are, and where `?` and `decl` may be used.
 fn misplaced(here: &[u8]) -> &'static str
     ensures { result.now ≡ told.misplaced here.now }
 {
@@ -72,7 +72,7 @@ fn misplaced(here: &[u8]) -> &'static str
     }
 }
 
-/// What C and Promela write behind a token of this kind, and how it is written here.
+/// What C and Promela write after a token of this kind, and how it is written here.
 fn doubled(last: Kind, here: &[u8]) -> &'static str
     ensures { result.now ≡ told.doubled last here.now }
 {
@@ -154,7 +154,7 @@ fn after_operand(here: &[u8]) -> &'static str
     }
 }
 
-/// What comes after a name, by what stands before the name.
+/// What comes after a name, by the kind of the token before the name.
 fn after_name(second: Option<Kind>, here: &[u8]) -> &'static str
     ensures { result.now ≡ told.after_name second here.now }
 {
@@ -179,7 +179,7 @@ fn after_name(second: Option<Kind>, here: &[u8]) -> &'static str
     }
 }
 
-/// What comes after a token that is no name; nothing where that hangs on more than the token.
+/// What comes after a token that is not a name; empty if that depends on more than the token.
 fn after_kind(last: Kind, here: &[u8]) -> &'static str
     ensures { result.now ≡ told.after_kind last here.now }
 {
@@ -230,7 +230,7 @@ fn second_kind(before: &[Token<'_>]) -> Option<Kind>
     }
 }
 
-/// The hint behind a token, of which the kind of the one before it is given too.
+/// The hint after a token, given also the kind of the token before it.
 fn after_token(second: Option<Kind>, last: &Token<'_>, here: &[u8]) -> &'static str
     ensures { result.now ≡ told.after_token second last.now here.now }
 {
@@ -243,7 +243,7 @@ fn after_token(second: Option<Kind>, last: &Token<'_>, here: &[u8]) -> &'static 
     }
 }
 
-/// The hint behind these tokens.
+/// The hint after these tokens.
 fn after_tokens(before: &[Token<'_>], here: &[u8]) -> &'static str
     ensures { result.now ≡ told.after_tokens before.now here.now }
 {
@@ -253,7 +253,7 @@ fn after_tokens(before: &[Token<'_>], here: &[u8]) -> &'static str
     }
 }
 
-/// The hint where these tokens come before, and this word or sign is there.
+/// The hint for this word or sign after these tokens.
 fn hint_for(before: &[Token<'_>], here: &[u8]) -> &'static str
     ensures { result.now ≡ told.hint_for before.now here.now }
 {
@@ -263,7 +263,7 @@ fn hint_for(before: &[Token<'_>], here: &[u8]) -> &'static str
     )
 }
 
-/// The hint where this text comes before, and this word or sign is there.
+/// The hint for this word or sign after this text.
 fn hint_after<A: Allocator>(
     alloc: A,
     before: &[u8],
@@ -284,14 +284,14 @@ fn hint_after<A: Allocator>(
     }
 }
 
-/// What stands before an offset of a text.
+/// The bytes of a text before an offset.
 fn front_of(text: &[u8], at: u32) -> &[u8]
     ensures { result.now ≡ take (min (length text.now) at) text.now }
 {
     &text[..text.len().min(at as usize)]
 }
 
-/// What stands from an offset of a text on.
+/// The bytes of a text from an offset on.
 pub(crate) fn rest_of(text: &[u8], at: u32) -> &[u8]
     ensures { result.now ≡ drop (min (length text.now) at) text.now }
 {
@@ -309,7 +309,7 @@ fn push_line<A: Allocator>(message: &mut String<A>, hint: &str) -> Result<(), Al
     write!(message, "hint: {hint}\n")
 }
 
-/// Writes the hint for an offset of a text, if there is one. One past the text stands at its end.
+/// Writes the hint for an offset of a text, if there is one. An offset past the text counts as its end.
 pub(crate) fn push_hint<A: Allocator>(
     alloc: A,
     message: &mut String<A>,

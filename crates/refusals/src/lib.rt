@@ -1,4 +1,4 @@
-//! Why a text gets no verdict: its line and status, and what standard error tells of it.
+//! Why a text gets no verdict: its line and status, and what standard error says about it.
 #![tactic(auto)]
 
 mod explanation;

@@ -12,7 +12,7 @@ use std::alloc::{AllocError, Allocator};
 use std::borrow::CowSlice;
 use syntax::ReadFault;
 
-/// The line for want of memory: it is fixed, and takes none.
+/// The line for lack of memory: it is fixed, and takes no memory.
 pub const MEMORY_LINE: &str = "no verdict: memory\n";
 
 /// The bytes of a line, which is fixed.
@@ -48,7 +48,7 @@ fn unread<A: Allocator>(alloc: A, fault: &ReadFault) -> Result<CowSlice<'static,
     }
 }
 
-/// The line of a text in which a fault of scopes stands. It takes memory, but where memory gave out.
+/// The line of a text that has a fault of scopes. It takes memory, unless the fault is that memory ran out.
 fn unchecked<A: Allocator>(
     alloc: A,
     fault: &ScopeFault,
@@ -87,7 +87,7 @@ pub fn line<A: Allocator>(
     }
 }
 
-/// The status where a text gets no verdict.
+/// The exit status if a text gets no verdict.
 pub fn status(refusal: &Refusal) -> u8
     ensures { result ≡ status_of refusal.now }
 {

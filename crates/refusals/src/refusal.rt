@@ -9,13 +9,13 @@ use syntax::ReadFault;
 pub enum Refusal {
     /// It is not read.
     Unread(ReadFault),
-    /// A fault of scopes stands in it.
+    /// It has a fault of scopes.
     Unchecked(ScopeFault),
-    /// Some procedure of the rewritten program has more than 128 places; here the first one of the source.
+    /// Some procedure of the rewritten program has more than 128 places; with the first such procedure of the source.
     TooWide(Option<Wide>),
     /// Some procedure of the rewritten program has more path edges than the limit.
     EdgeLimit,
-    /// A growth was refused.
+    /// An allocation was refused.
     Memory,
     /// A worker's thread was refused.
     NoWorker,

@@ -1,4 +1,4 @@
--- Each part is written behind the last one.
+-- Each part is written after the last one.
 use Rattle.std.proofs.Common.{◌++◌}
 use Rattle.diagnostics.specs.Message.{caret_line, head, source_line, of_fault}
 use Rattle.diagnostics.proofs.Appending.{at_last}

@@ -1,4 +1,4 @@
--- A blank stands there for each byte so far.
+-- A blank is written for each byte so far.
 use Rattle.std.proofs.Common.{◌≡◌, ◌++◌, map, take}
 use Rattle.std.specs.String.{string_bytes}
 use Rattle.diagnostics.specs.Message.{blank}

@@ -1,4 +1,4 @@
--- The bytes so far stand there as they are shown.
+-- The bytes so far are written as they are shown.
 use Rattle.std.proofs.Common.{◌≡◌, ◌++◌, map, take}
 use Rattle.std.specs.String.{string_bytes}
 use Rattle.diagnostics.specs.Message.{shown}

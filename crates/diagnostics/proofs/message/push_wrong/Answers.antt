@@ -1,4 +1,4 @@
--- What is told of each fault is written part by part.
+-- What is said about each fault is written part by part.
 use Rattle.std.proofs.Common.{◌++◌, codes}
 use Rattle.diagnostics.specs.Message.{first_item}
 use Rattle.diagnostics.proofs.Appending.{at_last}

@@ -1,4 +1,4 @@
--- No newline stands between the offset and here.
+-- There is no newline between the offset and here.
 use Rattle.std.proofs.Common.{◌≡◌, ◌<◌, ◌≤◌, ℕ, get_or}
 use Rattle.diagnostics.proofs.position.end_of.Given as goal
 

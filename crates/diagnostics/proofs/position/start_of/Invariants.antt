@@ -1,4 +1,4 @@
--- The line begins behind the last newline so far.
+-- The line begins after the last newline so far.
 use Rattle.std.proofs.Common.{◌≡◌, ◌-◌, ◌<◌, ◌≤◌, ℕ, get_or}
 use Rattle.diagnostics.proofs.position.start_of.Given as goal
 

@@ -1,4 +1,4 @@
--- those so far are places
+-- the bits so far are places
 use Rattle.flow_graph.specs.Tables.{AreBits}
 use Rattle.flow_graph.proofs.table.in_order.Given as goal
 

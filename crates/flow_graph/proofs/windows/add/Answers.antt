@@ -47,7 +47,7 @@ returns-in-Some-clause-laid c = (wider c).0
 pub returns-in-Some-clause-seen : goal.returns-in-Some-clause-seen
 returns-in-Some-clause-seen c = (wider c).1
 
--- a window behind the others
+-- a window after the others
 another : (c : goal.After-push-in-Some-2-2)
     → AreWindows 0 c.push-in-Some-2-2.new.self.items × (seen c.push-in-Some-2-2.new.self.items ≡ seen c.args.items.now.items ++ c.args.bit ∷ [])
 another c =

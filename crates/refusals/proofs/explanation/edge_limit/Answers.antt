@@ -1,4 +1,4 @@
--- The lines tell the limit of the order; an order without one has nothing told.
+-- The lines say the limit of the order; for an order without one there is no line.
 use Rattle.std.proofs.Common.{sym, append-nil}
 use Rattle.diagnostics.proofs.Appending.{at_last}
 use Rattle.refusals.proofs.explanation.edge_limit.Goals as goal

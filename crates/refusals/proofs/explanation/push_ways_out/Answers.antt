@@ -1,4 +1,4 @@
--- What helps hangs on whether a higher limit can be asked for.
+-- What helps depends on whether a higher limit can be asked for.
 use Rattle.refusals.proofs.Adding.{at_highest, at_lower}
 use Rattle.refusals.proofs.explanation.push_ways_out.Goals as goal
 

@@ -1,4 +1,4 @@
--- The line tells the rounds of the order.
+-- The line says the rounds of the order.
 use Rattle.std.proofs.Common.{rules}
 use Rattle.refusals.proofs.explanation.too_wide.Goals as goal
 

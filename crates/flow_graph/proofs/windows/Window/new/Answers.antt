@@ -1,4 +1,4 @@
--- One bit behind others.
+-- One bit after others.
 use Rattle.std.proofs.Common.{◌≡◌, ◌≤◌, suc, ◌*◌, ◌+◌, ◌^◌, ◌∙◌, ap, refl, arith, pow-suc}
 use Rattle.std.proofs.Math.Pow.{pow_mono}
 use Rattle.flow_graph.proofs.windows.Window.new.Goals as goal

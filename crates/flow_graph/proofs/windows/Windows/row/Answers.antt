@@ -1,4 +1,4 @@
--- Each window adds its bits behind those in front of it.
+-- Each window adds its bits after those in front of it.
 use Rattle.std.proofs.Common.{◌≡◌, ◌+◌, ◌∙◌, ℕ, List, bit_and, map, take, get_or, ap, sym, subst, arith}
 use Rattle.flow_graph.specs.Bits.{bit_of, coded}
 use Rattle.flow_graph.specs.Windows.{seen, AreWindows}
@@ -6,7 +6,7 @@ use Rattle.flow_graph.specs.declared.windows.Window.{Window}
 use Rattle.flow_graph.proofs.Windowed.{row_next, row_small}
 use Rattle.flow_graph.proofs.windows.Windows.row.Goals as goal
 
--- the row of the first windows, where they are in two places
+-- the row of the first windows of a list
 abbrev first : (v k : ℕ) → List Window → ℕ
 first v k ws = coded (map (bit_of v) (seen (take k ws)))
 
