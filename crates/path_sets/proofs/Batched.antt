@@ -1,4 +1,4 @@
--- Places that stand in batches, when one batch gets another, and what the diagrams have of them.
+-- Places in batches when one batch is replaced by another, and what the diagrams have of them.
 use Rattle.std.proofs.Common.{◌≡◌, ◌⊎◌, ◌<◌, ◌≤◌, ◌+◌, ◌*◌, ◌/◌, ℕ, zero, suc, Bool, true, false}
 use Rattle.std.proofs.Common.{List, [], ◌∷◌, ◌++◌, length}
 use Rattle.std.proofs.Common.{None, Some, slice_get, slice_set, inl, inr, refl, sym, ap, ◌∙◌, subst}
@@ -47,7 +47,7 @@ pub none_of : {K V : Type 0} (es : List (K × V)) → length es ≡ 0 → es ≡
 none_of [] h = refl
 none_of (e ∷ es) h = absurd (omega (arith, h))
 
--- what follows where a call fails, or where there is a value
+-- what follows if a call fails, or if there is a value
 pub on_err : {T E P Q : Type 0} (r : Result T E) → (P → Q) → OnErr r P → OnErr r Q
 on_err (Ok x) f h = tt
 on_err (Err e) f h = f h
@@ -56,7 +56,7 @@ pub if_some : {T : Type 0} (P Q : T → Type 0) (o : Option T) → ((x : T) → 
 if_some P Q None f h = tt
 if_some P Q (Some x) f h = f x h
 
--- what is there stays there when more is put at the end
+-- what is there stays there when more is appended
 pub still_there : {X : Type 0} (xs ys : List X) (i : ℕ) (x : X) → slice_get xs i ≡ Some x → slice_get (xs ++ ys) i ≡ Some x
 still_there [] ys i x at = absurd (none-some x at)
 still_there (y ∷ xs) ys zero x at = at
@@ -113,7 +113,7 @@ module _ {A : Type 0} where
   set_others (c ∷ bs) (suc k) w zero ne = refl
   set_others (c ∷ bs) (suc k) w (suc j) ne = set_others bs k w j (λ same. ne (ap suc same))
 
-  -- one batch more, which is empty, makes no difference
+  -- one more batch, which is empty, makes no difference
   pub one_more_spots : (bs : List (Batch A)) (w : Batch A) (k : ℕ) → w.masks.entries ≡ []
       → spots_at (bs ++ w ∷ []) k ≡ spots_at bs k
   one_more_spots [] w zero none = none
@@ -127,7 +127,7 @@ module _ {A : Type 0} where
     one_more_places [] w none = ap (λ es. places_of rows es ++ []) none
     one_more_places (b ∷ bs) w none = ap (λ gs. places_of rows b.masks.entries ++ gs) (one_more_places bs w none)
 
-    -- each path edge of the places stands in a batch
+    -- each path edge of the places is in a batch
     pub in_batch : (bs : List (Batch A)) (t : Triple) → Member t (edges (places_in rows bs))
         → (k : ℕ) × Member t (edges (places_of rows (spots_at bs k)))
     in_batch [] t m = elim m [ ]
@@ -138,7 +138,7 @@ module _ {A : Type 0} where
           | inr later ↦ let (k, there) = in_batch bs t later in (suc k, there)
         ]
 
-    -- and what stands in a batch is one of them
+    -- and what is in a batch is one of them
     pub of_batch : (bs : List (Batch A)) (k : ℕ) (t : Triple) → Member t (edges (places_of rows (spots_at bs k)))
         → Member t (edges (places_in rows bs))
     of_batch [] k t m = m
@@ -179,7 +179,7 @@ module _ {A : Type 0} where
 
     module _ (homes : List ℕ) (bs : List (Batch A)) (home : AreHome homes bs) (within : AllWithin rows bs)
         (distinct : IsDistinct row_eq rows) where
-      -- a path edge of a batch is of a row that has this batch, so it stands in no other
+      -- a path edge of a batch is of a row that has this batch, so it is in no other
       pub one_home : (j k i : ℕ) (t : Triple) → Member t (edges (places_of rows (spots_at bs j)))
           → slice_get rows i ≡ Some (row_at t) → slice_get homes i ≡ Some k → j ≡ k
       one_home j k i t m there own =
@@ -194,7 +194,7 @@ module _ {A : Type 0} where
           let row = one_index rows distinct c.0.row i (row_at t) (at ∙ ap Some same) there in
           same_Some j k (sym (home j c.0 key) ∙ ap (slice_get homes) row ∙ own)
 
-    -- one batch gets another
+    -- one batch is replaced by another
     module _ (ss ts : List (Batch A)) (k : ℕ) (others : (j : ℕ) → (j ≡ k → ⊥) → spots_at ts j ≡ spots_at ss j) where
       -- a path edge of the places then is one of the new batch, or was one of the others
       pub new_or_old : (t : Triple) → Member t (edges (places_in rows ts))
@@ -256,7 +256,7 @@ module _ {A : Type 0} where
         same kept,
       )
 
-      -- a batch that is in the diagrams may go
+      -- a batch that is in the diagrams may be emptied
       pub members_merged : (ns ms : List Quad) (rs qs : List (Row × ℕ)) → spots_at ts k ≡ []
           → TakesGiven (λ t. Member t (edges (places_of rows (spots_at ss k)))) ns ms rs qs
           → ((t : Triple) → Member t (edges (places_of rows (spots_at ss k))) → merged_has ms qs t ≡ true)
@@ -271,7 +271,7 @@ module _ {A : Type 0} where
           ])
           (λ t m. elim (gone_or_still t m) [ inl gone ↦ inl (done t gone) | inr still ↦ inr still ])
 
-    -- and where all stay gathered the members are the same
+    -- and if all stay gathered, the members are the same
     pub members_still : (ss : List (Batch A)) (k : ℕ) (ns ms : List Quad) (rs qs : List (Row × ℕ))
         → TakesGiven (λ t. Member t (edges (places_of rows (spots_at ss k)))) ns ms rs qs
         → all_edges ms qs (places_in rows ss) ≡ all_edges ns rs (places_in rows ss)
@@ -281,7 +281,7 @@ module _ {A : Type 0} where
         (of_batch ss k) takes)
         (λ t m. m) (λ t m. inr m)
 
-  -- one batch gets another
+  -- one batch is replaced by another
   module _ (ss ts : List (Batch A)) (k : ℕ) (others : (j : ℕ) → (j ≡ k → ⊥) → spots_at ts j ≡ spots_at ss j) where
     pub home_set : (homes : List ℕ) (s : Spot) → AreHome homes ss → slice_get homes s.row ≡ Some k
         → ((q : Spot) → Member q (keys_of (spots_at ts k)) → Member q (keys_of (spots_at ss k)) ⊎ (q ≡ s))
@@ -442,7 +442,7 @@ module _ {A : Type 0} where
         ∙ members_stay ns ns rs qs (places_in (keys_of rs) bs) (places_in (keys_of rs) bs)
         (takes_nothing (λ t. Member t (edges (places_in (keys_of rs) bs))) ns rs qs stay) (λ t m. m) (λ t m. inr m)
 
-  -- no spot stands twice in a batch
+  -- no spot occurs twice in a batch
   spots_once : (bs : List (Batch A)) (k : ℕ) → IsDistinct spot_eq (keys_of (spots_at bs k))
   unfolding IsDistinct
   spots_once [] k = tt
@@ -454,7 +454,7 @@ module _ {A : Type 0} where
     abbrev all : List (Place × ℕ)
     all = places_in (keys_of rs) bs
 
-    -- the mask of a spot has just the points that are there
+    -- the mask of a spot has exactly the points that are there
     module _ (k : ℕ) (s : Spot) (m bit : ℕ) (own : Member (s, m) (spots_at bs k)) (small : bit < 64) where
       abbrev x : Triple
       x = edge_at (place_at (keys_of rs) s) bit

@@ -21,7 +21,7 @@ module _ (ns : List Node) where
   pub level_is : (n : ℕ) (x : Node) → node_at ns n ≡ Some x → level_of ns n ≡ x.level
   level_is n x h = ap (λ o. option_map_or (λ (y : Node). y.level) o word_bits) h
 
-  -- a number has a node, or it is 0 or 1, whose level is behind the last
+  -- a number has a node, or it is 0 or 1, whose level is after the last
   pub kind : (n : ℕ) → IsNumber ns n → ((x : Node) × (node_at ns n ≡ Some x)) ⊎ ((n ≤ 1) × (level_of ns n ≡ word_bits))
   kind n inside = by (nat_lt n 2) refl
     where
@@ -52,7 +52,7 @@ module _ (ns : List Node) (down : GoDown ns) (ordered : AreOrdered ns) where
       by true big d o = (o.1, omega (arith, d, big, inside), omega (arith, d, big))
       by false big d o = (o.0, omega (arith, d, big, inside), omega (arith, d, big))
 
-  -- a set depends on no bit in front of its number's level
+  -- a set depends on no bit before its number's level
   within' : (f n v w : ℕ) → n ≤ f → IsNumber ns n
       → ((i : ℕ) → level_of ns n ≤ i → i < word_bits → bit_of v i ≡ bit_of w i)
       → accepts ns n v ≡ accepts ns n w
@@ -94,7 +94,7 @@ module _ (ns : List Node) (down : GoDown ns) (ordered : AreOrdered ns) where
   abbrev pub Same : ℕ → ℕ → Type 0
   Same n m = (v : ℕ) → accepts ns n v ≡ accepts ns m v
 
-  -- if one depends on no bit of a node's level or in front of it, the node's children have one set
+  -- if one depends on no bit at or before a node's level, the node's children have one set
   children_same : (n m : ℕ) (x : Node) → IsNumber ns n → IsNumber ns m → node_at ns n ≡ Some x → x.level < level_of ns m
       → Same n m
       → Same x.low x.high
@@ -109,7 +109,7 @@ module _ (ns : List Node) (down : GoDown ns) (ordered : AreOrdered ns) where
     abbrev Found : ℕ → Type 0
     Found f = (n m : ℕ) → n ≤ f → m ≤ f → IsNumber ns n → IsNumber ns m → Same n m → n ≡ m
 
-    -- so its level is not in front of the other's
+    -- so its level is not before the other's
     not_before : (f n m : ℕ) (x : Node) → Found f → n ≤ suc f → IsNumber ns n → IsNumber ns m → node_at ns n ≡ Some x
         → x.level < level_of ns m
         → Same n m

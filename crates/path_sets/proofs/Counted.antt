@@ -16,7 +16,7 @@ use Rattle.path_sets.proofs.Led.{IsLed, Leads, led, one_number, same_suffixes, t
 use Rattle.path_sets.proofs.Marked.{Marked}
 
 module _ (ns : List Node) (down : GoDown ns) (ordered : AreOrdered ns) (reduced : AreReduced ns) (once : StandOnce ns) (root : ℕ) where
-  -- no level is behind the last
+  -- no level is after the last
   level_most : (n : ℕ) → IsNumber ns n → level_of ns n ≤ word_bits
   level_most n inside = elim (kind ns n inside) [
     | inr (_, far) ↦ omega (arith, far)
@@ -93,7 +93,7 @@ module _ (ns : List Node) (down : GoDown ns) (ordered : AreOrdered ns) (reduced 
       reduced (n - 2) x k.1 (one_number ns root down ordered reduced once (x.level + 1) p (p + 2 ^ x.level) x.low x.high (omega (arith, d))
       (subst (λ q. Leads ns root (x.level + 1) q x.low) zero_on low) (subst (λ q. Leads ns root (x.level + 1) q x.high) one_on high) same)
 
-  -- where a number's level is a later one, they do not depend on this bit
+  -- if a number's level is a later one, they do not depend on this bit
   depends_not : (l p n : ℕ) → l < word_bits → Leads ns root l p n → l < level_of ns n → Depends (Word ns root down ordered) l p
       → ⊥
   depends_not l p n early leads later depends =

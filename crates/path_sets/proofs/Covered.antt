@@ -136,7 +136,7 @@ module _ (ns : List Quad) (rs : List (Row × ℕ)) (x own : Triple) (old new : G
     more_there : (t : Triple) → IsEdgeThere ns rs new t ↔ ((t ≡ x) ⊎ IsEdgeThere ns rs old t)
     more_there = subst (λ k. (t : Triple) → IsEdgeThere ns rs new t ↔ ((t ≡ k) ⊎ IsEdgeThere ns rs old t)) edge puts.1
 
-    -- it was no member
+    -- it was not a member
     pub was_new : Member x all → ⊥
     was_new m =
         puts.0 (subst (IsEdgeThere ns rs old) (sym edge) (member_is ns rs old x (subst (λ l. Member x l) (sym same) m)))

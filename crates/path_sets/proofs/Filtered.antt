@@ -38,7 +38,7 @@ module _ {A : Type 0} where
       let first = h x (inl refl) in
       λ j. if first j then x ∷ rest j else rest j
 
-  -- nothing comes twice where it did not
+  -- nothing occurs twice if it did not
   pub kept_none_twice : (p : A → Bool) (xs : List A) → NoneTwice xs → NoneTwice (filter p xs)
   kept_none_twice p [] h = tt
   kept_none_twice p (x ∷ xs) (once, rest) = by (p x) (kept_none_twice p xs rest)
@@ -47,7 +47,7 @@ module _ {A : Type 0} where
       by true h = (λ m. once (kept_is p xs x m).0, h)
       by false h = h
 
-  -- where one more passes, one more is kept
+  -- if one more passes, one more is kept
   pub one_more : (p q : A → Bool) (xs : List A) (x : A) → NoneTwice xs → Member x xs → p x ≡ false → q x ≡ true
       → ((t : A) → (t ≡ x → ⊥) → q t ≡ p t) → length (filter q xs) ≡ length (filter p xs) + 1
   one_more p q [] x once h clear set others = elim h [ ]
@@ -66,7 +66,7 @@ module _ {A : Type 0} where
       by true e = omega (arith, e)
       by false e = e
 
-  -- lists with nothing in common, one behind the other
+  -- lists with nothing in common, one after the other
   pub append_none_twice : (xs ys : List A) → NoneTwice xs → NoneTwice ys → ((t : A) → Member t xs → Member t ys → ⊥)
       → NoneTwice (xs ++ ys)
   append_none_twice [] ys hx hy apart = hy
@@ -92,7 +92,7 @@ module _ {A B : Type 0} (f : A → List B) where
     | inr later ↦ let r = of_each ys b later in (r.0, inr r.1, r.2)
   ]
 
-  -- nothing comes twice where each has nothing twice, and no two have something in common
+  -- nothing occurs twice if each has nothing twice, and no two have something in common
   pub each_none_twice : (xs : List A) → NoneTwice xs → ((x : A) → NoneTwice (f x))
       → ((x y : A) (b : B) → Member b (f x) → Member b (f y) → x ≡ y)
       → NoneTwice (each f xs)

@@ -70,13 +70,13 @@ in_place (g ∷ gs) t h = elim (member_append t (edges_in g.0 g.1) (edges gs) h)
   | inr later ↦ let r = in_place gs t later in (r.0, inr r.1, r.2)
 ]
 
--- a member stands at some index
+-- a member is at some index
 pub index_of : {A : Type 0} (xs : List A) (x : A) → Member x xs → (i : ℕ) × (slice_get xs i ≡ Some x)
 index_of [] x h = elim h [ ]
 index_of (y ∷ xs) x (inl is) = (zero, ap Some (sym is))
 index_of (y ∷ xs) x (inr later) = let r = index_of xs x later in (suc r.0, r.1)
 
--- and what stands at an index is a member
+-- and what is at an index is a member
 pub at_index : {A : Type 0} (xs : List A) (x : A) (i : ℕ) → slice_get xs i ≡ Some x → Member x xs
 at_index [] x i h = absurd (true≢false (sym (ap is_some h)))
 at_index (y ∷ xs) x zero h = inl (sym (same_Some y x h))
@@ -168,7 +168,7 @@ next_cell ks ls gs i cs ds p c at more stay are is =
     subst (λ xs. AreCells ls xs ds) (next_item gs i p at)
     (subst (AreCells ls (take i gs ++ p ∷ [])) (sym more) (one_more ks ls (take i gs) cs p c stay are is))
 
--- cells of which the first is of a row, and those behind it too, are of that row
+-- cells of which the first is of a row, and those after it too, are of that row
 pub of_row : (left : List Cell) (n : ℕ) (first : Cell) → slice_get left 0 ≡ Some first
     → ((i : ℕ) (c : Cell) → 0 < i → i < n → slice_get left i ≡ Some c → c.row ≡ first.row)
     → (c : Cell) → Member c (take n left) → c.row ≡ first.row
@@ -229,7 +229,7 @@ module _ (rows : List Row) (cells left run more : List Cell) (at : ℕ) (row : R
     ]
   ]
 
--- what follows where a call succeeds
+-- what follows if a call succeeds
 pub on_ok : {T E : Type 0} (P Q : Type 0) (r : Result T E) → (P → Q) → OnOk r P → OnOk r Q
 on_ok P Q (Ok x) f h = f h
 on_ok P Q (Err e) f h = tt

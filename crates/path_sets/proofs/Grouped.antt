@@ -26,7 +26,7 @@ pair_at [] i k v key value = absurd (true≢false (ap is_some (sym key)))
 pair_at (e ∷ es) zero k v key value = ap Some (λ j. (same_Some e.0 k key j, same_Some e.1 v value j))
 pair_at (e ∷ es) (suc i) k v key value = pair_at es i k v key value
 
--- what holds of each place holds of the one at an index
+-- what holds for each place holds for the one at an index
 of_each : (P : Place → Type 0) (gs : Groups) (i : ℕ) (p : Place) (m : ℕ) → slice_get gs i ≡ Some (p, m) →
     AllByRecursion P (keys_of gs) → P p
 of_each P [] i p m at all = absurd (true≢false (ap is_some (sym at)))
@@ -53,7 +53,7 @@ no_edge (g ∷ gs) p b small (apart, all) h =
       | inr later ↦ no_edge gs p b small all later
     ]
 
--- an edge is in its place's mask, where no place comes twice
+-- an edge is in its place's mask, if no place occurs twice
 pub only_in_group : (gs : Groups) (i : ℕ) (p : Place) (m b : ℕ) → b < 64 → IsDistinct place_eq (keys_of gs) →
     slice_get gs i ≡ Some (p, m) → Member (edge_at p b) (edges gs) → Member b (bits_below m 64)
 only_in_group [] i p m b small d at h = absurd (true≢false (ap is_some (sym at)))
@@ -96,7 +96,7 @@ same_group (g ∷ gs) zero m w at same =
     ap (λ k. edges_in g.0 k ++ edges gs) (same ∙ sym (same_Some g.1 m at))
 same_group (g ∷ gs) (suc i) m w at same = ap (λ es. edges_in g.0 g.1 ++ es) (same_group gs i m w at same)
 
--- a place that is not found is none of those kept
+-- a place that is not found is not one of those kept
 pub absent : (gs : Groups) (p : Place) → lookup (place_eq p) gs ≡ None →
     AllByRecursion (λ k. place_eq p k ≡ false) (keys_of gs)
 absent [] p h = tt

@@ -8,13 +8,13 @@ use Rattle.std.proofs.lemmas.Option.{same_Some}
 use Rattle.path_sets.specs.Walks.{node_at, walk, reaches, level_at, Descends, IsGrown, IsNumber, Preserves, StandOnce}
 use Rattle.path_sets.proofs.Walks.{goes_on, next_below, number_of}
 
--- a list's items stay where they are when more come behind
+-- a list's items stay where they are when more are appended
 pub get_before : {A : Type 0} (xs ys : List A) (i : ℕ) → i < length xs → slice_get (xs ++ ys) i ≡ slice_get xs i
 get_before [] ys i h = absurd (omega (arith, h))
 get_before (x ∷ xs) ys zero h = refl
 get_before (x ∷ xs) ys (suc i) h = get_before xs ys i (omega (arith, h))
 
--- and has no other behind it
+-- and has no other after it
 pub got_from : {A : Type 0} (xs : List A) (y z : A) (i : ℕ) → slice_get (xs ++ y ∷ []) i ≡ Some z
     → ((i < length xs) × (slice_get xs i ≡ Some z)) ⊎ ((i ≡ length xs) × (z ≡ y))
 got_from [] y z zero h = inr (refl, sym (same_Some y z h))
@@ -25,7 +25,7 @@ got_from (x ∷ xs) y z (suc i) h = elim (got_from xs y z i h) [
   | inr (at, is) ↦ inr (omega (arith, at), is)
 ]
 
--- a number's node is the same with more behind
+-- a number's node is the same with more nodes after
 pub same_node_at : {X : Type 0} (ns ms : List X) (n : ℕ) → IsNumber ns n → node_at (ns ++ ms) n ≡ node_at ns n
 same_node_at {X} ns ms n inside = by (nat_lt n 2) refl
   where
@@ -39,7 +39,7 @@ pub level_here : {X : Type 0} (level : X → ℕ) (last : ℕ) (ns : List X) (i 
 level_here level last ns i x at = ap (λ o. option_map_or level o last) (number_of ns i x at)
 
 module _ {X : Type 0} (next : X → ℕ → ℕ) (level : X → ℕ) (last : ℕ) where
-  -- a walk goes the same way with more behind
+  -- a walk goes the same way with more nodes after
   same_walk : (ns ms : List X) → Descends next ns → (f n v : ℕ) → IsNumber ns n → walk next (ns ++ ms) f n v ≡ walk next ns f n v
   unfolding walk
   same_walk ns ms down zero n v inside = refl
@@ -86,7 +86,7 @@ module _ {X : Type 0} (next : X → ℕ → ℕ) (level : X → ℕ) (last : ℕ
     joined new down' grown i v at inside =
         goes_on next new down' (i + 2) v x (number_of new i x at) ∙ (keeps_grown new grown).same (next x v) v inside
 
--- a node that is put in where it is new stands once
+-- no node occurs twice after one that is new is put in
 pub still_once : {X : Type 0} (x : X) (ns : List X) → StandOnce ns → (new : List X) → IsGrown x ns new → StandOnce new
 still_once x ns once new (inl same) = subst StandOnce (sym same) once
 still_once x ns once new (inr more) = subst StandOnce (sym more.0) (λ i j y h k. elim (got_from ns x y i h) [

@@ -10,7 +10,7 @@ use Rattle.path_sets.proofs.Shifted.{four_pow}
 four_first : (m q h : ℕ) → m * (q * 4) * h ≡ m * (4 * (q * h))
 four_first m q h = grind arith
 
--- at a level of the low half, the high one stands above what is left of the low one
+-- at a level of the low half, the high one is above what is left of the low one
 pub low_rest : (low high l : ℕ) → l < 32 → (low + 2 ^ 64 * high) / 4 ^ l ≡ low / 2 ^ (2 * l) + 4 * (2 ^ (2 * (31 - l)) * high)
 low_rest low high l less =
     let q = 2 ^ (2 * (31 - l)) in
@@ -38,7 +38,7 @@ nothing_times q (suc h) some none = absurd (omega (arith, some, none, grown))
     grown = grind arith
 
 module _ (low high l : ℕ) (less : l < 32) where
-  -- where something is left of the low half, or the high one is there, the valuation goes on by bits of the low half
+  -- if something is left of the low half, or the high one is there, the valuation continues by bits of the low half
   pub low_goes : (low / 2 ^ (2 * l) ≡ 0 → high ≡ 0 → ⊥) → GoesOn (low + 2 ^ 64 * high) l (low / 2 ^ (2 * l) % 4)
   low_goes some =
       let is = low_rest low high l less in
@@ -58,7 +58,7 @@ module _ (low high l : ℕ) (less : l < 32) where
       omega (arith, is, rest, more)
 
 module _ (low high l : ℕ) (small : low < 2 ^ 64) (least : 32 ≤ l) where
-  -- from there on it goes on by the bits of the high half
+  -- from there on it continues by the bits of the high half
   pub high_goes : (high / 2 ^ (2 * (l - 32)) ≡ 0 → ⊥) → GoesOn (low + 2 ^ 64 * high) l (high / 2 ^ (2 * (l - 32)) % 4)
   high_goes some =
       let is = high_rest low high l small least in

@@ -27,7 +27,7 @@ pub one_longer : {A : Type 0} (x : A) (xs ys : List A) → Inserts x xs ys → l
 one_longer x xs ys (here us) = omega arith
 one_longer x xs ys (there y us vs i) = let e = one_longer x us vs i in omega (arith, e)
 
--- nothing stands twice where x is new
+-- nothing occurs twice if x is new
 pub still_none_twice : {A : Type 0} (x : A) (xs ys : List A) → Inserts x xs ys →
     (Member x xs → ⊥) → NoneTwice xs → NoneTwice ys
 still_none_twice x xs ys (here _) new n = (new, n)
@@ -36,7 +36,7 @@ still_none_twice x xs ys (there y us vs i) new (y_once, n) = (
   still_none_twice x us vs i (λ m. new (inr m)) n,
 )
 
--- the same behind other items
+-- the same after other items
 pub behind : {A : Type 0} (x : A) (zs xs ys : List A) → Inserts x xs ys → Inserts x (zs ++ xs) (zs ++ ys)
 behind x [] xs ys i = i
 behind x (z ∷ zs) xs ys i = there z (zs ++ xs) (zs ++ ys) (behind x zs xs ys i)
@@ -46,7 +46,7 @@ pub before : {A : Type 0} (x : A) (xs ys zs : List A) → Inserts x xs ys → In
 before x xs ys zs (here us) = here (us ++ zs)
 before x xs ys zs (there y us vs i) = there y (us ++ zs) (vs ++ zs) (before x us vs zs i)
 
--- the same of each item's image
+-- the same for each item's image
 pub mapped : {A B : Type 0} (f : A → B) (x : A) (xs ys : List A) → Inserts x xs ys → Inserts (f x) (map f xs) (map f ys)
 mapped f x xs ys (here us) = here (map f us)
 mapped f x xs ys (there y us vs i) = there (f y) (map f us) (map f vs) (mapped f x us vs i)

@@ -13,13 +13,13 @@ use Rattle.path_sets.proofs.Shifted.{with_bit, bits_above, bits_within, after_bi
 use Rattle.path_sets.proofs.Canonical.{level_is, kind, child_after, within, half, canonical}
 use Rattle.path_sets.proofs.Universe.{same_test}
 
--- a bit behind a prefix makes one of the next level
+-- a bit after a prefix makes one of the next level
 longer : (p b m : ℕ) → p < m → b < 2 → p + b * m < m * 2
 longer p zero m short small = omega (arith, short)
 longer p (suc zero) m short small = omega (arith, short)
 longer p (suc (suc b)) m short small = absurd (omega (arith, small))
 
--- a prefix with a suffix has no bit from an end on just where the suffix fits behind the prefix
+-- a prefix with a suffix has no bit from an end on exactly if the suffix fits after the prefix
 pub fits_from : (e l p u : ℕ) → l ≤ e → p < 2 ^ l → u < 2 ^ (e - l) → p + u * 2 ^ l < 2 ^ e
 fits_from e l p u short small fits =
     let whole : l + (e - l) ≡ e = omega (arith, short) in
@@ -35,7 +35,7 @@ fits_to e l p u short small fits =
     subst (λ k. k < 2 ^ (e - l)) (shr_high u l p small) less
 
 module _ (ns : List Node) (root : ℕ) where
-  -- the suffixes of a prefix of a level are the set of a number, which tests no bit in front of that level
+  -- the suffixes of a prefix of a level are the set of a number, which tests no bit before that level
   pub record Leads (level p n : ℕ) : Type 0 where
     pub inside : IsNumber ns n
     pub short : p < 2 ^ level
@@ -80,7 +80,7 @@ module _ (ns : List Node) (root : ℕ) where
               (λ i least most. bits_above l b u i small (omega (arith, least, later)));
         }
 
-    -- so a prefix with 0s behind it, up to the number's level, leads there too
+    -- so a prefix with 0s after it, up to the number's level, leads there too
     deeper_by : (d l p n : ℕ) → Leads l p n → l + d ≤ level_of ns n → Leads (l + d) p n
     deeper_by zero l p n leads most = let same : l ≡ l + 0 = omega arith in subst (λ k. Leads k p n) same leads
     deeper_by (suc d) l p n leads most =

@@ -12,7 +12,7 @@ use Rattle.path_sets.specs.Diagrams.{AreOrdered, GoDown}
 use Rattle.path_sets.proofs.Canonical.{child_after}
 use Rattle.path_sets.proofs.Led.{IsLed, child_led, root_led}
 
--- a mark stays, and one is put where it is
+-- what is marked is the one that is put in, or was marked; and what was marked stays so
 is_marked : (xs : List Bool) (k n : ℕ) → get_or (slice_set xs k true) n false ≡ true → (n ≡ k) ⊎ (get_or xs n false ≡ true)
 is_marked xs k n h = elim (cases_eq n k) [
   | inl same ↦ inl same
@@ -25,7 +25,7 @@ still_marked xs k n h room = elim (cases_eq n k) [
   | inr other ↦ get_or-set_other xs k n true false other ∙ h
 ]
 
--- where nothing is marked
+-- in a list without marks nothing is marked
 pub none_of : (n i : ℕ) → get_or (replicate n false) i false ≡ false
 none_of n i = elim (cases_lt i n) [
   | inl less ↦ get_or-replicate n i false false less
@@ -33,8 +33,8 @@ none_of n i = elim (cases_lt i n) [
 ]
 
 module _ (ns : List Node) (down : GoDown ns) (ordered : AreOrdered ns) (root : ℕ) where
-  -- The root is marked. Prefixes lead to all that are marked; with one behind this place its children are marked; and
-  -- those behind it are counted.
+  -- The root is marked. Prefixes lead to all that are marked; with one after this place its children are marked; and
+  -- those after it are counted.
   pub record Marked (marks : List Bool) (at count : ℕ) : Type 0 where
     pub long : length marks ≡ root + 1
     pub least : at ≤ root
@@ -136,7 +136,7 @@ module _ (ns : List Node) (down : GoDown ns) (ordered : AreOrdered ns) (root : �
             still_marked (slice_set marks x.low true) x.high x.low
             (get_or-set_same marks x.low true false (omega (arith, low, long))) (omega (arith, high, long_low))
 
-        -- those behind the place are as they were
+        -- those after the place are as they were
         as_were : (n : ℕ) → at - 1 < n → get_or more n false ≡ true → get_or marks n false ≡ true
         as_were n later h = elim (is_more n h) [
           | inl was ↦ was

@@ -47,7 +47,7 @@ same_bits a b (suc n) h =
     let top = h n (omega arith) in
     λ j. cond (top j) (n ∷ rest j) (rest j)
 
--- where a bit that was 0 becomes 1, and no other changes, it is put into the list
+-- if a bit that was 0 becomes 1, and no other changes, it is put into the list
 pub put_bit : (m w b n : ℕ) → b < n → bit_of m b ≡ false → bit_of w b ≡ true →
     ((i : ℕ) → i ≢ b → bit_of w i ≡ bit_of m i) → Inserts b (bits_below m n) (bits_below w n)
 put_bit m w b zero lt clear set others = absurd (omega (arith, lt))

@@ -23,7 +23,7 @@ use Rattle.path_sets.proofs.Shifted.{down_bit, four_pow, next_rest}
 use Rattle.path_sets.proofs.TwoBits.{no_points}
 use Rattle.path_sets.proofs.Walks.{at_leaf}
 
--- nothing is left behind the last level
+-- nothing is left after the last level
 no_rest : (v l : ℕ) → l ≡ levels → v < 2 ^ word_bits → v / 4 ^ l ≡ 0
 no_rest v l last less = ap (λ k. v / 4 ^ k) last ∙ omega (arith, less)
 
@@ -68,7 +68,7 @@ leaf_level ns zero h = refl
 leaf_level ns (suc zero) h = refl
 leaf_level ns (suc (suc n)) h = absurd (omega (arith, h))
 
--- what is asked for compares as equal only where it is
+-- what is asked for compares as equal only if it is
 same_flag : (a b : Bool) → beq a b ≡ true → a ≡ b
 same_flag true true h = refl
 same_flag true false h = absurd (true≢false (sym h))
@@ -86,15 +86,15 @@ same_asked x y h =
     }
 
 module _ (qs : List Quad) (bit : ℕ) where
-  -- a valuation of which nothing is left is at the point as it is told
+  -- a valuation of which nothing is left is at the point if that is what is told
   at_zero : (n : ℕ) (nought : Bool) (w : ℕ) → w ≡ 0 → is_at qs n nought bit w ≡ nought
   at_zero n nought w is = ap (λ t. cond t nought (bit_of (points_of qs n w) bit)) (eq-eqb w 0 is)
 
-  -- and the others as their points say
+  -- and the others are where their points say
   at_others : (n : ℕ) (nought : Bool) (w : ℕ) → (w ≡ 0 → ⊥) → is_at qs n nought bit w ≡ bit_of (points_of qs n w) bit
   at_others n nought w ne = ap (λ t. cond t nought (bit_of (points_of qs n w) bit)) (ne_eqb w 0 ne)
 
-  -- where it is told what its points say, all are
+  -- if what is told is what its points say, all are as the points say
   at_all : (n w : ℕ) → is_at qs n (bit_of (points_of qs n 0) bit) bit w ≡ bit_of (points_of qs n w) bit
   at_all n w = elim (cases_eq w 0) [
     | inl is ↦ at_zero n (bit_of (points_of qs n 0) bit) w is ∙ ap (λ k. bit_of (points_of qs n k) bit) (sym is)
@@ -146,7 +146,7 @@ module _ (qs : List Quad) (bit : ℕ) where
     same = λ v less. at_leaf child ns n v small ∙ sym (same v less);
   }
 
-  -- behind the last level there is nothing left
+  -- after the last level there is nothing left
   pub last_answers : (ns : List Node) (asked : Asked) (n : ℕ) → n ≤ 1 → asked.level ≡ levels → asked.zero ≡ nat_eq n 1
       → HasAskedSet qs bit ns asked n
   last_answers ns asked n small last told =

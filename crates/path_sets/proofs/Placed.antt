@@ -47,7 +47,7 @@ pub not_true : (b : Bool) → (b ≡ true → ⊥) → b ≡ false
 not_true true h = absurd (h refl)
 not_true false h = refl
 
--- a key that is not found is none
+-- a key that is not found is not one of them
 pub not_found : {K V : Type 0} (eq : K → K → Bool) (self : (k : K) → eq k k ≡ true) (es : List (K × V)) (k : K)
     → lookup (eq k) es ≡ None → Member k (keys_of es) → ⊥
 not_found eq self [] k none there = elim there [ ]
@@ -133,7 +133,7 @@ module _ (rows : List Row) where
       | inr less ↦ inr (omega (arith, less))
     ]
 
-    -- a row stands at one index
+    -- a row is at one index
     pub one_index : (i j : ℕ) (r : Row) → slice_get rows i ≡ Some r → slice_get rows j ≡ Some r → i ≡ j
     one_index i j r at at' = elim (cases_eq i j) [
       | inl same ↦ same
@@ -183,7 +183,7 @@ module _ (rows : List Row) where
       all_apart s inside spots (λ k m. within k (inr m)) all.1,
     )
 
-    -- no place comes twice
+    -- no place occurs twice
     pub distinct_places : (spots : List (Spot × ℕ)) → AreWithin rows spots → IsDistinct spot_eq (keys_of spots)
         → IsDistinct place_eq (keys_of (places_of rows spots))
     unfolding IsDistinct
@@ -214,7 +214,7 @@ keys_places rows old new same = mapped_keys rows new ∙ ap (map (place_at rows)
     mapped_keys rows [] = refl
     mapped_keys rows (c ∷ spots) = ap (λ ps. place_at rows c.0 ∷ ps) (mapped_keys rows spots)
 
--- more rows, at the end, leave the places
+-- more rows, at the end, leave the places as they are
 module _ (rows more : List Row) (stay : (i : ℕ) (r : Row) → slice_get rows i ≡ Some r → slice_get more i ≡ Some r) where
   pub still_within : (i : ℕ) → i < length rows → i < length more
   still_within i less = let (r, at) = item_there rows i less in slice_get_within more i r (stay i r at)

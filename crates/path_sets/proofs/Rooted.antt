@@ -30,7 +30,7 @@ module _ {K : Type 0} (eq : K → K → Bool) (self : (x : K) → eq x x ≡ tru
       turned x y false true h h' = absurd (true≢false (sym (ap (λ k. eq k y) (sym (same y x h')) ∙ self y) ∙ h))
       turned x y false false h h' = h ∙ sym h'
 
-  -- the key that is looked up stands at the index that is found
+  -- the key that is looked up is at the index that is found
   pub found : (ks : List K) (i : ℕ) (k : K) → Some i ≡ position (eq k) ks → slice_get ks i ≡ Some k
   found ks i k h =
       let r = position-Some (eq k) ks i k (sym h) in
@@ -82,7 +82,7 @@ is_row e b row = elim (cases_eq e row.entry) [
   | inl same ↦ elim (cases_eq b row.block) [ inr ne ↦ inr (λ h. ne h.1) | inl same' ↦ inl (same, same') ]
 ]
 
--- a key stands where it stood when entries are put at the end
+-- a key is where it was when entries are appended
 still_at : {K V : Type 0} (es fs : List (K × V)) (i : ℕ) (k : K) → slice_get (keys_of es) i ≡ Some k
     → slice_get (keys_of (es ++ fs)) i ≡ Some k
 still_at [] fs i k h = absurd (true≢false (ap is_some (sym h)))

@@ -12,7 +12,7 @@ use Rattle.path_sets.specs.Masks.{Marks}
 use Rattle.path_sets.proofs.Masks.{bits_known, bits_hold, put_bit, first_bit}
 use Rattle.path_sets.proofs.Grouped.{Groups, in_group, only_in_group, put_in_group, same_group, absent, no_edge, put_last}
 
--- the mask of a place settles what is an edge
+-- the mask of a place decides what is an edge
 pub settled : (gs : Groups) (i : ℕ) (p : Place) (m w b : ℕ) → b < 64 → IsDistinct place_eq (keys_of gs) →
     slice_get gs i ≡ Some (p, m) → slice_get (values_of gs) i ≡ Some m → (added : Bool) → Marks b m w added →
     PutsIn (edge_at p b) (edges gs) (edges (set_value_at gs i w)) added
@@ -32,7 +32,7 @@ started old new p w b small is none made = (
 )
 
 module _ {A : Type 0} (x : A) (old new : List A) where
-  -- where the answer is that x was put in, it was no member
+  -- if the answer is that x was put in, it was not a member
   pub was_put_in : (added : Bool) → added ≡ true → PutsIn x old new added → Inserts x old new × (Member x old → ⊥)
   was_put_in true is settles = settles
   was_put_in false is settles = absurd (true≢false (sym is))

@@ -1,4 +1,4 @@
--- The path edges of shards when one shard gets another, and when an entry gets a shard.
+-- The path edges of shards when one shard is replaced by another, and when an entry gets a shard.
 use Rattle.std.proofs.Common.{◌≡◌, ◌<◌, ◌⊎◌, ℕ, zero, suc, Bool, true, false, cond, nat_eq, List, [], ◌∷◌, ◌++◌, length}
 use Rattle.std.proofs.Common.{None, Some, Result, Ok, Err, OnErr, slice_get, slice_set, inl, inr, refl, sym, ap, ◌∙◌, subst}
 use Rattle.std.proofs.Common.{eq-eqb}
@@ -27,7 +27,7 @@ module _ {A : Type 0} where
   at_all (s ∷ ss) zero t m = member_left t (edges s.masks.entries) (all_in ss) m
   at_all (s ∷ ss) (suc k) t m = member_right t (edges s.masks.entries) (all_in ss) (at_all ss k t m)
 
-  -- each path edge stands in a shard
+  -- each path edge is in a shard
   pub all_at : (ss : List (Shard A)) (t : Triple) → Member t (all_in ss) → (k : ℕ) × Member t (edges_at ss k)
   all_at [] t m = (0, m)
   all_at (s ∷ ss) t m =
@@ -54,7 +54,7 @@ module _ {A : Type 0} where
       ap (λ ts. ts ++ all_in ss) (same ∙ sym (ap (λ (h : Shard A). edges h.masks.entries) (same_Some r s at)))
   same_all (r ∷ ss) (suc k) s w at same = ap (λ ts. edges r.masks.entries ++ ts) (same_all ss k s w at same)
 
-  -- a path edge that stands in a shard then is one of the new shard, or stood there before
+  -- a path edge that is in a shard then is one of the new shard, or was there before
   was_at : (ss : List (Shard A)) (k : ℕ) (w : Shard A) (j : ℕ) (t : Triple) → Member t (edges_at (slice_set ss k w) j)
       → ((j ≡ k) × Member t (edges w.masks.entries)) ⊎ Member t (edges_at ss j)
   was_at [] k w j t m = inr m
@@ -64,7 +64,7 @@ module _ {A : Type 0} where
   was_at (r ∷ ss) (suc k) w (suc j) t m =
       elim (was_at ss k w j t m) [ inl h ↦ inl (ap suc h.0, h.1) | inr h ↦ inr h ]
 
-  -- one shard more, which is empty, makes no difference
+  -- one more shard, which is empty, makes no difference
   pub one_more : (ss : List (Shard A)) (w : Shard A) → edges w.masks.entries ≡ [] → all_in (ss ++ w ∷ []) ≡ all_in ss
   one_more [] w none = ap (λ ts. ts ++ []) none
   one_more (s ∷ ss) w none = ap (λ ts. edges s.masks.entries ++ ts) (one_more ss w none)
@@ -89,7 +89,7 @@ module _ {A : Type 0} where
     of_own m = at_all ss k x (subst (Member x) (sym (at_is ss k s at)) m)
 
     module _ (w : Shard A) where
-      -- what is settled in the entry's shard is settled for all
+      -- what is decided in the entry's shard is decided for all
       pub settles_all : (added : Bool) → PutsIn x (edges s.masks.entries) (edges w.masks.entries) added
           → PutsIn x (all_in ss) (all_in (slice_set ss k w)) added
       settles_all true (more, new) = (put_in_all ss k s w x at more, λ m. new (in_own m))
@@ -100,7 +100,7 @@ module _ {A : Type 0} where
       old_or_new true (more, new) t m = is_new_or_old x t _ _ more m
       old_or_new false (same, known) t m = inr (subst (Member t) same m)
 
-      -- and each path edge stands in its entry's shard still
+      -- and each path edge is in its entry's shard still
       pub home_stays : (added : Bool) → PutsIn x (edges s.masks.entries) (edges w.masks.entries) added
           → AreHome homes (slice_set ss k w)
       home_stays added settles j t m =
@@ -114,7 +114,7 @@ module _ {A : Type 0} where
             | inr old ↦ home j t old
           ]
 
-  -- the same where the new shard has the path edges of the old one
+  -- the same if the new shard has the path edges of the old one
   pub home_same : (homes : List (ℕ × ℕ)) (ss : List (Shard A)) → AreHome homes ss → (k : ℕ) (s w : Shard A)
       → slice_get ss k ≡ Some s → edges w.masks.entries ≡ edges s.masks.entries → AreHome homes (slice_set ss k w)
   home_same homes ss home k s w at same j t m =
@@ -133,7 +133,7 @@ module _ {A : Type 0} where
 
 module _ (old new : List (ℕ × ℕ)) (e k : ℕ) (none : lookup (nat_eq e) old ≡ None)
     (updates : (q : ℕ) → lookup (nat_eq q) new ≡ cond (nat_eq e q) (Some k) (lookup (nat_eq q) old)) where
-  -- an entry that has a shard keeps it where another one gets its own
+  -- an entry that has a shard keeps it if another one gets its own
   keeps : (q j : ℕ) → lookup (nat_eq q) old ≡ Some j → lookup (nat_eq q) new ≡ Some j
   keeps q j is = by (nat_eq e q) refl
     where
@@ -156,7 +156,7 @@ module _ (old new : List (ℕ × ℕ)) (e k : ℕ) (none : lookup (nat_eq e) old
   pub settled_own : lookup (nat_eq e) new ≡ Some k
   settled_own = updates e ∙ ap (λ b. cond b (Some k) (lookup (nat_eq e) old)) (eq-eqb e e refl)
 
--- what holds holds at an error
+-- what holds before holds after an error
 pub at_error : {T E P : Type 0} (r : Result T E) → P → OnErr r P
 at_error (Ok _) p = tt
 at_error (Err _) p = p

@@ -15,7 +15,7 @@ up_bit y l j = ap (λ x. x % 2 == 1) (sym (shr-shr (y * 2 ^ l) l j) ∙ ap (λ x
 pub down_bit : (v l j : ℕ) → bit_of (v / 2 ^ l) j ≡ bit_of v (l + j)
 down_bit v l j = ap (λ x. x % 2 == 1) (shr-shr v l j)
 
--- a bit in front of a number's bits
+-- a bit before a number's bits
 pub first_of : (b z : ℕ) → b < 2 → bit_of (b + z * 2) 0 ≡ (b == 1)
 first_of b z small = let same : (b + z * 2) % 2 ≡ b = omega arith in ap (λ x. x == 1) (bit_at_lowest (b + z * 2) ∙ same)
 
@@ -75,7 +75,7 @@ next_pow l = let same : l + 1 ≡ suc l = omega arith in ap (λ k. 2 ^ k) same �
 bit_and_twice : (b u m : ℕ) → b * m + u * (m * 2) ≡ (b + u * 2) * m
 bit_and_twice b u m = grind arith
 
--- a bit behind a prefix, and a suffix of the next level
+-- a bit after a prefix, and a suffix of the next level
 pub after_bit : (p b u l : ℕ) → p + b * 2 ^ l + u * 2 ^ (l + 1) ≡ p + with_bit l b u
 after_bit p b u l =
     let sum : p + b * 2 ^ l + u * (2 ^ l * 2) ≡ p + (b * 2 ^ l + u * (2 ^ l * 2)) = omega arith in

@@ -1,4 +1,4 @@
--- Nodes that are put in where they are new.
+-- Nodes that are put in if they are new.
 use Rattle.std.proofs.Common.{◌≡◌, ℕ, zero, suc, Bool, true, false, ◌&&◌, ◌||◌, nat_eq, List, [], ◌∷◌, ◌++◌}
 use Rattle.std.proofs.Common.{Some, slice_get, inl, inr, refl, sym, ap, ap₂, ◌∙◌, true≢false, is_some, eq-eqb}
 use Rattle.std.specs.Prelude.{if◌then◌else◌}
@@ -47,7 +47,7 @@ same_quad x y h =
     }
 
 module _ {X : Type 0} (eq : X → X → Bool) (self : (x y : X) → x ≡ y → eq x y ≡ true) where
-  -- what stands in a list is found there
+  -- what is in a list is found there
   any_at : (x : X) (ys : List X) (i : ℕ) → slice_get ys i ≡ Some x → list_any (eq x) ys ≡ true
   any_at x [] i h = absurd (true≢false (sym (ap is_some h)))
   any_at x (y ∷ ys) zero h = ap (λ b. b || list_any (eq x) ys) (self x y (sym (same_Some y x h)))
@@ -57,7 +57,7 @@ module _ {X : Type 0} (eq : X → X → Bool) (self : (x y : X) → x ≡ y → 
       by true e = refl
       by false e = e
 
-  -- a node that is put in where none is equal to it is new
+  -- a node that is put in if none is equal to it is new
   put_in : (x : X) (old new : List X) → new ≡ (if list_any (eq x) old then old else old ++ x ∷ []) → IsGrown x old new
   put_in x old new h = by (list_any (eq x) old) refl h
     where

@@ -1,4 +1,4 @@
--- Nodes that go on by two bits, and one more of them.
+-- Nodes that continue by two bits, and one more of them.
 use Rattle.std.proofs.Common.{◌≡◌, ◌≢◌, ℕ, zero, suc, ◌+◌, ◌-◌, ◌/◌, ◌%◌, ◌<◌, ◌≤◌, Bool, true, false, cond, nat_eq, List, [], ◌∷◌, ◌++◌}
 use Rattle.std.proofs.Common.{Option, Some, None, slice_get, refl, sym, ap, ◌∙◌, subst, arith, inl, inr, length-append, eq-eqb}
 use Rattle.std.proofs.lemmas.Bool.{cases_eq, ne_eqb}
@@ -9,7 +9,7 @@ use Rattle.path_sets.specs.Quads.{AreInside, IsBelow, KeepQuads, nothing, points
 use Rattle.path_sets.proofs.Grown.{got_from, same_node_at}
 use Rattle.path_sets.proofs.Walks.{has_node, node_of, number_of}
 
--- what holds of a node's four children holds of the one that a valuation goes on to
+-- what holds for a node's four children holds for the one to which a valuation continues
 pub of_children : (P : ℕ → Type 0) (x : Quad) (v : ℕ) → P x.none → P x.first → P x.second → P x.both → P (turn x v)
 of_children P x v none first second both = by (nat_eq (v % 4) 0) (nat_eq (v % 4) 1) (nat_eq (v % 4) 2)
   where
@@ -19,7 +19,7 @@ of_children P x v none first second both = by (nat_eq (v % 4) 0) (nat_eq (v % 4)
     by false false true = second
     by false false false = both
 
--- valuations with the same two low bits go on alike
+-- valuations with the same two low bits continue alike
 pub turn_same : (x : Quad) (v w : ℕ) → v % 4 ≡ w % 4 → turn x v ≡ turn x w
 turn_same x v w same =
     ap (λ m. cond (nat_eq m 0) x.none (cond (nat_eq m 1) x.first (cond (nat_eq m 2) x.second x.both))) same
@@ -28,14 +28,14 @@ turn_same x v w same =
 pub turn_inside : (ns : List Quad) (x : Quad) (v : ℕ) → AreInside ns x → IsNumber ns (turn x v)
 turn_inside ns x v inside = of_children (IsNumber ns) x v inside.0 inside.1 inside.2 inside.3
 
--- the points of the valuation 0 stand at the node, and those of the others further on
+-- the points of the valuation 0 are at the node, and those of the others further on
 pub here_sees : (ns : List Quad) (x : Quad) (v : ℕ) → v ≡ 0 → sees ns x v ≡ x.points
 here_sees ns x v is = ap (λ t. cond t x.points (points_of ns (turn x v) (v / 4))) (eq-eqb v 0 is)
 
 pub further : (ns : List Quad) (x : Quad) (v : ℕ) → (v ≡ 0 → ⊥) → sees ns x v ≡ points_of ns (turn x v) (v / 4)
 further ns x v ne = ap (λ t. cond t x.points (points_of ns (turn x v) (v / 4))) (ne_eqb v 0 ne)
 
--- two walks on agree where something of the valuation is left, so they do
+-- if two walks agree whenever something of the valuation is left, the points are the same
 step_same : (v : ℕ) (points a b : ℕ) → ((v ≡ 0 → ⊥) → a ≡ b) → cond (nat_eq v 0) points a ≡ cond (nat_eq v 0) points b
 step_same v points a b same = elim (cases_eq v 0) [
   | inl is ↦ ap (λ t. cond t points a) (eq-eqb v 0 is) ∙ sym (ap (λ t. cond t points b) (eq-eqb v 0 is))
@@ -43,7 +43,7 @@ step_same v points a b same = elim (cases_eq v 0) [
 ]
 
 module _ (ns : List Quad) where
-  -- a walk that has steps enough comes where one with more comes
+  -- a walk with enough steps ends where one with more ends
   enough : (f g n v : ℕ) → v < f → v < g → walk_to ns f n v ≡ walk_to ns g n v
   unfolding walk_to
   enough zero g n v a b = absurd (omega (arith, a))
@@ -65,7 +65,7 @@ module _ (ns : List Quad) where
       ∙ step_same v x.points (walk_to ns v (turn x v) (v / 4)) (walk_to ns (suc (v / 4)) (turn x v) (v / 4))
       (λ ne. enough v (suc (v / 4)) (turn x v) (v / 4) (omega (arith, ne)) (omega arith))
 
-  -- 0 and 1 have none
+  -- 0 and 1 have no points
   pub no_points : (n v : ℕ) → n ≤ 1 → points_of ns n v ≡ 0
   unfolding points_of walk_to
   no_points zero v h = refl
@@ -96,7 +96,7 @@ child_below ns down n v x h =
     of_children (λ m. m < n) x v (omega (arith, big, d)) (omega (arith, big, d)) (omega (arith, big, d)) (omega (arith, big, d))
 
 module _ (ns : List Quad) (n v : ℕ) (x : Quad) (big : 1 < n) (at : slice_get ns (n - 2) ≡ Some x) where
-  -- where nothing of a valuation is left, its points are here
+  -- if nothing of a valuation is left, its points are here
   pub here : v ≡ 0 → points_of ns n v ≡ x.points
   here is = by_node ns n v x (node_of ns n x big at) ∙ here_sees ns x v is
 
@@ -109,7 +109,7 @@ pub on_inside : (ns : List Quad) → QuadsGoDown ns → (n v : ℕ) (x : Quad) �
 on_inside ns down n v x big at inside = let less = child_below ns down n v x (node_of ns n x big at) in omega (arith, less, inside)
 
 module _ (ns ms : List Quad) (down : QuadsGoDown ns) where
-  -- a walk goes the same way with more behind
+  -- a walk goes the same way with more nodes after
   same_walk : (f n v : ℕ) → IsNumber ns n → walk_to (ns ++ ms) f n v ≡ walk_to ns f n v
   unfolding walk_to
   same_walk zero n v inside = refl

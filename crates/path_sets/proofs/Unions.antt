@@ -19,7 +19,7 @@ use Rattle.path_sets.specs.Quads.{AreInside, Given, Joins, KeepQuads, points_of,
 use Rattle.path_sets.proofs.Shifted.{next_rest}
 use Rattle.path_sets.proofs.TwoBits.{further, here_sees, turn_inside, turn_same}
 
--- what follows where a call succeeds
+-- what follows if a call succeeds
 pub of_ok : {T E : Type 0} (P Q : T → Type 0) (r : Result T E) → ((x : T) → P x → Q x) → IfOk r P → IfOk r Q
 of_ok P Q (Ok x) f h = f x h
 of_ok P Q (Err e) f h = tt
@@ -29,14 +29,14 @@ pub first_and_rest : {A : Type 0} (xs : List A) (x : A) → slice_get xs 0 ≡ S
 first_and_rest [] x h = absurd (true≢false (sym (ap is_some h)))
 first_and_rest (y ∷ ys) x h = ap (λ z. z ∷ ys) (same_Some y x h)
 
--- the first items stand at the first indexes
+-- the first items are at the first indexes
 pub in_first : {A : Type 0} (n : ℕ) (xs : List A) (x : A) → Member x (take n xs) → (i : ℕ) × (i < n) × (slice_get xs i ≡ Some x)
 in_first zero xs x h = elim h [ ]
 in_first (suc n) [] x h = elim h [ ]
 in_first (suc n) (y ∷ ys) x (inl is) = (zero, omega arith, ap Some (sym is))
 in_first (suc n) (y ∷ ys) x (inr later) = let r = in_first n ys x later in let less = r.1 in (suc r.0, omega (arith, less), r.2)
 
--- one fact in the place of another
+-- one fact instead of another
 pub iff_on : (A B C : Type 0) → A ↔ B → B ↔ C → A ↔ C
 iff_on A B C f g = (λ a. g.0 (f.0 a), λ c. f.1 (g.1 c))
 
@@ -73,7 +73,7 @@ either_mask m w i =
     by true b c is = (λ h. inl refl, λ h. is)
     by false b c is = (λ h. inr (sym is ∙ h), λ h. elim h [ inl never ↦ absurd (true≢false (sym never)) | inr set ↦ is ∙ set ])
 
--- the points of a cell and of those behind it
+-- the points of a cell and of those after it
 first_given : (cell : Cell) (more : List Cell) (l v i : ℕ) → Given (cell ∷ more) l v i
     ↔ (((values_of cell / 4 ^ l ≡ v) × (bit_of cell.mask i ≡ true)) ⊎ Given more l v i)
 first_given cell more l v i = (
@@ -87,7 +87,7 @@ first_given cell more l v i = (
   ],
 )
 
--- those of a run and of the cells behind it
+-- those of a run and of the cells after it
 pub run_given : (run more : List Cell) (l v i : ℕ) → Given (run ++ more) l v i ↔ (Given run l v i ⊎ Given more l v i)
 run_given run more l v i = (
   λ h. let (c, m, is, set) = h in elim (member_append c run more m) [
@@ -135,7 +135,7 @@ module _ (ns : List Quad) (x : Quad) (cell : Cell) (l : ℕ) (more : List Cell) 
       ↔ ((bit_of (sees ns x v) i ≡ true) ⊎ Given (cell ∷ more) l v i)
   stops v i = regroup _ _ _ _ _ (node_marked v i) (first_given cell more l v i)
 
--- a run of cells whose valuations go on alike gives its points to the child that they go on to
+-- a run of cells whose valuations continue alike gives its points to the child to which they continue
 module _ (ns ms : List Quad) (x y : Quad) (run more : List Cell) (l rest child : ℕ) (keeps : KeepQuads ns ms)
     (inside : AreInside ns x)
     (alike : (c : Cell) → Member c run → GoesOn (values_of c) l rest)
@@ -205,7 +205,7 @@ module _ (ns ms : List Quad) (x y : Quad) (run more : List Cell) (l rest child :
       ↔ ((bit_of (sees ns x v) i ≡ true) ⊎ Given (run ++ more) l v i)
   goes_on v i = regroup _ _ _ _ _ (node_led v i) (run_given run more l v i)
 
--- the first cells go on alike: the first of all, and those behind it
+-- the first cells continue alike: the first of all, and those after it
 pub all_alike : (left : List Cell) (n l way : ℕ) (first : Cell) → slice_get left 0 ≡ Some first
     → GoesOn (values_of first) l way
     → ((i : ℕ) (c : Cell) → 0 < i → i < n → slice_get left i ≡ Some c → GoesOn (values_of c) l way)
@@ -218,7 +218,7 @@ all_alike left n l way first at is all c m =
       | inr later ↦ all i c (omega (arith, later)) less there
     ]
 
--- where no cell is left, all are put in
+-- if no cell is left, all are put in
 pub all_put : (left : List Cell) → length left ≡ 0 → (l v i new seen : ℕ) → new ≡ seen → (Q : Type 0)
     → ((bit_of seen i ≡ true) ⊎ Given left l v i) ↔ Q
     → (bit_of new i ≡ true) ↔ Q

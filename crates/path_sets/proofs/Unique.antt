@@ -22,7 +22,7 @@ module _ (S : ℕ → Type 0) where
       let other : SameSuffixes S x.level x'.bits y.bits = subst (λ l. SameSuffixes S l x'.bits y.bits) is same' in
       (is, λ u. (λ h. (other u).1 ((same u).0 h), λ h. (same u).1 ((other u).0 h)))
 
-  -- where each of some that are apart is like one of others, these are no fewer
+  -- if each of some that are apart is like one of others, these are no fewer
   no_fewer : (ps qs : List Prefix) → Apart S ps → ((x : Prefix) → Member x ps → (y : Prefix) × Member y qs × Alike x y)
       → length ps ≤ length qs
   no_fewer [] qs apart like = omega arith

@@ -1,4 +1,4 @@
--- Members of sets that are decision diagrams.
+-- Members of sets that are kept as decision diagrams.
 use Rattle.std.proofs.Common.{◌≡◌, ℕ, ◌+◌, ◌<◌, ◌^◌, Bool, true, false, ◌||◌, List, [], ◌∷◌}
 use Rattle.std.proofs.Common.{map, filter, length, ◌⊎◌, ◌↔◌, inl, inr, refl, sym, ap, ◌∙◌, subst, true≢false}
 use Rattle.std.specs.List.{list_any}
@@ -101,7 +101,7 @@ or_right : (a b : Bool) → b ≡ true → (a || b) ≡ true
 or_right true b h = refl
 or_right false b h = h
 
--- one that has a path edge just where the other has it gives the same
+-- one that has a path edge exactly if the other has it gives the same
 pub same_test : (a b : Bool) → (a ≡ true → b ≡ true) → (b ≡ true → a ≡ true) → a ≡ b
 same_test true b f g = sym (f refl)
 same_test false true f g = g refl
@@ -122,7 +122,7 @@ module _ (nodes : List Quad) (rows : List (Row × ℕ)) (masks : List (Place × 
   is_had t (inr gathered) =
       or_right (merged_has nodes rows t) (list_any (triple_eq t) (edges masks)) (member_any t (edges masks) gathered)
 
-  -- a path edge of words is a member just where it is had
+  -- a path edge of words is a member exactly if it is had
   pub member_is : (t : Triple) → Member t (all_edges nodes rows masks) → Has t
   member_is t m = has_is t (kept_is (has_edge nodes rows masks) universe t m).1
 
@@ -144,7 +144,7 @@ values_fit t h =
     subst (λ k. k < 2 ^ word_bits) (sym same) small
 
 module _ (ns ms : List Quad) (rs ss : List (Row × ℕ)) (masks masks' : List (Place × ℕ)) where
-  -- sets that have just the same path edges have the same members
+  -- sets that have exactly the same path edges have the same members
   pub same_members : ((t : Triple) → Has ns rs masks t ↔ Has ms ss masks' t)
       → all_edges ms ss masks' ≡ all_edges ns rs masks
   same_members h =

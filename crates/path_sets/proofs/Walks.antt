@@ -5,7 +5,7 @@ use Rattle.std.specs.Option.{option_map_or}
 use Rattle.std.proofs.lemmas.Bool.{ltb-true, ltb-false}
 use Rattle.path_sets.specs.Walks.{node_at, walk, reaches, Descends, IsNumber}
 
--- a number with a node is at least 2, and its node stands two places before
+-- a number with a node is at least 2, and its node is two places before
 pub has_node : {X : Type 0} (ns : List X) (n : ℕ) (x : X) → node_at ns n ≡ Some x → (1 < n) × (slice_get ns (n - 2) ≡ Some x)
 has_node {X} ns n x h = by (nat_lt n 2) refl h
   where
@@ -31,7 +31,7 @@ module _ {X : Type 0} (next : X → ℕ → ℕ) (ns : List X) (down : Descends 
   pub next_below : (n v : ℕ) (x : X) → node_at ns n ≡ Some x → next x v < n
   next_below n v x h = let k = has_node ns n x h in let d = down (n - 2) v x k.1 in let big = k.0 in omega (arith, big, d)
 
-  -- a walk that has steps enough comes where one with more comes
+  -- a walk with enough steps ends where one with more ends
   pub enough : (f g n v : ℕ) → n ≤ f → n ≤ g → walk next ns f n v ≡ walk next ns g n v
   unfolding walk
   enough zero zero n v a b = refl
@@ -48,7 +48,7 @@ module _ {X : Type 0} (next : X → ℕ → ℕ) (ns : List X) (down : Descends 
       by None e rest = refl
       by (Some x) e rest = let less = next_below n v x e in rest x e (omega (arith, less, a)) (omega (arith, less, b))
 
-  -- a node's set is that of the number that the valuation goes on to
+  -- a node's set is that of the number to which the valuation continues
   pub goes_on : (n v : ℕ) (x : X) → node_at ns n ≡ Some x → reaches next ns n v ≡ reaches next ns (next x v) v
   unfolding reaches walk
   goes_on zero v x h = absurd (let k = has_node ns zero x h in omega (arith, k.0))

@@ -1,4 +1,4 @@
--- The places that are gathered for the diagrams, in batches, those of a row in one.
+-- The places that are gathered for the diagrams, in batches; those of a row are in one batch.
 use Rattle.std.specs.Prelude.{◌≡◌, ℕ, zero, suc, List, [], ◌∷◌, ◌++◌, Some, slice_get}
 use Rattle.std.specs.Map.{keys_of}
 use Rattle.language.specs.Lists.{Member}
@@ -10,7 +10,7 @@ use Rattle.path_sets.specs.declared.spot.Spot.{Spot}
 use Rattle.path_sets.specs.Members.{Covers}
 use Rattle.path_sets.specs.Spots.{AreWithin, places_of}
 
--- the spots of the batch with this number, with their masks; none behind the last
+-- the spots of the batch with this number, with their masks; none after the last
 abbrev pub spots_at : {A : Type 0} → List (Batch A) → ℕ → List (Spot × ℕ)
 spots_at [] k = []
 spots_at (batch ∷ batches) zero = batch.masks.entries

@@ -14,8 +14,8 @@ use Rattle.path_sets.specs.Diagrams.{accepts, level_of}
 abbrev pub asked_eq : Asked → Asked → Bool
 asked_eq x y = nat_eq x.number y.number && (beq x.zero y.zero && nat_eq x.level y.level)
 
--- A number of nodes of one bit has the set that is asked for: a valuation is in it where it is at the point by what is
--- left of it at the level; and no bit before that level is tested.
+-- A number of nodes of one bit has the set that is asked for: a valuation is in it exactly if it is at the point by
+-- what is left of it at the level; and no bit before that level is tested.
 pub record HasAskedSet (quads : List Quad) (point : ℕ) (nodes : List Node) (asked : Asked) (number : ℕ) : Type 0 where
   pub inside : IsNumber nodes number
   pub deep : 2 * asked.level ≤ level_of nodes number

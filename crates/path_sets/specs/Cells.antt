@@ -10,7 +10,7 @@ use Rattle.path_sets.specs.Triples.{Triple}
 use Rattle.path_sets.specs.Halves.{values_of}
 use Rattle.path_sets.specs.Diagrams.{root_of, row_of}
 
--- The rows stand where they stood, and the number of each row's diagram is the same.
+-- The rows are where they were, and the number of each row's diagram is the same.
 pub record RowsStay (old new : List (Row × ℕ)) : Type 0 where
   pub indexes : (i : ℕ) (row : Row) → slice_get (keys_of old) i ≡ Some row → slice_get (keys_of new) i ≡ Some row
   pub numbers : (e b : ℕ) → root_of new e b ≡ root_of old e b

@@ -14,7 +14,7 @@ use Rattle.path_sets.specs.Triples.{Triple}
 use Rattle.path_sets.specs.Walks.{IsNumber, level_at, Preserves, reaches}
 use Rattle.path_sets.specs.Quads.{Given, points_of}
 
--- the number that a valuation goes on to from a node, by its bit
+-- the number to which a valuation continues from a node, by its bit
 abbrev pub child : Node → ℕ → ℕ
 child node valuation = cond (bit_of valuation node.level) node.high node.low
 
@@ -26,7 +26,7 @@ accepts nodes number valuation = reaches child nodes number valuation
 abbrev pub GoDown : List Node → Type 0
 GoDown nodes = (i : ℕ) (x : Node) → slice_get nodes i ≡ Some x → (x.level < word_bits) × (x.low < i + 2) × (x.high < i + 2)
 
--- the level that a number's node tests; behind the last for 0 and 1, which have none
+-- the level that a number's node tests; after the last for 0 and 1, which have none
 abbrev pub level_of : List Node → ℕ → ℕ
 level_of nodes number = level_at (λ x. x.level) word_bits nodes number
 
@@ -72,7 +72,7 @@ merged_has nodes rows edge = bit_of (points_of nodes (root_of rows edge.entry (e
 abbrev pub HaveNumbers : List Quad → List (Row × ℕ) → Type 0
 HaveNumbers nodes rows = (e b : ℕ) → IsNumber nodes (root_of rows e b)
 
--- The diagrams have what they had, and of what they were to be given nothing else.
+-- The diagrams keep what they had, and all else that they have is part of what was given.
 pub record TakesGiven (given : Triple → Type 0) (nodes nodes' : List Quad) (rows rows' : List (Row × ℕ)) : Type 0 where
   pub kept : (t : Triple) → merged_has nodes rows t ≡ true → merged_has nodes' rows' t ≡ true
   pub sound : (t : Triple) → merged_has nodes' rows' t ≡ true → (merged_has nodes rows t ≡ true) ⊎ given t

@@ -1,4 +1,4 @@
--- Sets of 64 points as masks: bit i of the number is 1 where point i of a block is in the set.
+-- Sets of 64 points as masks: bit i of the number is 1 if point i of a block is in the set.
 use Rattle.std.specs.Prelude.{◌≡◌, ◌≢◌, ℕ, zero, suc, Bool, true, false, cond, List, [], ◌∷◌, ◌==◌}
 use Rattle.std.specs.Int.{bit_at}
 
@@ -11,7 +11,7 @@ abbrev pub bits_below : ℕ → ℕ → List ℕ
 bits_below mask zero = []
 bits_below mask (suc n) = cond (bit_of mask n) (n ∷ bits_below mask n) (bits_below mask n)
 
--- The bit was 0, and is 1, and the others are as they were; or it was 1, and the mask is as it was. The answer says
+-- The bit was 0, and is 1, and the others are as they were; or it was 1, and the mask is as it was. The result says
 -- which.
 abbrev pub Marks : ℕ → ℕ → ℕ → Bool → Type 0
 Marks bit old new true =

@@ -1,4 +1,4 @@
--- The members of sets of path edges that are decision diagrams.
+-- The members of sets of path edges that are kept as decision diagrams.
 use Rattle.std.specs.Prelude.{◌≡◌, ◌<◌, ◌↔◌, ◌⊎◌, ℕ, zero, suc, ◌^◌, Bool, true, false, ◌&&◌, ◌||◌, nat_eq}
 use Rattle.std.specs.Prelude.{List, [], ◌∷◌, ◌++◌, map, filter}
 use Rattle.std.specs.Map.{keys_of}
@@ -52,8 +52,8 @@ Covers nodes rows masks =
     (p : Place) (bit : ℕ) → bit < 64 → Member p (keys_of masks) → merged_has nodes rows (edge_at p bit) ≡ true
     → is_gathered masks (edge_at p bit) ≡ true
 
--- The path edge was not there, and it and what was there is; or it was there, and what is gathered is the same. The
--- answer says which.
+-- The path edge was not there, and now it and what was there are; or it was there, and what is gathered is the same.
+-- The result says which.
 abbrev pub PutsEdge : List Quad → List (Row × ℕ) → Triple → List (Place × ℕ) → List (Place × ℕ) → Bool → Type 0
 PutsEdge nodes rows edge old new true =
     (IsEdgeThere nodes rows old edge → ⊥) × ((t : Triple) → IsEdgeThere nodes rows new t ↔ ((t ≡ edge) ⊎ IsEdgeThere nodes rows old t))

@@ -15,13 +15,13 @@ use Rattle.path_sets.specs.Walks.{node_at, IsNumber}
 abbrev pub levels : ℕ
 levels = word_bits / 2
 
--- the number that a valuation goes on to from a node, by its two low bits
+-- the number to which a valuation continues from a node, by its two low bits
 abbrev pub turn : Quad → ℕ → ℕ
 turn node valuation =
     cond (nat_eq (valuation % 4) 0) node.none
     (cond (nat_eq (valuation % 4) 1) node.first (cond (nat_eq (valuation % 4) 2) node.second node.both))
 
--- the points that a valuation comes to from a number, in less than a given number of steps: those of the node where
+-- the points that a valuation comes to from a number, in less than a given number of steps: those of the node at which
 -- nothing of it is left
 unfoldable pub walk_to : List Quad → ℕ → ℕ → ℕ → ℕ
 walk_to quads zero number valuation = 0
@@ -37,7 +37,7 @@ points_of quads number valuation = walk_to quads (suc valuation) number valuatio
 abbrev pub sees : List Quad → Quad → ℕ → ℕ
 sees quads node valuation = cond (nat_eq valuation 0) node.points (points_of quads (turn node valuation) (valuation / 4))
 
--- whether a valuation is at a point by the diagram of a number; of the valuation 0 it is told
+-- whether a valuation is at a point by the diagram of a number; for the valuation 0 this is given
 abbrev pub is_at : List Quad → ℕ → Bool → ℕ → ℕ → Bool
 is_at quads number nought bit valuation = cond (nat_eq valuation 0) nought (bit_of (points_of quads number valuation) bit)
 

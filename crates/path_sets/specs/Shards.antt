@@ -1,4 +1,4 @@
--- The path edges of masks that stand in shards, those of an entry in one.
+-- The path edges of masks in shards; those of an entry are in one shard.
 use Rattle.std.specs.Prelude.{◌≡◌, ◌<◌, ℕ, zero, suc, nat_eq, List, [], ◌∷◌, ◌++◌, Some, length}
 use Rattle.std.specs.Map.{lookup}
 use Rattle.language.specs.Lists.{Member}
@@ -6,7 +6,7 @@ use Rattle.path_sets.specs.declared.shards.Shard.{Shard}
 use Rattle.path_sets.specs.Edges.{edges}
 use Rattle.path_sets.specs.Triples.{Triple}
 
--- the path edges of the shard with this number; none behind the last
+-- the path edges of the shard with this number; none after the last
 abbrev pub edges_at : {A : Type 0} → List (Shard A) → ℕ → List Triple
 edges_at [] k = []
 edges_at (shard ∷ shards) zero = edges shard.masks.entries

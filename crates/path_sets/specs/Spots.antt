@@ -17,7 +17,7 @@ spot_eq x y = nat_eq x.row y.row && nat_eq x.values y.values
 abbrev pub place_in : Row → ℕ → Place
 place_in row values = record { entry = row.entry; values = values; block = row.block }
 
--- the place that a spot stands for; where its row is not there, some other
+-- the place that a spot stands for; if its row is not there, some other place
 abbrev pub place_at : List Row → Spot → Place
 place_at rows spot =
     option_map_or (λ row. place_in row spot.values) (slice_get rows spot.row) (place_in (record { entry = 0; block = 0 }) spot.values)

@@ -35,10 +35,10 @@ pub record Preserves {X : Type 0} (next : X → ℕ → ℕ) (level : X → ℕ)
   pub same : (n v : ℕ) → IsNumber old n → reaches next new n v ≡ reaches next old n v
   pub levels : (n : ℕ) → IsNumber old n → level_at level last new n ≡ level_at level last old n
 
--- the node, which is new, stands at the end of the nodes that there were, or they are the same
+-- the node is new and comes after the nodes that there were, or they are the same
 abbrev pub IsGrown : {X : Type 0} → X → List X → List X → Type 0
 IsGrown x old new = (new ≡ old) ⊎ ((new ≡ old ++ x ∷ []) × ((i : ℕ) → slice_get old i ≢ Some x))
 
--- no node stands twice
+-- no node occurs twice
 abbrev pub StandOnce : {X : Type 0} → List X → Type 0
 StandOnce {X} nodes = (i j : ℕ) (x : X) → slice_get nodes i ≡ Some x → slice_get nodes j ≡ Some x → i ≡ j

@@ -17,7 +17,7 @@ use crate::spots::{Spots, begin, find, mark_at};
 use indexmap::IndexMap;
 use std::alloc::{AllocError, Allocator};
 
-/// The masks of the places of some rows that were met one after another, as they are worked on.
+/// The masks of the places of some rows that were met one after another.
 #[derive(Drop)]
 pub(crate) struct Batch<A: Allocator> {
     pub(crate) masks: Spots<A>,
@@ -25,7 +25,7 @@ pub(crate) struct Batch<A: Allocator> {
 }
 
 impl<A: Allocator + Copy> Batch<A> {
-    /// No places, which take no memory yet.
+    /// No places; this takes no memory yet.
     pub(crate) fn new(alloc: A) -> Self
         ensures { result.masks.entries ≡ [] }
     {
@@ -34,8 +34,8 @@ impl<A: Allocator + Copy> Batch<A> {
         }
     }
 
-    /// Begins the mask of a place that is not gathered yet with the points that the diagrams have, and puts a point into
-    /// it. Answers whether it is new; else the place stays where it is.
+    /// Begins the mask of a place that is not gathered yet with the points that the diagrams have, and puts a point
+    /// into it. Returns whether the point is new; if it is not, the place is not gathered.
     fn begin(
         &mut self,
         places: &mut usize,
@@ -69,7 +69,8 @@ impl<A: Allocator + Copy> Batch<A> {
         Ok(true)
     }
 
-    /// Puts a point into the mask of its place; the place at the index `last` is tried first. Answers whether it is new.
+    /// Puts a point into the mask of its place; the place at the index `last` is tried first. Returns whether the
+    /// point is new.
     pub(crate) fn gather(
         &mut self,
         last: &mut usize,
@@ -106,7 +107,7 @@ impl<A: Allocator + Copy> Batch<A> {
         }
     }
 
-    /// The mask of a spot, where the batch has one; the one at the index `last` is tried first.
+    /// The mask of a spot, if the batch has one; the spot at the index `last` is tried first.
     pub(crate) fn mask(&self, last: usize, spot: &Spot) -> Option<u64>
         ensures some { IfSome result (λ m. Member (spot.now, m) self.now.masks.entries) }
         ensures none { IsNone result → Member spot.now (keys_of self.now.masks.entries) → ⊥ }

@@ -16,8 +16,8 @@ use indexmap::IndexMap;
 use std::alloc::{AllocError, Allocator};
 use std::hash::{BuildHasherDefault, FoldHasher};
 
-/// The valuations that are at the point, by what is left of them at a level and the diagram of a number there; of the
-/// one of which nothing is left, it is told.
+/// The valuations that are at the point, by what is left of them at a level and the diagram of a number there; if
+/// nothing is left of a valuation, `zero` says whether it is at the point.
 #[derive(Clone, Copy, Debug, PartialEq, Eq, Hash)]
 pub(crate) struct Asked {
     pub(crate) number: u32,
@@ -28,7 +28,7 @@ pub(crate) struct Asked {
 /// The numbers of the sets that were asked for.
 type Found<A> = IndexMap<Asked, u32, BuildHasherDefault<FoldHasher>, A>;
 
-/// The number of the set that is asked for, which is found once.
+/// The number of the set that is asked for, which is computed only once.
 #[cycle(at_point)]
 fn at_point<A: Allocator + Copy>(
     nodes: &mut Nodes<A>,
@@ -59,7 +59,7 @@ fn at_point<A: Allocator + Copy>(
     Ok(number)
 }
 
-/// The same, by the four ways on.
+/// The same, from the sets of the node's four children.
 #[cycle(at_point)]
 fn parted<A: Allocator + Copy>(
     nodes: &mut Nodes<A>,

@@ -6,7 +6,7 @@ ghost use Rattle.path_sets.specs.Halves.{GoesOn, half_levels, values_of};
 
 use language::Word;
 
-/// How many levels a half of a valuation has, two bits at each, which `specs/Halves.antt` has for contracts.
+/// How many levels a half of a valuation has, two bits at each; `specs/Halves.antt` has the number for contracts.
 const HALF: u8 = 32;
 
 /// The index of a place's row, the low 64 bits of its valuation and those above, and the mask of its points.
@@ -41,7 +41,7 @@ pub(crate) fn cell_at(cells: &[Cell], at: usize) -> Cell
     cells[at]
 }
 
-/// The two bits that a cell's valuation goes on by at a level; `None` where nothing is left of it.
+/// The two bits by which a cell's valuation continues at a level; `None` if nothing is left of it.
 pub(crate) fn way(cell: &Cell, level: u8) -> Option<u8>
     requires { level ≤ 2 * half_levels }
     ensures some { IfSome result (λ w. GoesOn (values_of cell.now) level w) }
@@ -65,7 +65,7 @@ pub(crate) fn way(cell: &Cell, level: u8) -> Option<u8>
     Some((rest % 4) as u8)
 }
 
-/// The bits of a number in the other order.
+/// The bits of a number in reverse order.
 fn turned(bits: u64) -> u64 {
     let mut now = bits;
     now = now >> 1 & 0x5555_5555_5555_5555 | (now & 0x5555_5555_5555_5555) << 1;
@@ -76,7 +76,8 @@ fn turned(bits: u64) -> u64 {
     now >> 32 | now << 32
 }
 
-/// What cells are sorted by: those of a row stand one after another, and in a row those whose first bits are the same.
+/// The key by which cells are sorted: those of a row come one after another, and within a row those whose first bits
+/// are the same.
 pub(crate) fn order_of(cell: &Cell) -> (usize, u64, u64) {
     let high = if cell.high == 0 { 0 } else { turned(cell.high) };
     (cell.row, turned(cell.low), high)

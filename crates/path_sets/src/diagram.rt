@@ -27,7 +27,7 @@ use std::alloc::{AllocError, Allocator};
 /// diagrams many at a time.
 #[derive(Drop)]
 pub struct DiagramEdges<A: Allocator> {
-    /// The points of the places that are gathered, those that the diagrams have there too.
+    /// The points of the places that are gathered, including those that the diagrams have there.
     gathered: Gathered<A>,
     merged: Merged<A>,
     count: u64,
@@ -42,7 +42,7 @@ pub struct DiagramEdges<A: Allocator> {
 }
 
 impl<A: Allocator + Copy> DiagramEdges<A> {
-    /// Puts the places of a batch into the diagrams. Where memory is refused, all stay gathered.
+    /// Puts the places of a batch into the diagrams. If memory is refused, all of them stay gathered.
     fn merge(&mut self, at: usize) -> Result<(), AllocError>
         requires { at < length self.old.gathered.batches.items }
         ensures { all_edges self.new.merged.nodes.kept.keys self.new.merged.rows.entries
@@ -55,8 +55,8 @@ impl<A: Allocator + Copy> DiagramEdges<A> {
         Ok(())
     }
 
-    /// Puts the oldest of the places that are gathered into the diagrams, where there are many. Where memory is refused,
-    /// all stay gathered.
+    /// Puts the oldest of the places that are gathered into the diagrams, if there are many. If memory is refused, all
+    /// of them stay gathered.
     fn make_room(&mut self) -> Result<(), AllocError>
         ensures { all_edges self.new.merged.nodes.kept.keys self.new.merged.rows.entries
             (places_in (keys self.new.merged.rows) self.new.gathered.batches.items)
@@ -69,7 +69,7 @@ impl<A: Allocator + Copy> DiagramEdges<A> {
         }
     }
 
-    /// The index of a row, which has a diagram from now on, be it one with nothing.
+    /// The index of a row; a row that has no diagram yet gets an empty one.
     fn settle(&mut self, row: Row) -> Result<usize, AllocError>
         ensures at { IfOk result (λ at. slice_get (keys self.new.merged.rows) at ≡ Some row) }
         ensures members { all_edges self.new.merged.nodes.kept.keys self.new.merged.rows.entries
@@ -80,9 +80,9 @@ impl<A: Allocator + Copy> DiagramEdges<A> {
         self.merged.settle(row)
     }
 
-    /// How many inner nodes the diagram of an entry and a point has whose nodes test one bit each, bit 0 first: one for
-    /// each level and each set of suffixes that some prefix of its members has there and that depends on the bit of the
-    /// level. It takes memory in proportion to all diagrams; where memory is refused, the set stays as it is.
+    /// How many inner nodes the diagram of an entry and a point has whose nodes test one bit each, bit 0 first: one
+    /// for each level and each set of suffixes that some prefix of its members has there and that depends on the bit
+    /// of the level. It takes memory in proportion to all diagrams; if memory is refused, the set stays as it is.
     pub fn nodes(&self, entry: Word, point: Point) -> Result<u64, AllocError>
         ensures { IfOk result (HasNodes word_bits (λ v. Member (triple entry point v)
             (all_edges self.now.merged.nodes.kept.keys self.now.merged.rows.entries

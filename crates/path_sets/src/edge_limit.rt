@@ -3,7 +3,7 @@
 ghost use Rattle.std.specs.Prelude.{◌≡◌, ◌≤◌, IfSome, IsSome, ◌↔◌};
 ghost use Rattle.path_sets.specs.Limits.{most_edges};
 
-/// The greatest limit, which `specs/Limits.antt` has for contracts.
+/// The greatest limit; `specs/Limits.antt` has it for contracts.
 pub const MOST_EDGES: u32 = 16_777_216;
 
 /// How many path edges the table of one procedure may hold: from 1 to `MOST_EDGES`.
@@ -17,7 +17,7 @@ pub struct EdgeLimit {
 impl EdgeLimit {
     ghost use Rattle.path_sets.specs.EdgeLimits.{most_of};
 
-    /// So many edges; `None` where there are none, or more than `MOST_EDGES`.
+    /// The limit of this many edges; `None` if the number is 0 or more than `MOST_EDGES`.
     pub fn new(edges: u32) -> Option<EdgeLimit>
         ensures some { IsSome result ↔ (1 ≤ edges) × (edges ≤ most_edges) }
         ensures edges { IfSome result (λ limit. most_of limit ≡ edges) }

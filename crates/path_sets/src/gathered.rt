@@ -1,4 +1,4 @@
-//! Path edges that are gathered go into the diagrams.
+//! Puts gathered path edges into the diagrams.
 
 ghost use Rattle.std.specs.Prelude.{◌≡◌, ℕ, ◌<◌, ◌≤◌, true, List, Some, length, slice_get, IfOk, OnOk};
 ghost use Rattle.std.specs.Prelude.{IsPermutation};
@@ -44,14 +44,14 @@ fn cells_of<A: Allocator + Copy>(masks: &Spots<A>) -> Result<Vec<Cell, A>, Alloc
     Ok(cells)
 }
 
-/// Sorts cells, so that those of a row stand one after another, and in a row those whose first bits are the same.
+/// Sorts cells, so that those of a row come one after another, and within a row those whose first bits are the same.
 fn sort<A: Allocator + Copy>(cells: &mut Vec<Cell, A>) -> Result<(), AllocError>
     ensures { IsPermutation cells.old.items cells.new.items }
 {
     cells.sort_by_cached_key(order_of)
 }
 
-/// How many cells there are, from the first on, that are of the row at an index, of which the first is.
+/// How many cells, from the first on, are of the row at an index, which is the row of the first cell.
 fn run_of(cells: &[Cell], row: usize) -> usize
     requires { 0 < length cells.now }
     ensures within { result ≤ length cells.now }
@@ -69,8 +69,8 @@ fn run_of(cells: &[Cell], row: usize) -> usize
     end
 }
 
-/// Puts the path edges of these cells into the diagrams, those of a row that stand one after another at once. Where
-/// memory is refused, some of them may be in.
+/// Puts the path edges of these cells into the diagrams, each run of cells of one row at once. If memory is refused,
+/// some of them may be in.
 fn put_cells<A: Allocator + Copy>(merged: &mut Merged<A>, cells: &[Cell]) -> Result<(), AllocError>
     requires { (c : Cell) → Member c cells.now → c.row < index_map_len merged.old.rows }
     ensures keys { keys merged.new.rows ≡ keys merged.old.rows }
@@ -90,7 +90,7 @@ fn put_cells<A: Allocator + Copy>(merged: &mut Merged<A>, cells: &[Cell]) -> Res
     Ok(())
 }
 
-/// Puts all path edges of the spots into the diagrams. Where memory is refused, some of them may be in.
+/// Puts all path edges of the spots into the diagrams. If memory is refused, some of them may be in.
 pub(crate) fn put_all<A: Allocator + Copy>(
     merged: &mut Merged<A>,
     masks: &Spots<A>,
@@ -109,7 +109,7 @@ pub(crate) fn put_all<A: Allocator + Copy>(
     put_cells(merged, &cells)
 }
 
-/// Puts all path edges of the batches into the diagrams. Where memory is refused, some of them may be in.
+/// Puts all path edges of the batches into the diagrams. If memory is refused, some of them may be in.
 pub(crate) fn put_batches<A: Allocator + Copy>(
     merged: &mut Merged<A>,
     batches: &[Batch<A>],

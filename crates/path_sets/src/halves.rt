@@ -1,4 +1,4 @@
-//! Valuations in halves.
+//! Valuations in two halves.
 
 ghost use Rattle.std.specs.Prelude.{nat_eq};
 ghost use Rattle.std.proofs.Common.{rules};
@@ -9,8 +9,8 @@ use language::Word;
 use std::hash::{Hash, Hasher};
 use std::marker::Model;
 
-/// A valuation in two halves of 64 bits, as it is kept many times: it need not stand at a multiple of 16 bytes, so that
-/// less memory is lost between values. Contracts see it as the valuation.
+/// A valuation in two halves of 64 bits, for values that are kept many times: it need not be aligned to 16 bytes, so
+/// that less memory is lost between values. Contracts see it as the valuation.
 #[derive(Clone, Copy, Debug)]
 pub struct Halves {
     low: u64,

@@ -16,7 +16,7 @@ pub fn members_have_one_count()
         → HasNodes width (λ v. Member (triple e p v) members) m → n ≡ m }
 {}
 
-/// A law: in ordered and reduced diagrams, where no node stands twice, equal sets have one number (Bryant 1986).
+/// A law: in ordered and reduced diagrams in which no node occurs twice, equal sets have one number (Bryant 1986).
 pub fn equal_sets_have_one_number()
     ensures { (nodes : List Node) (n m : ℕ) → GoDown nodes → AreOrdered nodes → AreReduced nodes
         → StandOnce nodes

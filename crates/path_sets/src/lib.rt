@@ -2,7 +2,7 @@
 //! one procedure of a sequential program (path edges after Ball and Rajamani 2000).
 //!
 //! A set grows and never shrinks: the tabulation of a procedure inserts each path edge as it is found, and works on it
-//! once, where `insert` answers that it was new.
+//! once, when `insert` returns that it is new.
 #![tactic(auto)]
 
 mod batch;

@@ -19,7 +19,7 @@ pub(crate) fn has(mask: u64, bit: usize) -> bool
     (mask >> bit) & 1 == 1
 }
 
-/// Puts the point of a bit into a mask. Answers whether it is new.
+/// Puts the point of a bit into a mask. Returns whether the point is new.
 pub(crate) fn mark(mask: &mut u64, bit: usize) -> bool
     requires { bit < 64 }
     ensures { Marks bit mask.old mask.new result }

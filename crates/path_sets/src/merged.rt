@@ -28,14 +28,14 @@ use std::alloc::{AllocError, Allocator};
 pub(crate) struct Merged<A: Allocator> {
     pub(crate) nodes: Quads<A>,
     pub(crate) rows: Rows<A>,
-    /// The index of the row that was used last, which is mostly that of the next path edge.
+    /// The index of the row that was used last, which is usually that of the next path edge.
     last: usize,
     ghost unique: { IsUnique row_eq rows } by { IsDistinct-prop row_eq (keys rows) },
     ghost numbers: { HaveNumbers nodes.kept.keys rows.entries },
 }
 
 impl<A: Allocator + Copy> Merged<A> {
-    /// No diagrams, which take no memory yet.
+    /// No diagrams; this takes no memory yet.
     pub(crate) fn new(alloc: A) -> Self
         ensures { (t : Triple) → merged_has result.nodes.kept.keys result.rows.entries t ≡ false }
     {
@@ -59,7 +59,7 @@ impl<A: Allocator + Copy> Merged<A> {
         })
     }
 
-    /// The index of a row, where it has a diagram.
+    /// The index of a row, if it has a diagram.
     pub(crate) fn find(&self, row: &Row) -> Option<usize>
         ensures here { IfSome result (λ at. slice_get (keys self.now.rows) at ≡ Some row.now) }
         ensures none { IsNone result → lookup (row_eq row.now) self.now.rows.entries ≡ None }
@@ -77,8 +77,8 @@ impl<A: Allocator + Copy> Merged<A> {
         self.nodes.points(root_at(&self.rows, at), values)
     }
 
-    /// The index of a row, which has a diagram from now on, be it one with nothing. Where memory is refused, the rows
-    /// stay.
+    /// The index of a row; a row that has no diagram yet gets an empty one. If memory is refused, the rows stay as
+    /// they were.
     pub(crate) fn settle(&mut self, row: Row) -> Result<usize, AllocError>
         ensures nodes { self.new.nodes ≡ self.old.nodes }
         ensures at { IfOk result (λ at. slice_get (keys self.new.rows) at ≡ Some row) }
@@ -89,8 +89,8 @@ impl<A: Allocator + Copy> Merged<A> {
         Ok(at)
     }
 
-    /// Puts the points of cells, whatever their rows, into the diagram of the row at an index. Where memory is refused,
-    /// none of them are in.
+    /// Puts the points of cells, whatever their rows, into the diagram of the row at an index. If memory is refused,
+    /// none of them is in.
     pub(crate) fn put(&mut self, at: usize, run: &[Cell]) -> Result<(), AllocError>
         requires { at < index_map_len self.old.rows }
         ensures keys { keys self.new.rows ≡ keys self.old.rows }
@@ -107,7 +107,7 @@ impl<A: Allocator + Copy> Merged<A> {
         Ok(())
     }
 
-    /// How many inner nodes the diagram of the set at a point has, which is a bit of a row.
+    /// How many inner nodes the diagram of the set at a point has; the point is given as a bit of a row.
     pub(crate) fn count(&self, row: &Row, bit: usize) -> Result<u64, AllocError>
         requires { bit < 64 }
         ensures { IfOk result

@@ -7,11 +7,11 @@ ghost use Rattle.path_sets.specs.Batches.{places_in, spots_at};
 use crate::batch::Batch;
 use std::alloc::{AllocError, Allocator};
 
-/// How many places a batch has before rows without one go to the next: that many stay in a processor's cache, and with
-/// those that its own rows still get it mostly has room for no more than 4,096.
+/// How many places a batch has before rows without a batch go to the next one. So many stay in a processor's cache,
+/// and with the places that its own rows still get, a batch mostly has room for no more than 4,096.
 const MANY: usize = 3_840;
 
-/// The number of the batch that rows without one go to, which is made where the last one has many places.
+/// The number of the batch that rows without one go to; a new batch is made if the last one has many places.
 pub(crate) fn open<A: Allocator + Copy>(
     alloc: A,
     batches: &mut Vec<Batch<A>, A>,

@@ -1,6 +1,6 @@
 //! One node of a decision diagram that tests one bit.
 
-/// A node: the bit that it tests, and the numbers that a valuation goes on to where the bit is 0 and where it is 1.
+/// A node: the bit that it tests, and the numbers to which a valuation continues if the bit is 0 and if it is 1.
 #[derive(Clone, Copy, Debug, PartialEq, Eq, Hash)]
 pub(crate) struct Node {
     pub(crate) level: u8,

@@ -1,4 +1,4 @@
-//! Numbered nodes that test one bit, each of which stands once.
+//! Numbered nodes that test one bit; no node occurs twice.
 
 ghost use Rattle.std.specs.Prelude.{◌≡◌, ℕ, ◌+◌, ◌<◌, ◌^◌, Bool, cond, IfOk, Some, slice_get};
 ghost use Rattle.std.specs.Prelude.{length, ◌≤◌};
@@ -25,7 +25,7 @@ pub(crate) const MOST: usize = 4_294_967_293;
 type Kept<A> = IndexSet<Node, BuildHasherDefault<FoldHasher>, A>;
 
 /// The nodes of reduced ordered decision diagrams: number n is the node at n - 2, whose children have smaller numbers
-/// and later levels and differ. No node stands twice, so that equal sets have equal numbers.
+/// and later levels and differ. No node occurs twice, so that equal sets have equal numbers.
 #[derive(Drop)]
 pub(crate) struct Nodes<A: Allocator> {
     pub(crate) kept: Kept<A>,
@@ -35,7 +35,7 @@ pub(crate) struct Nodes<A: Allocator> {
     ghost once: { StandOnce kept.keys },
 }
 
-/// The index of a node, which is put at the end where it has none.
+/// The index of a node; a node that has none is appended.
 fn index_of<A: Allocator + Copy>(kept: &mut Kept<A>, node: Node) -> Result<usize, AllocError>
     ensures at { IfOk result (λ i. slice_get kept.new.keys i ≡ Some node) }
     ensures grown { IsGrown node kept.old.keys kept.new.keys }
@@ -46,7 +46,7 @@ fn index_of<A: Allocator + Copy>(kept: &mut Kept<A>, node: Node) -> Result<usize
 }
 
 impl<A: Allocator + Copy> Nodes<A> {
-    /// No nodes, which take no memory yet.
+    /// No nodes; this takes no memory yet.
     pub(crate) fn new(alloc: A) -> Self {
         Nodes {
             kept: IndexSet::new(alloc),

@@ -17,17 +17,17 @@ use std::alloc::{AllocError, Allocator};
 /// How many places a shard has before new entries go to the next: that many stay in a processor's cache.
 const MANY: usize = 4_096;
 
-/// Path edges in one mask of 64 points for each valuation of each entry: a valuation mostly goes unchanged through many
-/// points. The places of entries that are first met one after another stand in one shard, in first-seen order, since
-/// mostly an entry's path edges come together: so the places that are looked up are near each other.
+/// Path edges in one mask of 64 points for each valuation of each entry: a valuation usually stays the same through
+/// many points. The places of entries that are first met one after another are in one shard, in first-seen order. An
+/// entry's path edges usually come together, so the places that are looked up are near each other.
 #[derive(Drop)]
 pub struct OrderedEdges<A: Allocator> {
     /// For each entry the number of the shard that has its places.
     homes: Homes<A>,
     shards: Vec<Shard<A>, A>,
-    /// The index of the entry that was used last, which is mostly that of the next edge.
+    /// The index of the entry that was used last, which is usually that of the next edge.
     entry: usize,
-    /// The index of the place in its shard that was used last, which is mostly that of the next edge.
+    /// The index of the place in its shard that was used last, which is usually that of the next edge.
     last: usize,
     count: u64,
     ghost home: { AreHome homes.entries shards.items },
@@ -36,7 +36,7 @@ pub struct OrderedEdges<A: Allocator> {
     ghost once: { NoneTwice (all_in shards.items) } by { NoneTwice-prop (all_in shards.items) },
 }
 
-/// The number of the shard that new entries go to, which is made where the last one has many places.
+/// The number of the shard that new entries go to; a new shard is made if the last one has many places.
 pub(crate) fn open<A: Allocator + Copy>(
     alloc: A,
     shards: &mut Vec<Shard<A>, A>,
@@ -56,8 +56,8 @@ pub(crate) fn open<A: Allocator + Copy>(
 }
 
 impl<A: Allocator + Copy> OrderedEdges<A> {
-    /// Gives an entry that has no shard the one that new entries go to, and answers its number. Where memory is
-    /// refused, it has none.
+    /// Gives an entry that has no shard the one that new entries go to, and returns its number. If memory is refused,
+    /// the entry has none.
     fn settle(&mut self, entry: Word) -> Result<usize, AllocError>
         requires { lookup (nat_eq entry) self.old.homes.entries ≡ None }
         ensures shard { IfOk result (λ k. lookup (nat_eq entry) self.new.homes.entries ≡ Some k) }
@@ -70,7 +70,7 @@ impl<A: Allocator + Copy> OrderedEdges<A> {
         Ok(at)
     }
 
-    /// The number of an entry's shard, which it gets where it has none.
+    /// The number of an entry's shard; an entry that has none gets one.
     fn shard_of(&mut self, entry: Word) -> Result<usize, AllocError>
         ensures shard { IfOk result (λ k. lookup (nat_eq entry) self.new.homes.entries ≡ Some k) }
         ensures edges { all_in self.new.shards.items ≡ all_in self.old.shards.items }

@@ -18,8 +18,8 @@ pub trait PathSet<A: Allocator>: Sized + Drop {
     fn empty(alloc: A) -> Self
         ensures { members result ≡ [] };
 
-    /// Puts a triple into the set. Answers whether it is new: `false` where it is a member already. Where memory is
-    /// refused, the set stays as it was.
+    /// Puts a triple into the set. Returns whether it is new: `false` if it is a member already. If memory is refused,
+    /// the set stays as it was.
     fn insert(&mut self, entry: Word, point: Point, values: Word) -> Result<bool, AllocError>
         requires { length (members self.old) < 2 ^ 63 }
         ensures members { OnOk result ((t : Triple) → Member t (members self.new)

@@ -51,7 +51,7 @@ pub(crate) fn begin<A: Allocator + Copy>(
     Ok(())
 }
 
-/// Puts a point into the mask at an index. Answers whether it is new.
+/// Puts a point into the mask at an index. Returns whether the point is new.
 pub(crate) fn mark_at<A: Allocator + Copy>(masks: &mut Masks<A>, at: usize, bit: usize) -> bool
     requires bit { bit < 64 }
     requires within { at < index_map_len masks.old }

@@ -1,15 +1,15 @@
-//! One node of a decision diagram that goes on by two bits at once.
+//! One node of a decision diagram that continues by two bits at once.
 
 ghost use Rattle.std.specs.Prelude.{◌≡◌, ℕ, ◌%◌};
 ghost use Rattle.path_sets.specs.Quads.{turn};
 
 use language::{WORD_BITS, Word};
 
-/// How many levels there are, two bits of a valuation at each, which `specs/Quads.antt` has for contracts.
+/// How many levels there are, two bits of a valuation at each; `specs/Quads.antt` has the number for contracts.
 pub(crate) const LEVELS: u8 = WORD_BITS / 2;
 
-/// A node: the points of the valuation 0, and the numbers that another goes on to by its two low bits: where both are
-/// 0, where the first alone is 1, where the second alone is, and where both are.
+/// A node: the points of the valuation 0, and the numbers to which another valuation continues by its two low bits: if
+/// both are 0, if only the first is 1, if only the second is 1, and if both are 1.
 #[derive(Clone, Copy, Debug, PartialEq, Eq, Hash)]
 pub(crate) struct Quad {
     pub(crate) points: u64,
@@ -28,7 +28,7 @@ pub(crate) const NOTHING: Quad = Quad {
     both: 0,
 };
 
-/// The number that a valuation goes on to from a node.
+/// The number to which a valuation continues from a node.
 pub(crate) fn turn(quad: &Quad, values: Word) -> u32
     ensures { result ≡ turn quad.now values }
 {
@@ -40,7 +40,7 @@ pub(crate) fn turn(quad: &Quad, values: Word) -> u32
     }
 }
 
-/// Has a valuation, and those with the same two low bits, go on to a number.
+/// Makes a valuation, and those with the same two low bits, continue to a number.
 pub(crate) fn lead(quad: &mut Quad, values: Word, number: u32)
     ensures points { quad.new.points ≡ quad.old.points }
     ensures here { (v : ℕ) → v % 4 ≡ values % 4 → turn quad.new v ≡ number }

@@ -1,4 +1,4 @@
-//! Numbered nodes that go on by two bits at once.
+//! Numbered nodes that continue by two bits at once.
 
 ghost use Rattle.std.specs.Prelude.{◌≡◌, ℕ, ◌+◌, ◌<◌, ◌^◌, IfOk, Some, slice_get, length, ◌≤◌};
 ghost use Rattle.path_sets.specs.Walks.{IsGrown, IsNumber, StandOnce};
@@ -15,8 +15,8 @@ use std::hash::{BuildHasherDefault, FoldHasher};
 /// Numbered nodes, in the order of their numbers.
 type Kept<A> = IndexSet<Quad, BuildHasherDefault<FoldHasher>, A>;
 
-/// The nodes of the diagrams that are kept: number n is the node at n - 2, whose children have smaller numbers; 0 and 1
-/// have no node and no points. At each node there is something, and no node stands twice.
+/// The nodes of the diagrams that are kept: number n is the node at n - 2, whose children have smaller numbers; 0 and
+/// 1 have no node and no points. At each node there is something, and no node occurs twice.
 #[derive(Drop)]
 pub(crate) struct Quads<A: Allocator> {
     pub(crate) kept: Kept<A>,
@@ -25,7 +25,7 @@ pub(crate) struct Quads<A: Allocator> {
     ghost once: { StandOnce kept.keys },
 }
 
-/// The index of a node, which is put at the end where it has none.
+/// The index of a node; a node that has none is appended.
 fn index_of<A: Allocator + Copy>(kept: &mut Kept<A>, quad: Quad) -> Result<usize, AllocError>
     ensures at { IfOk result (λ i. slice_get kept.new.keys i ≡ Some quad) }
     ensures grown { IsGrown quad kept.old.keys kept.new.keys }
@@ -36,7 +36,7 @@ fn index_of<A: Allocator + Copy>(kept: &mut Kept<A>, quad: Quad) -> Result<usize
 }
 
 impl<A: Allocator + Copy> Quads<A> {
-    /// No nodes, which take no memory yet.
+    /// No nodes; this takes no memory yet.
     pub(crate) fn new(alloc: A) -> Self {
         Quads {
             kept: IndexSet::new(alloc),
@@ -75,7 +75,7 @@ impl<A: Allocator + Copy> Quads<A> {
         }
     }
 
-    /// The number of a node: 0 where there is nothing at it.
+    /// The number of a node: 0 if there is nothing at it.
     pub(crate) fn make(&mut self, quad: Quad) -> Result<u32, AllocError>
         requires { AreInside self.old.kept.keys quad }
         ensures keeps { KeepQuads self.old.kept.keys self.new.kept.keys }

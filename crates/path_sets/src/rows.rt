@@ -61,7 +61,7 @@ pub(crate) fn root_at<A: Allocator + Copy>(rows: &Rows<A>, at: usize) -> u32
     }
 }
 
-/// The index of a row, where it has a diagram; the one used last is tried first.
+/// The index of a row, if it has a diagram; the one used last is tried first.
 #[inline(always)]
 pub(crate) fn find<A: Allocator + Copy>(rows: &Rows<A>, last: usize, row: &Row) -> Option<usize>
     ensures here { IfSome result (λ at. slice_get (keys rows.now) at ≡ Some row.now) }
@@ -75,7 +75,7 @@ pub(crate) fn find<A: Allocator + Copy>(rows: &Rows<A>, last: usize, row: &Row) 
     rows.get_index_of(row)
 }
 
-/// Gives a row that has no diagram the number of one. Where memory is refused, it has none.
+/// Gives a row that has no diagram the number of one. If memory is refused, the row has none.
 fn begin<A: Allocator + Copy>(rows: &mut Rows<A>, row: Row, number: u32) -> Result<(), AllocError>
     requires { lookup (row_eq row) rows.old.entries ≡ None }
     ensures ok { OnOk result (rows.new.entries ≡ rows.old.entries ++ (row, number) ∷ []) }
@@ -87,7 +87,7 @@ fn begin<A: Allocator + Copy>(rows: &mut Rows<A>, row: Row, number: u32) -> Resu
     Ok(())
 }
 
-/// The index of a row; where it has no diagram, it gets the one with nothing.
+/// The index of a row; a row that has no diagram gets the empty one.
 pub(crate) fn index_of<A: Allocator + Copy>(
     rows: &mut Rows<A>,
     last: usize,

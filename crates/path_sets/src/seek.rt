@@ -1,10 +1,10 @@
-//! Where a key stands in a map.
+//! The index of a key in a map.
 
 use indexmap::IndexMap;
 use std::alloc::Allocator;
 use std::hash::{BuildHasherDefault, FoldHasher, Hash};
 
-/// The index of a key where it has a value, else some other; the key at the index `last` is tried first.
+/// The index of a key if it has a value, else some other index; the key at the index `last` is tried first.
 pub(crate) fn seek<K: Eq + Hash, V, A: Allocator + Copy>(
     map: &IndexMap<K, V, BuildHasherDefault<FoldHasher>, A>,
     last: usize,

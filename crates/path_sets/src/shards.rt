@@ -13,7 +13,7 @@ use crate::points::{Masks, begin, find, mark_at};
 use indexmap::IndexMap;
 use std::alloc::{AllocError, Allocator};
 
-/// The masks of the places of some entries that were first met one after another, as they are worked on.
+/// The masks of the places of some entries that were first met one after another.
 #[derive(Drop)]
 pub(crate) struct Shard<A: Allocator> {
     pub(crate) masks: Masks<A>,
@@ -21,7 +21,7 @@ pub(crate) struct Shard<A: Allocator> {
 }
 
 impl<A: Allocator + Copy> Shard<A> {
-    /// No places, which take no memory yet.
+    /// No places; this takes no memory yet.
     pub(crate) fn new(alloc: A) -> Self
         ensures { edges result.masks.entries ≡ [] }
     {
@@ -30,8 +30,8 @@ impl<A: Allocator + Copy> Shard<A> {
         }
     }
 
-    /// Puts a point into the mask of its place; the place at the index `last` is tried first. Answers whether it is
-    /// new.
+    /// Puts a point into the mask of its place; the place at the index `last` is tried first. Returns whether the
+    /// point is new.
     pub(crate) fn put(
         &mut self,
         last: &mut usize,

@@ -12,8 +12,8 @@ use crate::quads::Quads;
 use language::Word;
 use std::alloc::{AllocError, Allocator};
 
-/// How many cells there are, from the first on, whose valuations go on by these two bits at a level, as that of the
-/// first does.
+/// How many cells, from the first on, have valuations that continue by these two bits at a level, as that of the first
+/// does.
 fn run_of(cells: &[Cell], level: u8, two: u8) -> usize
     requires some { 0 < length cells.now }
     requires level { level ≤ 2 * half_levels }
@@ -32,8 +32,8 @@ fn run_of(cells: &[Cell], level: u8, two: u8) -> usize
     end
 }
 
-/// The number of a number's diagram with the points of the cells, by what is left of their valuations at a level. Those
-/// that go on alike are put in at once where they stand one after another.
+/// The number of a number's diagram with the points of the cells, by what is left of their valuations at a level.
+/// Those that continue alike are put in at once if they come one after another.
 pub(crate) fn union<A: Allocator + Copy>(
     nodes: &mut Quads<A>,
     cells: &[Cell],

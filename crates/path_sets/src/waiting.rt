@@ -18,26 +18,26 @@ use crate::newest::open;
 use crate::spot::Spot;
 use std::alloc::{AllocError, Allocator};
 
-/// One place may wait for this many that have gone into the diagrams.
+/// For every `SHARE` places that have gone into the diagrams, one place may wait.
 const SHARE: usize = 6;
 
-/// How many places may wait at least.
+/// The least limit on the number of places that wait.
 const LEAST: usize = 16_384;
 
-/// How many places may wait at most.
+/// The greatest limit on the number of places that wait.
 const MOST: usize = 1_048_576;
 
-/// The number of no batch.
+/// The number that means no batch.
 const NO_BATCH: usize = usize::MAX;
 
-/// The places that are gathered, in batches, of which the oldest goes into the diagrams first. A row keeps its batch while
-/// that has any places, and gets the newest one after: so mostly each place goes into the diagrams once.
+/// The places that are gathered, in batches, of which the oldest goes into the diagrams first. A row keeps its batch
+/// while that has any places, and gets the newest one afterwards, so that most places go into the diagrams only once.
 #[derive(Drop)]
 pub(crate) struct Gathered<A: Allocator> {
     /// For each row, by its index, the number of the batch that it got last.
     homes: Vec<usize, A>,
     pub(crate) batches: Vec<Batch<A>, A>,
-    /// The index of the place in its batch that was used last, which is mostly that of the next path edge.
+    /// The index of the place in its batch that was used last, which is usually that of the next path edge.
     last: usize,
     /// The number of the oldest batch that may have places.
     oldest: usize,
@@ -45,7 +45,7 @@ pub(crate) struct Gathered<A: Allocator> {
     places: usize,
     /// How many places have gone into the diagrams.
     gone: usize,
-    /// How many places may wait before the oldest go into the diagrams.
+    /// How many places may wait before the oldest batch goes into the diagrams.
     most: usize,
     ghost home: { AreHome homes.items batches.items },
 }
@@ -63,7 +63,7 @@ fn fill<A: Allocator + Copy>(homes: &mut Vec<usize, A>, row: usize) -> Result<()
 }
 
 impl<A: Allocator + Copy> Gathered<A> {
-    /// No places, which take no memory yet.
+    /// No places; this takes no memory yet.
     pub(crate) fn new(alloc: A) -> Self
         ensures { result.batches.items ≡ [] }
     {
@@ -78,7 +78,7 @@ impl<A: Allocator + Copy> Gathered<A> {
         }
     }
 
-    /// The number of a row's batch, where that has any places.
+    /// The number of a row's batch, if that has any places.
     fn kept(&self, row: usize) -> Option<usize>
         ensures some { IfSome result (λ k. (slice_get self.now.homes.items row ≡ Some k)
             × (k < length self.now.batches.items)) }
@@ -98,7 +98,7 @@ impl<A: Allocator + Copy> Gathered<A> {
         Some(at)
     }
 
-    /// Gives a row whose batch has no places the one that new rows go to, and answers its number.
+    /// Gives a row whose batch has no places the batch that new rows go to, and returns its number.
     fn settle(&mut self, row: usize) -> Result<usize, AllocError>
         requires { (k : ℕ) → slice_get self.old.homes.items row ≡ Some k
             → spots_at self.old.batches.items k ≡ [] }
@@ -128,7 +128,7 @@ impl<A: Allocator + Copy> Gathered<A> {
         }
     }
 
-    /// Puts a point into the mask of its place. Answers whether it is new.
+    /// Puts a point into the mask of its place. Returns whether the point is new.
     pub(crate) fn gather(
         &mut self,
         merged: &Merged<A>,
@@ -155,7 +155,7 @@ impl<A: Allocator + Copy> Gathered<A> {
         self.batches[at].gather(&mut self.last, &mut self.places, merged, spot, bit)
     }
 
-    /// The mask of a place, where it is gathered.
+    /// The mask of a place, if it is gathered.
     pub(crate) fn mask(&self, spot: &Spot) -> Option<u64>
         ensures some { IfSome result (λ m. (k : ℕ)
             × Member (spot.now, m) (spots_at self.now.batches.items k)) }
@@ -168,7 +168,7 @@ impl<A: Allocator + Copy> Gathered<A> {
         }
     }
 
-    /// The number of the oldest batch, where much is gathered.
+    /// The number of the oldest batch, if as many places wait as may.
     pub(crate) fn full(&self) -> Option<usize>
         ensures { IfSome result (λ k. k < length self.now.batches.items) }
     {
@@ -178,7 +178,7 @@ impl<A: Allocator + Copy> Gathered<A> {
         None
     }
 
-    /// Lets the places of a batch go.
+    /// Empties a batch, whose places have gone into the diagrams, and updates how many places may wait.
     pub(crate) fn clear(&mut self, at: usize)
         requires { at < length self.old.batches.items }
         ensures here { spots_at self.new.batches.items at ≡ [] }

@@ -38,7 +38,7 @@ module _ (g : given.Over) (c : After-put_all g)
       subst (λ es. TakesGiven (λ t. Member t (edges (places_of (keys s.merged.rows) es))) s.merged.nodes.kept.keys m.nodes.kept.keys
       s.merged.rows.entries m.rows.entries) (sym is) c.put_all.ensures.takes
 
-  -- the path edges stay, where all that are gathered still are
+  -- the path edges stay, if all that are gathered still are
   still :
       let s = c.args.self.now in
       let m = c.put_all.new.merged in
@@ -61,7 +61,7 @@ module _ (g : given.Over) (c : After-put_all g)
       covers_merged s.gathered.homes.items s.gathered.batches.items s.merged.nodes.kept.keys m.nodes.kept.keys
       s.merged.rows.entries m.rows.entries c.args.at s.gathered.home s.within s.merged.unique c.put_all.ensures.keys s.covers takes
 
--- and where those of the batch are not any more
+-- and if those of the batch no longer are
 cleared : (g : given.Over) (c : After-clear g) →
     let s = c.args.self.now in
     let m = c.put_all.new.merged in

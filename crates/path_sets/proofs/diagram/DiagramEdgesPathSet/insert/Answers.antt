@@ -47,7 +47,7 @@ module _ (g : given.Over) (c : In_ok-added g) where
       (places_in (keys c.args.self.now.merged.rows) c.args.self.now.gathered.batches.items)
   here = c.in_ok-row.ensures.members ∙ c.in_ok-make_room.ensures
 
-  -- what is put in, or is there, as the answer says
+  -- what is put in, or is there, as the result says
   puts : (b : Bool) → c.in_ok-added.added ≡ b
       → PutsEdge c.settle.new.self.merged.nodes.kept.keys c.settle.new.self.merged.rows.entries
       (edge_at (place_at (keys c.settle.new.self.merged.rows) spot) c.place_of-place.result.1) old new b

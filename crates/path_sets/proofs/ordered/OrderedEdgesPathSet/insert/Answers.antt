@@ -65,7 +65,7 @@ module _ (g : given.Over) (c : In_ok-added g) where
   at = slice_get_read old _ c.in_ok-at.at c.index_mut.result.now refl
       (c.shard_of.new.self.there c.args.entry c.in_ok-at.at c.in_ok-at.ensures.shard) c.index_mut.ensures.value
 
-  -- what is put in, or is there, as the answer says
+  -- what is put in, or is there, as the result says
   settles : (b : Bool) → c.in_ok-added.added ≡ b → PutsIn x (all_in old) (all_in new) b
   settles b is =
       settles_all c.shard_of.new.self.homes.entries old c.shard_of.new.self.home c.in_ok-at.at c.index_mut.result.now x own at
