@@ -1,6 +1,8 @@
 -- Bits of a valuation that are read together.
-use Rattle.std.proofs.Common.{◌≡◌, ◌<◌, ◌≤◌, ℕ, zero, suc, ◌+◌, ◌-◌, ◌*◌, ◌/◌, ◌%◌, ◌^◌, max, bit_and, bit_or}
-use Rattle.std.proofs.Common.{Bool, true, false, nat_lt, List, [], ◌∷◌, ◌++◌, length, map, take, get_or, append-nil, append_assoc, pow_pos}
+use Rattle.std.proofs.Common.{◌≡◌, ◌<◌, ◌≤◌, ℕ, zero, suc, ◌+◌, ◌-◌, ◌*◌, ◌/◌, ◌%◌, ◌^◌}
+use Rattle.std.proofs.Common.{max, bit_and, bit_or}
+use Rattle.std.proofs.Common.{Bool, true, false, nat_lt, List, [], ◌∷◌, ◌++◌, length, map, take, get_or}
+use Rattle.std.proofs.Common.{append-nil, append_assoc, pow_pos}
 use Rattle.std.proofs.Common.{pow-suc, refl, sym, ◌∙◌, ap, subst, arith, shr-shr}
 use Rattle.std.specs.Int.{bit_at, rotate_right, w64}
 use Rattle.std.proofs.Math.Pow.{split}
@@ -62,7 +64,8 @@ rotated n (suc q) j fits small below =
     ∙ ap (max (bit_at n (r + j))) (low_bit (n * 2 ^ k) j below)
     ∙ at_last (nat_lt j k) refl
   where
-    at_last : (b : Bool) → nat_lt j (64 - suc q) ≡ b → max (bit_at n (suc q + j)) (bit_at (n * 2 ^ (64 - suc q)) j) ≡ bit_at n ((j + suc q) % 64)
+    at_last : (b : Bool) → nat_lt j (64 - suc q) ≡ b
+        → max (bit_at n (suc q + j)) (bit_at (n * 2 ^ (64 - suc q)) j) ≡ bit_at n ((j + suc q) % 64)
     at_last true is =
         let low : j < 64 - suc q = ltb-true _ _ is in
         ap (max (bit_at n (suc q + j))) (raised_low n (64 - suc q) j low) ∙ max_zero _
@@ -87,7 +90,8 @@ read_together x p s v (suc n) same =
     let later = read_together x (p + 1) (suc s) v n (λ i less. ap (bit_at x) (let z : p + 1 + i ≡ p + suc i = omega arith in z)
     ∙ same (suc i) (omega (arith, less)) ∙ ap (bit_at v) (let z : s + suc i ≡ suc s + i = omega arith in z)) in
     let first : y % 2 ≡ worth_of (bit_of v s) =
-    ap (bit_at x) (let z : p ≡ p + 0 = omega arith in z) ∙ same 0 (omega arith) ∙ ap (bit_at v) (let z : s + 0 ≡ s = omega arith in z) ∙ bit_worth v s in
+    ap (bit_at x) (let z : p ≡ p + 0 = omega arith in z) ∙ same 0 (omega arith)
+    ∙ ap (bit_at v) (let z : s + 0 ≡ s = omega arith in z) ∙ bit_worth v s in
     ap (λ k. y % 2 ^ k) (let z : suc n ≡ n + 1 = omega arith in z) ∙ parts ∙ ap (λ k. k % 2 ^ n * 2 ^ 1 + y % 2 ^ 1) next
     ∙ omega (arith, later, first)
 
@@ -120,7 +124,9 @@ span_next first (suc count) =
 
 pub seen_last : (ws : List Window) (w : Window) → seen (ws ++ w ∷ []) ≡ seen ws ++ span w.first w.count
 seen_last [] w = append-nil _
-seen_last (x ∷ ws) w = ap (◌++◌ (span x.first x.count)) (seen_last ws w) ∙ sym (append_assoc (span x.first x.count) (seen ws) (span w.first w.count))
+seen_last (x ∷ ws) w =
+    ap (◌++◌ (span x.first x.count)) (seen_last ws w)
+    ∙ sym (append_assoc (span x.first x.count) (seen ws) (span w.first w.count))
 
 -- none are in front of the first
 none : (front : ℕ) → front ≡ 0 + front
@@ -145,7 +151,8 @@ window_at front i [] d laid less = absurd (omega (arith, less))
 window_at front zero (w ∷ ws) d laid less = subst (λ n. IsWindow n w) (none front) laid.0
 window_at front (suc i) (w ∷ ws) d laid less =
     subst (λ n. IsWindow n (get_or ws i d)) (let both = length-append (span w.first w.count) (seen (take i ws)) in
-    let z : length (seen (take i ws)) + (w.count + front) ≡ length (seen (take (suc i) (w ∷ ws))) + front = omega (arith, both, length_span w.first w.count) in z)
+    let z : length (seen (take i ws)) + (w.count + front) ≡ length (seen (take (suc i) (w ∷ ws))) + front =
+    omega (arith, both, length_span w.first w.count) in z)
     (window_at (w.count + front) i ws d laid.1 (omega (arith, less)))
 
 pub laid_last : (front : ℕ) (ws : List Window) (w : Window) → AreWindows front ws → IsWindow (length (seen ws) + front) w
@@ -153,15 +160,20 @@ pub laid_last : (front : ℕ) (ws : List Window) (w : Window) → AreWindows fro
 laid_last front [] w laid is few = (subst (λ n. IsWindow n w) (sym (none front)) is, omega (arith, few))
 laid_last front (x ∷ ws) w laid is few =
     let both = length-append (span x.first x.count) (seen ws) in
-    let same : length (span x.first x.count ++ seen ws) + front ≡ length (seen ws) + (x.count + front) = omega (arith, both, length_span x.first x.count) in
-    (laid.0, laid_last (x.count + front) ws w laid.1 (subst (λ n. IsWindow n w) same is) (subst (λ n. w.count + n ≤ most_inputs) same few))
+    let same : length (span x.first x.count ++ seen ws) + front ≡ length (seen ws) + (x.count + front) =
+    omega (arith, both, length_span x.first x.count) in (
+      laid.0,
+      laid_last (x.count + front) ws w laid.1 (subst (λ n. IsWindow n w) same is)
+          (subst (λ n. w.count + n ≤ most_inputs) same few),
+    )
 
 pub laid_split : (front : ℕ) (ws : List Window) (w : Window) → AreWindows front (ws ++ w ∷ [])
     → AreWindows front ws × (IsWindow (length (seen ws) + front) w × (w.count + (length (seen ws) + front) ≤ most_inputs))
 laid_split front [] w laid = (omega (arith, laid.1), (subst (λ n. IsWindow n w) (none front) laid.0, omega (arith, laid.1)))
 laid_split front (x ∷ ws) w laid =
     let both = length-append (span x.first x.count) (seen ws) in
-    let same : length (seen ws) + (x.count + front) ≡ length (span x.first x.count ++ seen ws) + front = omega (arith, both, length_span x.first x.count) in
+    let same : length (seen ws) + (x.count + front) ≡ length (span x.first x.count ++ seen ws) + front =
+    omega (arith, both, length_span x.first x.count) in
     let rest = laid_split (x.count + front) ws w laid.1 in
     ((laid.0, rest.0), (subst (λ n. IsWindow n w) same rest.1.0, subst (λ n. w.count + n ≤ most_inputs) same rest.1.1))
 
@@ -197,7 +209,8 @@ widened ws last w bit front laid at few within next inner first count turn mask 
 
 -- or a new window does
 pub opened : (ws : List Window) (w : Window) (bit front : ℕ) → AreWindows 0 ws → front ≡ length (seen ws) → front < most_inputs
-    → IsWindow front w → w.first ≡ bit → w.count ≡ 1 → AreWindows 0 (ws ++ w ∷ []) × (seen (ws ++ w ∷ []) ≡ seen ws ++ bit ∷ [])
+    → IsWindow front w → w.first ≡ bit → w.count ≡ 1
+    → AreWindows 0 (ws ++ w ∷ []) × (seen (ws ++ w ∷ []) ≡ seen ws ++ bit ∷ [])
 opened ws w bit front laid at few is first count = (
   laid_last 0 ws w laid (subst (λ n. IsWindow n w) (let z : front ≡ length (seen ws) + 0 = omega (arith, at) in z) is)
       (omega (arith, at, few, count)),

@@ -2,12 +2,12 @@
 //!
 //! | Line | What is printed under it |
 //! |---|---|
-//! | `report K N \| TEXT` | the answer for K rounds and at most N path edges, and for each procedure how many entries, pairs and takes it has; or why there is no report; once, if both boards with both sets of path edges come to the same |
+//! | `report K N \| TEXT` | the answer for K rounds and at most N path edges, once, if all pairs of board and set agree |
 //! | `times T: report K N \| TEXT` | the same, if T runs of each come to the same |
 //! | `late: report K N \| TEXT` | the same, if it is the same with each lane held back in turn at each of its takes and posts |
 //! | `meeting: report K N \| TEXT` | the same, if the first post of lane 1 and the first take of lane 2 wait for each other |
 //! | `begun: report K N \| TEXT` | the same, and whether lane 0 has taken and posted and lane 1 has taken |
-//! | `but lane L: answer K N \| TEXT` | the answer with the thread of lane L refused, and how many lanes were asked for, over all four pairs |
+//! | `but lane L: answer K N \| TEXT` | the answer with the thread of lane L refused, and how many lanes were asked for, over all pairs |
 //! | `but lane L after take C of lane P: answer K N \| TEXT` | the same, if the refusal comes after that call (or `post C`) |
 //! | `budget B: answer K N \| TEXT` | the answer if each worker has B - 1 calls of the board, over all four pairs |
 //! | `budgets B: answer K N \| TEXT` | the same for 2, and whether for 3 to B it is `Spent` or the answer that comes without a limit |
@@ -16,8 +16,9 @@
 //! | `answer K N \| TEXT` | the answer alone |
 //!
 //! Otherwise the board has a lock for each mailbox, or, if a case begins with `one lock, `, one for all; and the sets
-//! are ordered, or, if `diagrams, ` comes then, diagrams. Entries and pairs are also compared with those of one
-//! thread. A line that begins with `#` is a heading.
+//! are ordered, or, if `diagrams, ` comes then, diagrams. A report has how many entries, pairs and takes each
+//! procedure has, or why there is none. Entries and pairs are also compared with those of one thread. A line that
+//! begins with `#` is a heading.
 #![tactic(auto)]
 
 mod case;

@@ -8,7 +8,7 @@
 //! | `nodes STEPS` | what each step on an empty set of diagrams returns |
 //! | `each allocation: many N` | whether a set of diagrams takes N triples all the same if each allocation is refused in turn |
 //! | `each allocation: ordered N` | the same for an ordered set |
-//! | `each allocation: set N` | whether an ordered set keeps N triples, and takes none of 20 again, if each allocation is refused in turn: at each refusal it is as it was |
+//! | `each allocation: set N` | whether an ordered set of N triples is as it was at each refused allocation, and takes none twice |
 //! | `each allocation: diagrams N` | the same for a set of diagrams |
 //! | `each allocation: nodes 5.2 STEPS` | the result of `@5.2` after the other steps if each of its allocations is refused in turn |
 //!

@@ -1,5 +1,6 @@
 -- The last window takes the bit in, or a new one does.
-use Rattle.std.proofs.Common.{◌≡◌, ◌≤◌, ◌+◌, ◌*◌, ◌%◌, ◌^◌, ◌∙◌, ◌++◌, ◌∷◌, [], ℕ, List, length, refl, ap, sym, subst, arith}
+use Rattle.std.proofs.Common.{◌≡◌, ◌≤◌, ◌+◌, ◌*◌, ◌%◌, ◌^◌, ◌∙◌, ◌++◌, ◌∷◌, [], ℕ, List}
+use Rattle.std.proofs.Common.{length, refl, ap, sym, subst, arith}
 use Rattle.std.proofs.Math.Pow.{pow_mono}
 use Rattle.flow_graph.specs.Tables.{most_inputs}
 use Rattle.flow_graph.specs.Windows.{seen, IsWindow, AreWindows}
@@ -21,12 +22,14 @@ pub overflow_add-last-in-Some-2 : goal.overflow_add-last-in-Some-2
 overflow_add-last-in-Some-2 c =
     let is = last_is c.args.items.now.items c.pop.new.self.items c.in-Some.last c.requires.laid c.in-Some.ensures.items in
     let n : ℕ = length (seen c.pop.new.self.items) + 0 in
-    let whole : 2 ^ (c.in-Some.last.count + n) ≤ 2 ^ 10 = pow_mono (let z : c.in-Some.last.count + n ≤ 10 = omega (arith, is.1.1) in z) in
+    let whole : 2 ^ (c.in-Some.last.count + n) ≤ 2 ^ 10 =
+    pow_mono (let z : c.in-Some.last.count + n ≤ 10 = omega (arith, is.1.1) in z) in
     let place : 2 ^ c.args.front ≤ 2 ^ 10 = pow_mono (let z : c.args.front ≤ 10 = omega (arith, c.requires.room) in z) in
     omega (arith, is.1.0.1.1.1, whole, place)
 
 -- the last window with the bit
-wider : (c : goal.After-push) → AreWindows 0 c.push.new.self.items × (seen c.push.new.self.items ≡ seen c.args.items.now.items ++ c.args.bit ∷ [])
+wider : (c : goal.After-push)
+    → AreWindows 0 c.push.new.self.items × (seen c.push.new.self.items ≡ seen c.args.items.now.items ++ c.args.bit ∷ [])
 wider c =
     let ws = c.pop.new.self.items in
     let last = c.in-Some.last in
@@ -49,7 +52,8 @@ returns-in-Some-clause-seen c = (wider c).1
 
 -- a window after the others
 another : (c : goal.After-push-in-Some-2-2)
-    → AreWindows 0 c.push-in-Some-2-2.new.self.items × (seen c.push-in-Some-2-2.new.self.items ≡ seen c.args.items.now.items ++ c.args.bit ∷ [])
+    → AreWindows 0 c.push-in-Some-2-2.new.self.items
+    × (seen c.push-in-Some-2-2.new.self.items ≡ seen c.args.items.now.items ++ c.args.bit ∷ [])
 another c =
     let back : c.push-in-Some-2.new.self.items ≡ c.args.items.now.items = c.push-in-Some-2.ensures.items
     ∙ ap (λ w. c.pop.new.self.items ++ w ∷ []) c.in-Some-2.last-is ∙ sym c.in-Some-2.ensures.items in

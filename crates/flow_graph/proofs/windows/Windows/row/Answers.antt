@@ -26,7 +26,12 @@ next c =
 
 pub overflow_add-row : goal.overflow_add-row
 overflow_add-row c =
-    omega (arith, next c, row_small (bit_of c.args.values) (c.loop-window.window-index + 1) c.args.self.now.items.items c.args.self.now.laid)
+    omega (
+      arith,
+      next c,
+      row_small (bit_of c.args.values) (c.loop-window.window-index + 1) c.args.self.now.items.items
+          c.args.self.now.laid,
+    )
 
 pub loop-window-preserved : goal.loop-window-preserved
 loop-window-preserved c = next c
