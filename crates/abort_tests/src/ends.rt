@@ -46,11 +46,12 @@ fn counts<A: Allocator>(histories: &[Mailbox<Letter, A>]) -> (u64, u64, u64) {
     let mut takes = 0u64;
     let mut dones = 0u64;
     for mailbox in histories {
-        for event in mailbox.history() {
-            match *event {
-                Event::Post { .. } => posts = posts.wrapping_add(1),
-                Event::Take { .. } => takes = takes.wrapping_add(1),
-                Event::Done { .. } => dones = dones.wrapping_add(1),
+        for number in 0..mailbox.len() {
+            match mailbox.event(number) {
+                Some(Event::Post { .. }) => posts = posts.wrapping_add(1),
+                Some(Event::Take { .. }) => takes = takes.wrapping_add(1),
+                Some(Event::Done { .. }) => dones = dones.wrapping_add(1),
+                None => {}
             }
         }
     }

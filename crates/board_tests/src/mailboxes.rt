@@ -36,14 +36,26 @@ fn takes<R: Abort, A: Allocator>(rt: &R, mailbox: &mut Mailbox<u8, A>, number: u
     assert!(rt; answer == Some((number, message)));
 }
 
-// The whole history must be this, and legal.
-fn has<R: Abort, A: Allocator>(rt: &R, mailbox: &Mailbox<u8, A>, wanted: &[Event<u8>]) {
-    let history = mailbox.history();
-    assert!(rt; history == wanted && legal(history));
+// Whether these are the events of a mailbox, one by one.
+pub(crate) fn is_history<M: Copy + Eq, A: Allocator>(
+    mailbox: &Mailbox<M, A>,
+    wanted: &[Event<M>],
+) -> bool {
+    for number in 0..=wanted.len() {
+        if mailbox.event(number) != wanted.get(number).copied() {
+            return false;
+        }
+    }
+    mailbox.len() == wanted.len()
 }
 
-fn one_message<R: Abort, A: Allocator>(rt: &R, alloc: A) {
-    let mut mailbox = Mailbox::new(alloc);
+// The whole history must be this, and legal.
+fn has<R: Abort, A: Allocator>(rt: &R, mailbox: &Mailbox<u8, A>, wanted: &[Event<u8>]) {
+    assert!(rt; is_history(mailbox, wanted) && legal(wanted));
+}
+
+fn one_message<R: Abort, A: Allocator + Copy>(rt: &R, alloc: A) {
+    let mut mailbox = Mailbox::new(alloc, alloc);
     posts(rt, &mut mailbox, 0, 5);
     takes(rt, &mut mailbox, 0, 5);
     assert_eq!(rt; mailbox.take(), None);
@@ -64,8 +76,8 @@ fn has_at_side<A: Allocator>(alloc: A, history: &[Event<u8>], side: Side, wanted
     }
 }
 
-fn two_senders<R: Abort, A: Allocator>(rt: &R, alloc: A) -> Mailbox<u8, A> {
-    let mut mailbox = Mailbox::new(alloc);
+fn two_senders<R: Abort, A: Allocator + Copy>(rt: &R, alloc: A) -> Mailbox<u8, A> {
+    let mut mailbox = Mailbox::new(alloc, alloc);
     posts(rt, &mut mailbox, 0, 5);
     posts(rt, &mut mailbox, 1, 7);
     posts(rt, &mut mailbox, 0, 6);
@@ -96,15 +108,18 @@ fn each_sender_has_its_messages_in_order(rt: HostRuntime) {
         done(2),
     ];
     assert!(rt; !legal(done_of_none.as_slice()));
-    let history = mailbox.history();
-    assert!(rt; has_at_side(rt.alloc(), history, Side::Posts, &[5, 6]));
-    assert!(rt; has_at_side(rt.alloc(), history, Side::Takes, &[5]));
+    let Ok(history) = mailbox.history(rt.alloc()) else {
+        panic!(rt; "no memory")
+    };
+    assert!(rt; history.as_slice() == first.as_slice());
+    assert!(rt; has_at_side(rt.alloc(), history.as_slice(), Side::Posts, &[5, 6]));
+    assert!(rt; has_at_side(rt.alloc(), history.as_slice(), Side::Takes, &[5]));
 }
 
 // Posts the message with this number, and again if it was refused: it then comes back, and nothing is recorded.
 fn posts_again<R: Abort, A: Allocator>(rt: &R, mailbox: &mut Mailbox<u8, A>, number: u8) {
     if let Err(back) = mailbox.post(0, number) {
-        assert!(rt; back == number && mailbox.history().len() == usize::from(number));
+        assert!(rt; back == number && mailbox.len() == usize::from(number));
         assert!(rt; mailbox.post(0, back).is_ok());
     }
 }
@@ -125,23 +140,27 @@ fn serves_ten<R: Abort, H: Allocator, A: Allocator>(
     assert!(rt; scarce.asked() == asked);
 }
 
-// How many messages of sender 0 were taken, if there is memory for their list.
-fn count_taken<A: Allocator>(alloc: A, history: &[Event<u8>]) -> Option<usize> {
-    match by_sender(alloc, history, 0, Side::Takes) {
+// How many messages of sender 0 were taken, if there is memory for the history and for their list.
+fn count_taken<A: Allocator + Copy, H: Allocator>(
+    alloc: A,
+    mailbox: &Mailbox<u8, H>,
+) -> Option<usize> {
+    let history = mailbox.history(alloc).ok()?;
+    match by_sender(alloc, history.as_slice(), 0, Side::Takes) {
         Ok(taken) => Some(taken.len()),
         Err(AllocError) => None,
     }
 }
 
-// Whether the allocation with this number was refused to the list of the messages taken.
-fn list_was_refused<R: Abort, A: Allocator>(
+// Whether the allocation with this number was refused to the history, or to the list of the messages taken.
+fn list_was_refused<R: Abort, A: Allocator, H: Allocator>(
     rt: &R,
     host: A,
-    history: &[Event<u8>],
+    mailbox: &Mailbox<u8, H>,
     nth: u64,
 ) -> bool {
     let few = Scarce::refusing(host, nth);
-    let count = count_taken(&few, history);
+    let count = count_taken(&few, mailbox);
     let wanted = if few.refused() { None } else { Some(10) };
     assert!(rt; count == wanted);
     few.refused()
@@ -150,9 +169,9 @@ fn list_was_refused<R: Abort, A: Allocator>(
 // Whether the allocation with this number was refused to a mailbox of ten messages, or to their list.
 fn was_refused<R: Abort, A: Allocator>(rt: &R, host: A, other: A, nth: u64) -> bool {
     let scarce = Scarce::refusing(host, nth);
-    let mut mailbox = Mailbox::new(&scarce);
+    let mut mailbox = Mailbox::new(&scarce, &scarce);
     serves_ten(rt, &scarce, &mut mailbox);
-    let list = list_was_refused(rt, other, mailbox.history(), nth);
+    let list = list_was_refused(rt, other, &mailbox, nth);
     scarce.refused() || list
 }
 

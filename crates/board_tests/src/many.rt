@@ -4,7 +4,7 @@ ghost use Rattle.post_ledger.specs.Orders.{HasJob};
 ghost use Rattle.board_tests.specs.Passes.{IsSame, IsPassNumbered, KeepsJobs};
 
 use crate::boards::{Letter, Letters, done, gather, message, post, settle};
-use post_ledger::{Event, Ledger, Mailbox, Side, by_sender};
+use post_ledger::{Ledger, Mailbox, Side, by_sender};
 use std::alloc::{Allocator, Global};
 use std::process::Abort;
 use std::sync::Wait;
@@ -175,19 +175,16 @@ fn rising(messages: &[Letter]) -> Option<usize> {
     Some(messages.len())
 }
 
-// How many messages of a sender a mailbox got, if there is memory for two lists, they were taken as they were posted,
+// How many messages of a sender a mailbox got, if there is memory for three lists, they were taken as they were posted,
 // and rise.
-fn taken_in_order<A: Allocator + Copy>(
+fn taken_in_order<A: Allocator + Copy, H: Allocator>(
     alloc: A,
-    history: &[Event<Letter>],
+    mailbox: &Mailbox<Letter, H>,
     sender: u8,
 ) -> Option<usize> {
-    let Ok(posted) = by_sender(alloc, history, sender, Side::Posts) else {
-        return None;
-    };
-    let Ok(taken) = by_sender(alloc, history, sender, Side::Takes) else {
-        return None;
-    };
+    let history = mailbox.history(alloc).ok()?;
+    let posted = by_sender(alloc, history.as_slice(), sender, Side::Posts).ok()?;
+    let taken = by_sender(alloc, history.as_slice(), sender, Side::Takes).ok()?;
     if posted.as_slice() == taken.as_slice() {
         rising(posted.as_slice())
     } else {
@@ -204,7 +201,7 @@ fn came_in_order<R: Abort, A: Allocator + Copy, H: Allocator>(
 ) {
     for mailbox in histories {
         for (sender, count) in wanted {
-            assert!(rt; taken_in_order(alloc, mailbox.history(), *sender) == Some(*count));
+            assert!(rt; taken_in_order(alloc, mailbox, *sender) == Some(*count));
         }
     }
 }

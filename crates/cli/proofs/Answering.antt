@@ -1,8 +1,7 @@
 -- What a report says about its program, and what a reply says about the report.
-use Rattle.std.proofs.Common.{◌≡◌, ◌∙◌, ◌↔◌, ◌++◌, ℕ, Bool, true, false, List, ◌∷◌, ◌+◌}
-use Rattle.std.proofs.Common.{cond, count_by, inl, inr, refl, sym, ap, subst, arith, length}
+use Rattle.std.proofs.Common.{◌≡◌, ◌∙◌, ◌↔◌, ◌++◌, ℕ, Bool, true, false, List}
+use Rattle.std.proofs.Common.{inl, inr, refl, sym, ap, subst, arith, length}
 use Rattle.std.proofs.lemmas.List.{length-map}
-use Rattle.std.proofs.lemmas.List.Recursion.{is_count_by}
 use Rattle.language.specs.Tree.{Procedure, Tree}
 use Rattle.language.specs.Resolve.{meaning_of}
 use Rattle.language.specs.Rounds as runs
@@ -14,7 +13,6 @@ use Rattle.post_ledger.specs.History.{posts, takes}
 use Rattle.language.specs.Lists.{Member}
 use Rattle.language.specs.Sequential.{caller, starter}
 use Rattle.flow_graph.specs.Numbers.{NumberedMessage, numbered_entry, numbered_summary}
-use Rattle.post_ledger.specs.declared.event.Event.TheVariants.{Done, Post, Take}
 use Rattle.summaries.specs.declared.due.Caller.TheVariants.{Proc, Starter}
 use Rattle.summaries.specs.declared.due.Due.{Due}
 use Rattle.summaries.specs.declared.due.Due.TheVariants.{Entry, Summary}
@@ -22,7 +20,7 @@ use Rattle.summaries.specs.Found.{left}
 use Rattle.summaries.specs.Dues.{due_of}
 use Rattle.summaries.specs.Fitting.{IsDueFor}
 use Rattle.cli.specs.Counts.{AreSoMany, names_of}
-use Rattle.cli.specs.Counted.{HasEach, answer_line, answer_status, is_take, lines_behind}
+use Rattle.cli.specs.Counted.{HasEach, answer_line, answer_status, lines_behind}
 use Rattle.cli.specs.Refused.{HasRewriting}
 use Rattle.gather.specs.Reports.{AreDueOnce, IsReport, posted_to}
 use Rattle.cli.specs.Verdict.{Answers, AnswersOn, ComesBehind, IsProgramOf}
@@ -30,16 +28,6 @@ use Rattle.gather.specs.declared.report.Answer.{Answer}
 use Rattle.gather.specs.declared.report.Answer.TheVariants.{Safe, Unsafe}
 use Rattle.gather.specs.declared.report.Report.{Report}
 use Rattle.cli.proofs.Counting.{as_many_names, tell_counts}
-
--- as many takes as messages taken
-one_more : (e : Event Due) (es : List (Event Due))
-    → length (takes (e ∷ es)) ≡ cond (is_take e) (1 + length (takes es)) (length (takes es))
-one_more (Post s m) es = refl
-one_more (Take s m) es = omega arith
-one_more (Done t) es = refl
-
-takes_counted : (h : List (Event Due)) → length (takes h) ≡ count_by is_take h
-takes_counted = is_count_by (λ h. length (takes h)) is_take refl one_more
 
 -- the message by numbers
 abbrev by_number : Due → NumberedMessage
@@ -62,12 +50,12 @@ due_members p q h due d = (
 
 -- as many messages were taken as are due
 due_many : (p : Program) (q : ℕ) (h : List (Event Due)) → AreDueOnce p q h → takes h ≡ posts h
-    → AreSoMany (IsDueFor p q) (count_by is_take h)
+    → AreSoMany (IsDueFor p q) (length (takes h))
 due_many p q h due taken = record {
   all = posted_to h;
   once = due.once;
   members = due_members p q h due;
-  many = length-map (posts h) (λ (x : ℕ × Due). x.1) ∙ ap length (sym taken) ∙ takes_counted h;
+  many = length-map (posts h) (λ (x : ℕ × Due). x.1) ∙ ap length (sym taken);
 }
 
 -- a report on a checked program covers each of its procedures

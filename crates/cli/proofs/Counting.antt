@@ -1,7 +1,7 @@
 -- What is counted of procedures is how many entries, pairs and messages they have.
 use Rattle.std.proofs.Common.{◌≡◌, ◌∙◌, ◌⊎◌, ◌<◌, ◌++◌, ℕ, zero, suc, List, [], ◌∷◌, Some, inl, inr, refl}
 use Rattle.std.proofs.Common.{sym, ap, ap₂, subst, true, false, true≢false, ◌+◌, ◌≤◌, add-one, append_assoc, append-nil}
-use Rattle.std.proofs.Common.{arith, count_by, get_or, length, map, option_map, slice_get, take}
+use Rattle.std.proofs.Common.{arith, get_or, length, map, option_map, slice_get, take}
 use Rattle.std.specs.String.{string_bytes}
 use Rattle.trees.specs.Trees.{proc_of}
 use Rattle.trees.specs.declared.tree.Proc.{Proc}
@@ -15,6 +15,7 @@ use Rattle.round_rewrite.specs.Names.{rewritten_for, rewritten_procedure, sequen
 use Rattle.language.specs.Step.{Program}
 use Rattle.language.specs.Lists.{Member, NoneTwice}
 use Rattle.post_ledger.specs.declared.event.Event.{Event}
+use Rattle.post_ledger.specs.History.{takes}
 use Rattle.summaries.specs.declared.due.Due.{Due}
 use Rattle.summaries.specs.declared.pair.Pair.{Pair}
 use Rattle.summaries.specs.Found.{left}
@@ -22,7 +23,7 @@ use Rattle.summaries.specs.Effects.{Effect, Effects}
 use Rattle.summaries.specs.Fitting.{IsDueFor}
 use Rattle.summaries.specs.Tabulated.{ArePairsAscending, AreSummaries, IsAscending, IsPairBefore, IsSummary}
 use Rattle.cli.specs.Counts.{AreCountsOf, AreSoMany, Counts, TellCounts, counts_line, counts_lines, names_of}
-use Rattle.cli.specs.Counted.{counted, counted_each, is_take}
+use Rattle.cli.specs.Counted.{counted, counted_each}
 
 -- of ascending numbers, the first is less than each of the others
 above : (x : ℕ) (xs : List ℕ) (y : ℕ) → IsAscending (x ∷ xs) → Member y xs → x < y
@@ -77,7 +78,7 @@ pairs_once (x ∷ xs) up = (λ m. before_itself x (before x xs x up m), pairs_on
 
 -- by its summary and the history of its mailbox, what is counted of a procedure
 counts_of : (p : Program) (q : ℕ) (s : Effect) (history : List (Event Due)) → IsSummary p q s
-    → AreSoMany (IsDueFor p q) (count_by is_take history)
+    → AreSoMany (IsDueFor p q) (length (takes history))
     → AreCountsOf p q (counted s history)
 counts_of p q s history is due = record {
   entries = record { all = s.entries; once = numbers_once s.entries is.ascend; members = is.entries; many = refl };
@@ -102,7 +103,7 @@ at_number (s ∷ ss) (h ∷ hs) (suc q) c e = at_number ss hs q c e
 -- the same for each procedure
 pub counts_of_each : (p : Program) (ss : List Effect) (hs : List (List (Event Due)))
     → ((q : ℕ) (s : Effect) → slice_get ss q ≡ Some s → IsSummary p q s)
-    → ((q : ℕ) (h : List (Event Due)) → slice_get hs q ≡ Some h → AreSoMany (IsDueFor p q) (count_by is_take h))
+    → ((q : ℕ) (h : List (Event Due)) → slice_get hs q ≡ Some h → AreSoMany (IsDueFor p q) (length (takes h)))
     → (q : ℕ) (c : Counts) → slice_get (counted_each ss hs) q ≡ Some c → AreCountsOf p q c
 counts_of_each p ss hs summaries due q c e =
     let (s, h, at, there, is) = at_number ss hs q c e in
@@ -154,7 +155,7 @@ pub tell_counts : (t : Tree) (rounds : ℕ) (s : Effects) (hs : List (List (Even
     → AreSummaries (sequential_for rounds t) s
     → length hs ≡ length (sequential_for rounds t).routines
     → ((q : ℕ) (h : List (Event Due)) → slice_get hs q ≡ Some h
-    → AreSoMany (IsDueFor (sequential_for rounds t) q) (count_by is_take h))
+    → AreSoMany (IsDueFor (sequential_for rounds t) q) (length (takes h)))
     → TellCounts rounds t (counts_lines (names_of t) (counted_each s.procedures hs))
 tell_counts t rounds s hs summaries boxes due = record {
   counts = counted_each s.procedures hs;
@@ -168,7 +169,7 @@ pub line_pushed : (names : List (List ℕ)) (ss : List Effect) (hs : List (List 
     (first old new name : List ℕ) (s : Effect)
     (h : List (Event Due)) (entries : List ℕ) (pairs : List Pair) (taken : ℕ) → slice_get names k ≡ Some name
     → slice_get ss k ≡ Some s
-    → slice_get hs k ≡ Some h → entries ≡ s.entries → pairs ≡ s.pairs → taken ≡ count_by is_take h
+    → slice_get hs k ≡ Some h → entries ≡ s.entries → pairs ≡ s.pairs → taken ≡ length (takes h)
     → old ≡ first ++ counts_lines (take k names) (take k (counted_each ss hs))
     → new ≡ old ++ counts_line name (length entries) (length pairs) taken
     → new ≡ first ++ counts_lines (take (k + 1) names) (take (k + 1) (counted_each ss hs))
@@ -177,7 +178,7 @@ line_pushed names ss hs k first old new name s h entries pairs taken named at th
     let lines = counts_lines (take k names) (take k cs) in
     let more = one_line_more names cs k name (counted s h) named (at_each ss hs k s h at there) in
     let told = counts_line name (length entries) (length pairs) taken in
-    let due = counts_line name (length s.entries) (length s.pairs) (count_by is_take h) in
+    let due = counts_line name (length s.entries) (length s.pairs) (length (takes h)) in
     let line : told ≡ due =
     ap (λ x. counts_line name (length x) (length pairs) taken) e
     ∙ ap (λ x. counts_line name (length s.entries) (length x) taken) p

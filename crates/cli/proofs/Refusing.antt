@@ -1,5 +1,5 @@
 -- Which refusal a reply reports: one that stands.
-use Rattle.std.proofs.Common.{◌≡◌, ◌∙◌, ◌⊎◌, ◌≤◌, ℕ, Bool, List, Option, None, inl, inr}
+use Rattle.std.proofs.Common.{◌≡◌, ◌∙◌, ◌⊎◌, ◌≤◌, ℕ, Bool, List, Option, None, Some, inl, inr}
 use Rattle.std.proofs.Common.{ap, refl, sym, arith, codes, get_or}
 use Rattle.language.specs.Tree.{Tree}
 use Rattle.syntax.specs.Text.{Text}
@@ -8,7 +8,7 @@ use Rattle.scopes.specs.Checked.{IsFirstFault}
 use Rattle.scopes.specs.declared.fault.ScopeFault.{ScopeFault}
 use Rattle.scopes.specs.declared.fault.ScopeFault.TheVariants as scope
 use Rattle.refusals.specs.Lines.{NamesOffset, line_of, status_of}
-use Rattle.cli.specs.Refused.{HasPlace, HasRewriting, IsPast, RefusalStands}
+use Rattle.cli.specs.Refused.{HasPlace, HasRewriting, IsPast, IsPastAt, RefusalStands}
 use Rattle.cli.specs.Replies.{IsSequential, RefusesFor, TellsOrLacks}
 use Rattle.cli.specs.Rewritten.{IsRewriting}
 use Rattle.cli.specs.Verdict.{Answers}
@@ -42,7 +42,7 @@ has_place text rounds limit (Unread (read.Syntax at)) names stands = inl (at, st
 has_place text rounds limit (Unread fault) names stands = absurd names
 has_place text rounds limit (Unchecked fault) names stands = fault_place text fault names stands
 has_place text rounds limit (TooWide wide) names stands = absurd names
-has_place text rounds limit EdgeLimit names stands = absurd names
+has_place text rounds limit (EdgeLimit at) names stands = absurd names
 has_place text rounds limit Memory names stands = absurd names
 has_place text rounds limit NoWorker names stands = absurd names
 has_place text rounds limit Spent names stands = absurd names
@@ -81,7 +81,7 @@ status_many (Unread fault) = omega arith
 status_many (Unchecked scope.Memory) = omega arith
 status_many (Unchecked fault) = omega arith
 status_many (TooWide wide) = omega arith
-status_many EdgeLimit = omega arith
+status_many (EdgeLimit at) = omega arith
 status_many Memory = omega arith
 status_many NoWorker = omega arith
 status_many Spent = omega arith
@@ -106,6 +106,11 @@ refused xs is e = let same : 114 ≡ 110 = sym is ∙ ap (λ l. get_or l 0 0) e 
 other : (xs : List ℕ) (x : ℕ) → get_or xs 12 0 ≡ x → (x ≡ 101 → ⊥) → xs ≡ edge_line → ⊥
 other xs x is not_e e = not_e (sym is ∙ ap (λ l. get_or l 12 0) e)
 
+-- a limit that a procedure at a place has passed is passed
+past_there : (text : List ℕ) (rounds : ℕ) (limit at : Option ℕ) → IsPastAt text rounds limit at → IsPast text rounds limit
+past_there text rounds None at never = never
+past_there text rounds (Some edges) at (t, of, checked, (q, more, named)) = (t, of, checked, (q, more))
+
 -- if the line is that of the edge limit, it is passed
 past_by : (text : List ℕ) (rounds : ℕ) (limit : Option ℕ) (why : Refusal) → RefusalStands text rounds limit why
     → line_of why ≡ edge_line → IsPast text rounds limit
@@ -123,7 +128,7 @@ past_by text rounds limit (Unchecked (scope.Reserved at)) stands e = absurd (ref
 past_by text rounds limit (Unchecked (scope.TooMany at)) stands e = absurd (refused _ refl e)
 past_by text rounds limit (Unchecked scope.Memory) stands e = absurd (other _ 109 refl (λ same. omega (arith, same)) e)
 past_by text rounds limit (TooWide wide) stands e = absurd (refused _ refl e)
-past_by text rounds limit EdgeLimit stands e = stands
+past_by text rounds limit (EdgeLimit at) stands e = past_there text rounds limit at stands
 past_by text rounds limit Memory stands e = absurd (other _ 109 refl (λ same. omega (arith, same)) e)
 past_by text rounds limit NoWorker stands e = absurd (other _ 110 refl (λ same. omega (arith, same)) e)
 past_by text rounds limit Spent stands e = absurd (other _ 115 refl (λ same. omega (arith, same)) e)

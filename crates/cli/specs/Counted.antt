@@ -1,7 +1,7 @@
 -- What a reply says about a report: its answer, and the lengths of its lists.
-use Rattle.std.specs.Prelude.{◌≡◌, ◌≤◌, ℕ, Bool, true, false, List, [], ◌∷◌, codes, count_by, length}
+use Rattle.std.specs.Prelude.{◌≡◌, ◌≤◌, ℕ, Bool, true, false, List, [], ◌∷◌, codes, length}
 use Rattle.post_ledger.specs.declared.event.Event.{Event}
-use Rattle.post_ledger.specs.declared.event.Event.TheVariants.{Post, Take, Done}
+use Rattle.post_ledger.specs.History.{takes}
 use Rattle.summaries.specs.declared.due.Due.{Due}
 use Rattle.summaries.specs.Effects.{Effect}
 use Rattle.cli.specs.Counts.{Counts, counts_lines}
@@ -9,15 +9,9 @@ use Rattle.gather.specs.declared.report.Answer.{Answer}
 use Rattle.gather.specs.declared.report.Answer.TheVariants.{Safe, Unsafe}
 use Rattle.gather.specs.declared.report.Report.{Report}
 
--- whether the event is that a message was taken
-abbrev pub is_take : Event Due → Bool
-is_take (Post sender message) = false
-is_take (Take sender message) = true
-is_take (Done job) = false
-
 -- what is counted of a procedure by what it does as a whole and the history of its mailbox
 abbrev pub counted : Effect → List (Event Due) → Counts
-counted summary history = record { entries = length summary.entries; pairs = length summary.pairs; taken = count_by is_take history }
+counted summary history = record { entries = length summary.entries; pairs = length summary.pairs; taken = length (takes history) }
 
 -- what is counted of each procedure, by number
 abbrev pub counted_each : List Effect → List (List (Event Due)) → List Counts

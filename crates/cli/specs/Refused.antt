@@ -1,14 +1,16 @@
 -- Why texts are refused.
-use Rattle.std.specs.Prelude.{◌≡◌, ℕ, List, Option, Some, None, ◌⊎◌}
-use Rattle.language.specs.Tree.{Tree}
+use Rattle.std.specs.Prelude.{◌≡◌, ℕ, zero, suc, List, Option, Some, None, ◌⊎◌, option_map, slice_get}
+use Rattle.language.specs.Tree.{Procedure, Tree}
 use Rattle.syntax.specs.Text as text
 use Rattle.syntax.specs.Text.{Text}
 use Rattle.syntax.specs.declared.fault.ReadFault.TheVariants as read
 use Rattle.scopes.specs.Checked.{IsChecked, IsFirstFault}
 use Rattle.scopes.specs.declared.fault.ScopeFault.{ScopeFault}
 use Rattle.scopes.specs.declared.fault.ScopeFault.TheVariants as scope
+use Rattle.round_rewrite.specs.Names.{sequential_for}
 use Rattle.round_rewrite.specs.Narrow.{IsFirstWideFor, IsNarrowFor}
 use Rattle.round_rewrite.specs.declared.width.Wide.{Wide}
+use Rattle.summaries.specs.Tabulated.{HasMoreEdges}
 use Rattle.summaries.specs.declared.no_verdict.NoVerdict.{NoVerdict}
 use Rattle.summaries.specs.declared.no_verdict.NoVerdict.TheVariants as cause
 use Rattle.refusals.specs.declared.refusal.Refusal.{Refusal}
@@ -39,6 +41,18 @@ abbrev pub IsPast : List ℕ → ℕ → Option ℕ → Type 0
 IsPast bytes rounds None = ⊥
 IsPast bytes rounds (Some edges) = IsOver bytes rounds edges
 
+-- where the name of a procedure of the rewriting is in the text; that of the first, `main__`, is not in it
+abbrev pub name_at : Tree → ℕ → Option ℕ
+name_at tree zero = None
+name_at tree (suc q) = option_map (λ (p : Procedure). p.name.at) (slice_get tree.procedures q)
+
+-- The procedure of the text's rewriting whose name is there has more path edges than the limit, if there is one.
+abbrev pub IsPastAt : List ℕ → ℕ → Option ℕ → Option ℕ → Type 0
+IsPastAt bytes rounds None at = ⊥
+IsPastAt bytes rounds (Some edges) at =
+    (t : Tree) × Text bytes t × IsChecked t
+    × ((q : ℕ) × HasMoreEdges (sequential_for rounds t) q edges × (at ≡ name_at t q))
+
 -- A check has workers: there is a limit, and the text has a rewriting that is not too wide.
 abbrev pub HasWorkers : List ℕ → ℕ → Option ℕ → Type 0
 HasWorkers bytes rounds None = ⊥
@@ -54,16 +68,17 @@ RefusalStands bytes rounds limit (Unread fault) = text.ReadFaultStands fault byt
 RefusalStands bytes rounds limit (Unchecked fault) =
     (t : Tree) × Text bytes t × ((fault ≡ scope.Memory) ⊎ IsFirstFault t fault)
 RefusalStands bytes rounds limit (TooWide wide) = (t : Tree) × IsWide bytes rounds t wide
-RefusalStands bytes rounds limit EdgeLimit = IsPast bytes rounds limit
+RefusalStands bytes rounds limit (EdgeLimit at) = IsPastAt bytes rounds limit at
 RefusalStands bytes rounds limit Memory = HasRewriting bytes rounds ⊎ HasPlace bytes
 RefusalStands bytes rounds limit NoWorker = HasWorkers bytes rounds limit
 RefusalStands bytes rounds limit Spent = HasWorkers bytes rounds limit
 
 -- A cause for which a program with this tree gets no verdict is reported as this refusal: as the one with its name
--- and, if the rewriting for K rounds is too wide, with the first procedure that is.
+-- and, if the rewriting for K rounds is too wide, with the first procedure that is, or, if the limit of path edges was
+-- passed, with the place of the procedure that passed it.
 abbrev pub IsToldAs : Tree → ℕ → NoVerdict → Refusal → Type 0
 IsToldAs tree rounds cause.TooWide why = (wide : Option Wide) × IsFirstWideFor rounds tree wide × (why ≡ TooWide wide)
 IsToldAs tree rounds cause.Memory why = why ≡ Memory
-IsToldAs tree rounds cause.EdgeLimit why = why ≡ EdgeLimit
+IsToldAs tree rounds (cause.EdgeLimit q) why = why ≡ EdgeLimit (name_at tree q)
 IsToldAs tree rounds cause.NoWorker why = why ≡ NoWorker
 IsToldAs tree rounds cause.Spent why = why ≡ Spent

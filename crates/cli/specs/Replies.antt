@@ -1,5 +1,5 @@
 -- What a reply says about a text, by what was asked.
-use Rattle.std.specs.Prelude.{◌≡◌, ◌⊎◌, ℕ, List, Option, Some, None}
+use Rattle.std.specs.Prelude.{◌≡◌, ◌⊎◌, ℕ, List, Option, Some}
 use Rattle.language.specs.Tree.{Tree}
 use Rattle.syntax.specs.InGrammar.{WithinLimits, IsTextOf}
 use Rattle.syntax.specs.Text.{Text}

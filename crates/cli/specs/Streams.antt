@@ -1,6 +1,7 @@
 -- What a stream that is written to holds, and what it takes.
-use Rattle.std.specs.Prelude.{◌≡◌, ◌⊎◌, ◌<◌, ℕ, Bool, true, false, IsTrue, List, [], Option, length, take}
+use Rattle.std.specs.Prelude.{◌≡◌, ◌⊎◌, ◌<◌, ℕ, Bool, true, false, IsTrue, List, [], Option, codes, length, take}
 use Rattle.std.specs.Io.KnownBytes.{Appends}
+use Rattle.cli.specs.Told.{IsReason}
 
 -- what is known of a stream: the bytes that it holds, if they are known, and whether a write to it may have failed
 pub record KnownStream : Type 0 where
@@ -22,12 +23,6 @@ Logs old new bytes = (all : Bool) × StreamTakes old new bytes all
 abbrev pub Stays : KnownStream → KnownStream → Type 0
 Stays old new = StreamTakes old new [] true
 
--- The stream took all of these bytes, and the result is their status; or, if a write to it failed, a part, and the
--- result is 3.
-abbrev pub Writes : KnownStream → KnownStream → List ℕ → ℕ → ℕ → Type 0
-Writes old new bytes status result =
-    (StreamTakes old new bytes true × (result ≡ status)) ⊎ (StreamTakes old new bytes false × (result ≡ 3))
-
 -- the standard output and the standard error
 pub record Streams : Type 0 where
   pub output : KnownStream
@@ -43,7 +38,21 @@ pub record Said : Type 0 where
   pub status : ℕ
   pub message : List ℕ
 
--- The standard output took the reply and the standard error the message, each once and as a whole, or a part if a
--- write failed; the result is the status, or 3 if a write of the reply failed.
+-- The stream took the reason why the standard output did not take all of a reply.
+abbrev pub LogsCut : KnownStream → KnownStream → Type 0
+LogsCut old new = (why : List ℕ) × IsReason (codes "standard output") why × Logs old new why
+
+-- The standard output took all of these bytes, the standard error nothing, and the result is their status; or a write
+-- failed: the standard output took a part, the standard error the reason, and the result is 3.
+abbrev pub Writes : Streams → Streams → List ℕ → ℕ → ℕ → Type 0
+Writes old new bytes status result =
+    (StreamTakes old.output new.output bytes true × (new.log ≡ old.log) × (result ≡ status))
+    ⊎ (StreamTakes old.output new.output bytes false × LogsCut old.log new.log × (result ≡ 3))
+
+-- The standard error took the message, and then the standard output the reply, each once and as a whole, or a part if a
+-- write failed; if the standard output took a part, the standard error then took the reason. The result is the status,
+-- or 3 if a write of the reply failed.
 abbrev pub Says : Streams → Streams → Said → ℕ → Type 0
-Says old new said result = Writes old.output new.output said.reply said.status result × Logs old.log new.log said.message
+Says old new said result =
+    (told : KnownStream) × Logs old.log told said.message
+    × Writes (streams old.output told) new said.reply said.status result

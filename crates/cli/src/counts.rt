@@ -1,25 +1,15 @@
 //! The counts of the procedures of a program's rewriting, a line for each.
 
-ghost use Rattle.std.specs.Prelude.{◌≡◌, ◌≤◌, ◌<◌, ◌++◌, OnOk, Some, count_by, length, slice_get};
+ghost use Rattle.std.specs.Prelude.{◌≡◌, ◌≤◌, ◌<◌, ◌++◌, OnOk, Some, length, slice_get};
 ghost use Rattle.std.specs.String.{string_bytes};
 ghost use Rattle.trees.specs.Trees.{tree_of};
 ghost use Rattle.cli.specs.Counts.{counts_line, counts_lines, names_of};
-ghost use Rattle.cli.specs.Counted.{counted_each, is_take};
+ghost use Rattle.cli.specs.Counted.{counted_each};
 
-use post_ledger::{Event, Mailbox};
+use post_ledger::Mailbox;
 use std::alloc::{AllocError, Allocator};
 use summaries::{Due, Summaries};
 use trees::Program;
-
-/// How many messages were taken from a mailbox, by its history.
-fn taken_in(history: &[Event<Due>]) -> usize
-    ensures { result ≡ count_by is_take history.now }
-{
-    history
-        .iter()
-        .filter(|event| matches!(event, Event::Take { .. }))
-        .count()
-}
 
 /// The name of a procedure of the rewriting.
 fn name_of<N: Allocator>(program: &Program<N>, number: u8) -> &str
@@ -70,7 +60,7 @@ pub(crate) fn push_counts<A: Allocator, N: Allocator, S: Allocator, H: Allocator
         let name = name_of(program, number);
         let entries = summaries.entries(number).len();
         let pairs = summaries.pairs(number).len();
-        let taken = taken_in(mailboxes[number as usize].history());
+        let taken = mailboxes[number as usize].taken();
         push_line(lines, name, entries, pairs, taken)?;
     }
     Ok(())

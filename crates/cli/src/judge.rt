@@ -1,11 +1,11 @@
 //! The result for a checked program: a report, or why there is none.
 
-ghost use Rattle.std.specs.Prelude.{ℕ, List, Some, IfErr, IfOk};
+ghost use Rattle.std.specs.Prelude.{◌≡◌, ℕ, List, Some, IfErr, IfOk};
 ghost use Rattle.syntax.specs.Text.{Text};
 ghost use Rattle.scopes.specs.Programs.{checked_tree};
 ghost use Rattle.round_rewrite.specs.Programs.{count_of};
 ghost use Rattle.path_sets.specs.EdgeLimits.{most_of};
-ghost use Rattle.cli.specs.Refused.{IsToldAs, RefusalStands};
+ghost use Rattle.cli.specs.Refused.{IsToldAs, RefusalStands, name_at};
 ghost use Rattle.gather.specs.Reports.{IsReport};
 
 use gather::{CrewBoard, CrewSet, Report, check_rounds_with};
@@ -18,7 +18,18 @@ use std::sync::Wait;
 use std::thread::Threads;
 use summaries::{EdgeLimit, NoVerdict};
 
-/// The refusal for a cause: if the rewriting is too wide, with the first procedure that is.
+/// Where the name of a procedure of the rewriting is in the text. That of the first, `main__`, is not in it.
+fn name_at<N: Allocator>(program: &Checked<N>, number: usize) -> Option<u32>
+    ensures { result ≡ name_at (checked_tree program.now) number }
+{
+    if number == 0 {
+        return None;
+    }
+    Some(program.program().procs.get(number - 1)?.name.at)
+}
+
+/// The refusal for a cause: if the rewriting is too wide, with the first procedure that is; if the limit of path edges
+/// was passed, with the procedure that passed it.
 fn refusal_of<N: Allocator, A: Allocator + Copy>(
     alloc: &A,
     program: &Checked<N>,
@@ -30,7 +41,7 @@ fn refusal_of<N: Allocator, A: Allocator + Copy>(
     match cause {
         NoVerdict::TooWide => Refusal::TooWide(too_wide(alloc, program, rounds)),
         NoVerdict::Memory => Refusal::Memory,
-        NoVerdict::EdgeLimit => Refusal::EdgeLimit,
+        NoVerdict::EdgeLimit(number) => Refusal::EdgeLimit(name_at(program, number)),
         NoVerdict::NoWorker => Refusal::NoWorker,
         NoVerdict::Spent => Refusal::Spent,
     }

@@ -10,6 +10,7 @@ mod program;
 mod reply;
 mod rewriting;
 mod running;
+mod saying;
 mod sequential;
 mod serving;
 mod sink;

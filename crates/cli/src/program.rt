@@ -57,7 +57,10 @@ where
 {
     match words() {
         Ok(words) => ExitCode::from(run(rt, words.as_slice(), opener, writer, log)),
-        Err(error) => ExitCode::from(decline(&fault_of(rt.alloc(), &error), writer, log)),
+        Err(error) => {
+            let fault = fault_of(rt.alloc(), &error);
+            ExitCode::from(decline(rt.alloc(), &fault, writer, log))
+        }
     }
 }
 

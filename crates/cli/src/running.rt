@@ -6,26 +6,34 @@ ghost use Rattle.std.specs.String.{string_bytes};
 ghost use Rattle.cli.specs.Ran.{AnswersWords, Declines, RunsWords};
 ghost use Rattle.cli.specs.Streams.{streams};
 
+use crate::saying::{say, tell};
 use crate::serving::{no_room, serve_telling, unread};
-use crate::sink::{Stream, say, tell};
+use crate::sink::Stream;
 use command_line::{LineFault, order};
+use std::alloc::Allocator;
 use std::io::{self, Read};
 use std::sync::Wait;
 use std::thread::Threads;
 
 /// Replies to words that give no order, and returns the status: help or the version on `writer` with 0; `refused: line`
-/// with 2, and the reason on `log`; the reply for lack of memory with 3. If a write to `writer` fails, the status is 3.
-pub fn decline<W: Stream, L: Stream>(fault: &LineFault, writer: &mut W, log: &mut L) -> u8
+/// with 2, and the reason on `log`; the reply for lack of memory with 3. If a write to `writer` fails, the status is 3,
+/// and the reason is written to `log`, with memory of `alloc`.
+pub fn decline<A: Allocator + Copy, W: Stream, L: Stream>(
+    alloc: A,
+    fault: &LineFault,
+    writer: &mut W,
+    log: &mut L,
+) -> u8
     ensures { Declines fault.now (streams (W.held writer.old) (L.held log.old))
         (streams (W.held writer.new) (L.held log.new)) result }
 {
     match fault {
-        LineFault::Help(text) => say(writer, text.as_bytes(), 0),
+        LineFault::Help(text) => say(alloc, writer, log, text.as_bytes(), 0),
         LineFault::Refused(why) => {
             tell(log, why.as_bytes());
-            say(writer, b"refused: line\n", 2)
+            say(alloc, writer, log, b"refused: line\n", 2)
         }
-        LineFault::Memory => no_room(writer, log),
+        LineFault::Memory => no_room(alloc, writer, log),
     }
 }
 
@@ -53,7 +61,7 @@ where
 {
     let (order, path) = match order(rt.alloc(), words) {
         Ok(found) => found,
-        Err(fault) => return decline(&fault, writer, log),
+        Err(fault) => return decline(rt.alloc(), &fault, writer, log),
     };
     let path = path.as_str();
     match opener(path) {

@@ -1,18 +1,18 @@
 //! From a reader and an order to the standard streams and a status.
 
-ghost use Rattle.std.specs.Prelude.{◌≤◌, ℕ, IfOk, List, []};
+ghost use Rattle.std.specs.Prelude.{◌≤◌, ℕ, List, []};
 ghost use Rattle.std.specs.IoError.{error_kind};
-ghost use Rattle.std.specs.String.{string_bytes};
 ghost use Rattle.cli.specs.Served.{Answered, Serves, TellsUnread, without_memory};
 ghost use Rattle.cli.specs.Streams.{KnownStream, Logs, Says, streams};
-ghost use Rattle.cli.specs.Told.{IsMessage, IsReason};
+ghost use Rattle.cli.specs.Told.{IsMessage};
 
 use crate::answers::answer;
-use crate::sink::{Stream, say, tell};
+use crate::saying::{say, tell, tell_reason};
+use crate::sink::Stream;
 use crate::source::text_of;
 use orders::Order;
 use refusals::{MEMORY_LINE, NO_MEMORY, Refusal, explain};
-use std::alloc::{AllocError, Allocator};
+use std::alloc::Allocator;
 use std::io::{self, ErrorKind, Read};
 use std::sync::Wait;
 use std::thread::Threads;
@@ -40,36 +40,17 @@ fn tell_why<X: Alloc, L: Stream>(
 }
 
 /// Replies that memory ran out, and writes the same to `log`.
-pub(crate) fn no_room<W: Stream, L: Stream>(writer: &mut W, log: &mut L) -> u8
+pub(crate) fn no_room<A: Allocator + Copy, W: Stream, L: Stream>(
+    alloc: A,
+    writer: &mut W,
+    log: &mut L,
+) -> u8
     ensures { Says (streams (W.held writer.old) (L.held log.old))
         (streams (W.held writer.new) (L.held log.new))
         without_memory result }
 {
     tell(log, NO_MEMORY.as_bytes());
-    say(writer, MEMORY_LINE.as_bytes(), 3)
-}
-
-/// The line that names a file and says why the system does not read it.
-fn reason<A: Allocator + Copy>(
-    alloc: A,
-    path: &str,
-    error: &io::Error,
-) -> Result<String<A>, AllocError>
-    ensures { IfOk result (λ line. IsReason path.now (string_bytes line)) }
-{
-    let words = format!(in alloc; "{error}")?;
-    format!(in alloc; "{path}: {words}\n")
-}
-
-/// Writes to `log` why the system does not read a file, or that memory ran out for this message.
-fn tell_reason<A: Allocator + Copy, L: Stream>(alloc: A, path: &str, error: &io::Error, log: &mut L)
-    ensures { (message : List ℕ) × IsReason path.now message
-        × Logs (L.held log.old) (L.held log.new) message }
-{
-    match reason(alloc, path, error) {
-        Ok(line) => tell(log, line.as_bytes()),
-        Err(_) => tell(log, NO_MEMORY.as_bytes()),
-    }
+    say(alloc, writer, log, MEMORY_LINE.as_bytes(), 3)
 }
 
 /// Replies that a file cannot be opened or read, and writes the system's reason to `log`; if the error is that memory
@@ -86,15 +67,15 @@ pub(crate) fn unread<A: Allocator + Copy, W: Stream, L: Stream>(
         (streams (W.held writer.new) (L.held log.new)) result }
 {
     if error.kind() == ErrorKind::OutOfMemory {
-        return no_room(writer, log);
+        return no_room(alloc, writer, log);
     }
     tell_reason(alloc, path, error, log);
-    say(writer, b"refused: file\n", 2)
+    say(alloc, writer, log, b"refused: file\n", 2)
 }
 
 /// `serve` with the name of what is read, and with a stream to which it writes why there is no verdict, as a compiler
-/// does: what `explain` says about a refused text, and the system's reason if reading fails. A failed write to that
-/// stream changes neither the reply nor the status.
+/// does: what `explain` says about a refused text, and the system's reason if reading fails, or if a write to `writer`
+/// does. A failed write to that stream changes neither the reply nor the status.
 pub fn serve_telling<X: Alloc + Wait + Threads + Sync, R: Read, W: Stream, L: Stream>(
     rt: &X,
     path: &str,
@@ -120,7 +101,13 @@ where
     let text = text.as_slice();
     let reply = answer(rt, text, order);
     tell_why(rt, path, text, order, &reply.refusal, log);
-    say(writer, reply.bytes.as_slice(), reply.status)
+    say(
+        rt.alloc(),
+        writer,
+        log,
+        reply.bytes.as_slice(),
+        reply.status,
+    )
 }
 
 /// Reads a text, writes the reply to it and returns the status.

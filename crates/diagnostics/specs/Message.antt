@@ -7,7 +7,7 @@ use Rattle.std.specs.Int.{is_in_range}
 use Rattle.std.specs.List.{before_first}
 use Rattle.diagnostics.specs.Position.{IsPosition}
 use Rattle.diagnostics.specs.declared.message.Wrong.{Wrong}
-use Rattle.diagnostics.specs.declared.message.Wrong.TheVariants.{NotAscii, Unexpected, Wide, Word}
+use Rattle.diagnostics.specs.declared.message.Wrong.TheVariants.{Edges, NotAscii, Unexpected, Wide, Word}
 
 -- the beginning of a message about a place: `FILE:LINE:COLUMN: `
 abbrev pub head : List ℕ → ℕ → ℕ → List ℕ
@@ -61,6 +61,10 @@ needs places rounds most =
     codes " needs " ++ (decimal places ++ (codes " places with --rounds " ++ (decimal rounds
     ++ (codes ", and " ++ (decimal most ++ codes " is the limit\n")))))
 
+-- how many path edges a procedure exceeds
+abbrev pub exceeds : ℕ → List ℕ
+exceeds edges = codes " has more than " ++ (decimal edges ++ codes " path edges\n")
+
 -- that the text does not continue there as a program does
 abbrev pub unexpected : List ℕ → List ℕ
 unexpected rest = codes "unexpected " ++ (first_item rest ++ codes "\n")
@@ -73,6 +77,7 @@ foreign rest = first_item rest ++ codes " is not ASCII\n"
 abbrev pub of_fault : Wrong → List ℕ → List ℕ
 of_fault (Word what) = of_name what.now
 of_fault (Wide places rounds most) = of_name (needs places rounds most)
+of_fault (Edges edges) = of_name (exceeds edges)
 of_fault Unexpected = unexpected
 of_fault NotAscii = foreign
 

@@ -25,6 +25,8 @@ pub enum Wrong<'a> {
     Word(&'a str),
     /// The procedure whose name is there: how many places it needs with how many rounds, and how many it may have.
     Wide(u128, u8, usize),
+    /// The procedure whose name is there: it has more path edges than this.
+    Edges(u32),
     /// The text does not continue there as a program does.
     Unexpected,
     /// The byte there is not ASCII.
@@ -213,6 +215,14 @@ fn push_width<A: Allocator>(
     )
 }
 
+/// Writes how many path edges are exceeded.
+fn push_edges<A: Allocator>(message: &mut String<A>, edges: u32) -> Result<(), AllocError>
+    ensures { OnOk result
+        (string_bytes message.new ≡ string_bytes message.old ++ told.exceeds edges) }
+{
+    write!(message, " has more than {edges} path edges\n")
+}
+
 /// Writes the number of a byte.
 fn push_number<A: Allocator>(message: &mut String<A>, byte: u8) -> Result<(), AllocError>
     ensures { OnOk result
@@ -264,6 +274,10 @@ fn push_wrong<A: Allocator>(
         Wrong::Wide(places, rounds, most) => {
             push_name(message, first_word(rest))?;
             push_width(message, places, rounds, most)
+        }
+        Wrong::Edges(edges) => {
+            push_name(message, first_word(rest))?;
+            push_edges(message, edges)
         }
         Wrong::Unexpected => {
             push(message, "unexpected ")?;

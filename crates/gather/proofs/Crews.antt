@@ -65,7 +65,7 @@ module _ {G A S : Type 0} (members : S → List Triple) where
   pass_ended b (Failed c) s t took sent so = so.0.pass
 
   lane_pass : (b : Start G) (s : Sight Due (Graphs G)) (o : Outcome G A S) → LaneEnds members b s o → IsPassOf b s
-  lane_pass b s o (inl e) = pass_ended b o.end s e.0 o.takes.items o.posts.items e.2
+  lane_pass b s o (inl e) = pass_ended b o.end s e.0 e.2.0 e.2.1 e.2.2
   lane_pass b s o (inr idle) = idle.pass
 
   module _ (graphs : Graphs G) (limit : EdgeLimit) (board : TableId) (passes : List (Sight Due (Graphs G)))

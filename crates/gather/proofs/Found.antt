@@ -23,9 +23,7 @@ use Rattle.flow_graph.specs.declared.graph.Graphs.{Graphs}
 use Rattle.flow_graph.specs.Drawn.{graphs_of}
 use Rattle.flow_graph.specs.Graphs.{AreDrawnFrom}
 use Rattle.flow_graph.specs.Numbers.{NumberedMessage, IsNumberOf, Sends, asks, tells}
-use Rattle.summaries.specs.declared.due.Caller.TheVariants.{Starter, Proc}
 use Rattle.summaries.specs.declared.due.Due.{Due}
-use Rattle.summaries.specs.declared.due.Due.TheVariants.{Entry as entered, Summary}
 use Rattle.path_sets.specs.declared.edge_limit.EdgeLimit.{EdgeLimit}
 use Rattle.summaries.specs.Dues.{due_of}
 use Rattle.summaries.specs.Fitting.{FitsIn}
@@ -120,8 +118,8 @@ module _ {G A S : Type 0} (members : S → List Triple) (graphs : Graphs G) (lim
         let (o, is) = outcome s near in
         let v = serving s o is in
         let sent = v.served.0 in
-        let mine : NoneTwice o.posts.items =
-        none_twice_of_map (λ (x : ℕ × Due). mail x.0 x.1) o.posts.items
+        let mine : NoneTwice v.sent =
+        none_twice_of_map (λ (x : ℕ × Due). mail x.0 x.1) v.sent
         (subst NoneTwice (sym sent.1)
         (answers_once members v.table (sent.0.stands.table sent.0.stands.pass.drawn.0 sent.0.stands.pass.drawn.1).table sent.0.whole)) in
         subst (λ l. NoneTwice (posted_in l)) (sym (settled.own s v.pass v.at))
@@ -153,10 +151,10 @@ module _ {G A S : Type 0} (members : S → List Triple) (graphs : Graphs G) (lim
       let mine : Member (q, m) (posted_in (own s settled.order)) =
       posted_member (own s settled.order) q s m t
       (in_own settled.order (Posted q s m t) (member_at settled.order (suc i) (Posted q s m t) at)) in
-      let listed : Member (q, m) o.posts.items =
+      let listed : Member (q, m) v.sent =
       subst (Member (q, m)) sent.0.stands.posts (subst (λ l. Member (q, m) (posted_in l)) (settled.own s v.pass v.at) mine) in
       let answered : Member (mail q m) (answers_of v.table) =
-      subst (Member (mail q m)) sent.1 (member_map (λ (x : ℕ × Due). mail x.0 x.1) o.posts.items (q, m) listed) in
+      subst (Member (mail q m)) sent.1 (member_map (λ (x : ℕ × Due). mail x.0 x.1) v.sent (q, m) listed) in
       let (k, same) = number_of_due m in
       let sends = (v.served.1.sends q k).1 (subst (λ d. Member (mail q d) (answers_of v.table)) (sym same) answered) in
       let stands = sent.0.stands in

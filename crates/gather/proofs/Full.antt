@@ -123,7 +123,7 @@ module _ {G A S : Type 0} where
       abort_named q s is made =
           let (o, there) = outcome_at q (near_pass q s is) in
           let named : (c : Cause) × (o.end ≡ Failed c) = elim (ended.ends q s o is there) [
-            | inl e ↦ named_by (begun graphs q limit board) o.end s e.0 o.takes.items o.posts.items e.2 made
+            | inl e ↦ named_by (begun graphs q limit board) o.end s e.0 e.2.0 e.2.1 e.2.2 made
             | inr none ↦ (NoWorker, none.named)
           ] in
           (named.0, subst (λ e. Member e (ends_of outcomes)) named.1 (end_there q o there))
@@ -148,7 +148,9 @@ module _ {G A S : Type 0} where
           pub table : Table G A S
           pub is : o.table ≡ Some table
           pub shut : o.end ≡ Closed
-          pub served : HasServed (begun graphs q limit board) members pass table o.takes.items o.posts.items
+          pub took : List Due
+          pub sent : List (ℕ × Due)
+          pub served : HasServed (begun graphs q limit board) members pass table took sent
           pub knows : pass.knows ≡ true
 
         pub served : (q : ℕ) (o : Outcome G A S) → slice_get outcomes q ≡ Some o → Served q o
@@ -156,9 +158,10 @@ module _ {G A S : Type 0} where
             let (s, at) = pass_at q (near_outcome q o there) in
             elim (ended.ends q s o at there) [
               | inl e ↦
-                  let ends = end_closed q s at o.end (end_there q o there) e.0 o.takes.items o.posts.items e.2 in
-                  let so = subst (λ z. EndsSo (begun graphs q limit board) members z s e.0 o.takes.items o.posts.items) ends e.2 in
-                  record { pass = s; at = at; table = e.0; is = e.1; shut = ends; served = so.0; knows = so.1 }
+                  let (took, sent, how) = e.2 in
+                  let ends = end_closed q s at o.end (end_there q o there) e.0 took sent how in
+                  let so = subst (λ z. EndsSo (begun graphs q limit board) members z s e.0 took sent) ends how in
+                  record { pass = s; at = at; table = e.0; is = e.1; shut = ends; took = took; sent = sent; served = so.0; knows = so.1 }
               | inr idle ↦ absurd (none NoWorker (subst (λ e. Member e (ends_of outcomes)) idle.named (end_there q o there)))
             ]
 
@@ -220,9 +223,9 @@ module _ {G A S : Type 0} where
             let g = v.served.0.0 in
             let mine : Member m (taken_in (own to v.pass.seen.order)) =
             subst (λ l. Member m (taken_in l)) (settled.own to v.pass v.at) (take_own to order (s, m) taken) in
-            let took : Member m o.takes.items = subst (Member m) g.stands.takes mine in
+            let took : Member m v.took = subst (Member m) g.stands.takes mine in
             subst (λ z. IsTaken z k) (sym (table_at outcomes has_tables to o v.table is v.is))
-            (g.all k (subst (λ d. Member d o.takes.items) (sym same) took))
+            (g.all k (subst (λ d. Member d v.took) (sym same) took))
 
         opened_received : IsReceived ts opening
         opened_received =
@@ -240,7 +243,7 @@ module _ {G A S : Type 0} where
         answer_received q o v x there =
             let sent = v.served.0 in
             let stands = sent.0.stands in
-            let (y, mine, is) = got_mail o.posts.items x (subst (Member x) (sym sent.1) there) in
+            let (y, mine, is) = got_mail v.sent x (subst (Member x) (sym sent.1) there) in
             let posted : Member y (posted_in (own q v.pass.seen.order)) = subst (Member y) (sym stands.posts) mine in
             let (t, at) = posted_part q settled.order y
             (subst (λ l. Member y (posted_in l)) (sym (settled.own q v.pass v.at)) posted) in

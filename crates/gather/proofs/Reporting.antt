@@ -1,6 +1,6 @@
 -- From outcomes to what a report says.
-use Rattle.std.proofs.Common.{◌≡◌, ◌≢◌, ◌⊎◌, ◌<◌, Result, Ok, Err, inl, inr, ℕ, List, [], ◌∷◌, suc, map, length, codes}
-use Rattle.std.proofs.Common.{refl, sym, ap, ◌∙◌, subst}
+use Rattle.std.proofs.Common.{◌≡◌, ◌≢◌, ◌⊎◌, ◌<◌, Result, Ok, Err, inl, inr, ℕ, List, [], ◌∷◌, map, length, codes}
+use Rattle.std.proofs.Common.{Some, refl, sym, ap, ◌∙◌, slice_get, subst}
 use Rattle.std.specs.Prelude.{Bool, ◌↔◌, IfOk, IfErr}
 use Rattle.std.proofs.lemmas.Option.{slice_get_within}
 use Rattle.atomic_table.specs.Seated.{TableId}
@@ -10,7 +10,6 @@ use Rattle.language.specs.Tree.{Tree}
 use Rattle.language.specs.Resolve.{meaning_of, number_of}
 use Rattle.language.specs.Rounds.{Unsafe}
 use Rattle.language.specs.Step.{Program}
-use Rattle.language.specs.Lists.{Member}
 use Rattle.path_sets.specs.Triples.{Triple}
 use Rattle.language.specs.Sequential.{SomeBad, sequential_of}
 use Rattle.round_rewrite.specs.Law.{KeepsTree}
@@ -39,10 +38,9 @@ use Rattle.procedure_worker.specs.Works.{begun, EndsSo}
 use Rattle.gather.specs.declared.jobs.Came.{Came}
 use Rattle.gather.specs.Jobs.{first_of, second_of}
 use Rattle.gather.specs.Ends.{HaveEnded, AreOfBoard}
-use Rattle.gather.specs.Gathered.{verdict_of, ends_of, NoneFailed, AllClosed, IsCause, IsGathered}
+use Rattle.gather.specs.Gathered.{verdict_for, ends_of, NoneFailed, AllClosed, IsCause, IsGathered}
 use Rattle.gather.specs.Reports.{AreDueOnce, IsFound, IsNoReport, IsTabulated}
 use Rattle.gather.specs.Through.{AreThrough}
-use Rattle.gather.proofs.Lists.{place_of}
 use Rattle.gather.proofs.Full.{got_map, through}
 use Rattle.gather.proofs.Found.{due_once}
 
@@ -50,28 +48,30 @@ use Rattle.gather.proofs.Found.{due_once}
 none_failed : (ends : List End) → AllClosed ends → NoneFailed ends
 none_failed ends all c there = let same : Failed c ≡ Closed = all (Failed c) there in cc
 
--- the limit is named only if an end names it
-by_limit : (ends : List End) (c : Cause) → Member (Failed c) ends → verdict.EdgeLimit ≡ verdict_of c
-    → Member (Failed cause.EdgeLimit) ends
-by_limit ends cause.Memory named is = let no : ⊥ = cc in absurd no
-by_limit ends cause.EdgeLimit named is = named
-by_limit ends cause.NoWorker named is = let no : ⊥ = cc in absurd no
-by_limit ends cause.Spent named is = let no : ⊥ = cc in absurd no
+-- the limit is named only if the worker of that procedure has failed for it
+by_limit : (ends : List End) (q procedure : ℕ) (c : Cause) → slice_get ends procedure ≡ Some (Failed c)
+    → verdict.EdgeLimit q ≡ verdict_for procedure c → slice_get ends q ≡ Some (Failed cause.EdgeLimit)
+by_limit ends q procedure cause.Memory named is = let no : ⊥ = cc in absurd no
+by_limit ends q procedure cause.EdgeLimit named is =
+    let same : procedure ≡ q = cc in subst (λ n. slice_get ends n ≡ Some (Failed cause.EdgeLimit)) same named
+by_limit ends q procedure cause.NoWorker named is = let no : ⊥ = cc in absurd no
+by_limit ends q procedure cause.Spent named is = let no : ⊥ = cc in absurd no
 
-limit_named : (ends : List End) (why : NoVerdict) → IsCause ends why → why ≡ verdict.EdgeLimit
-    → Member (Failed cause.EdgeLimit) ends
-limit_named ends why (inl least) is = by_limit ends least.cause least.named (sym is ∙ least.is)
-limit_named ends why (inr (memory, all)) is = let no : ⊥ = cc in absurd no
+limit_named : (ends : List End) (why : NoVerdict) (q : ℕ) → IsCause ends why → why ≡ verdict.EdgeLimit q
+    → slice_get ends q ≡ Some (Failed cause.EdgeLimit)
+limit_named ends why q (inl (failure, least, told)) is =
+    by_limit ends q failure.procedure failure.cause least.named (sym is ∙ told)
+limit_named ends why q (inr (memory, all)) is = let no : ⊥ = cc in absurd no
 
 -- no end says that a program is too wide
 pub not_wide : (ends : List End) (why : NoVerdict) → IsCause ends why → why ≢ verdict.TooWide
-not_wide ends why (inl least) is = apart least.cause (sym is ∙ least.is)
+not_wide ends why (inl (failure, least, told)) is = apart failure.procedure failure.cause (sym is ∙ told)
   where
-    apart : (c : Cause) → verdict.TooWide ≡ verdict_of c → ⊥
-    apart cause.Memory same = cc
-    apart cause.EdgeLimit same = cc
-    apart cause.NoWorker same = cc
-    apart cause.Spent same = cc
+    apart : (procedure : ℕ) (c : Cause) → verdict.TooWide ≡ verdict_for procedure c → ⊥
+    apart procedure cause.Memory same = cc
+    apart procedure cause.EdgeLimit same = cc
+    apart procedure cause.NoWorker same = cc
+    apart procedure cause.Spent same = cc
 not_wide ends why (inr (memory, all)) is = cc
 
 -- some pair of the rewriting has `bad__` if and only if some run fails
@@ -87,10 +87,10 @@ keeps_answer rounds source tree same keeps bad is P some =
 
 -- why the workers found nothing is why there is no report
 pub no_report : (source : Tree) (rounds most : ℕ) (why : NoVerdict) → IsNarrowFor rounds source → why ≢ verdict.TooWide
-    → (why ≡ verdict.EdgeLimit → (q : ℕ) × HasMoreEdges (sequential_for rounds source) q most)
+    → ((q : ℕ) → why ≡ verdict.EdgeLimit q → HasMoreEdges (sequential_for rounds source) q most)
     → IsNoReport source rounds most why
 no_report source rounds most verdict.TooWide narrow other more = absurd (other refl)
-no_report source rounds most verdict.EdgeLimit narrow other more = (narrow, more refl)
+no_report source rounds most (verdict.EdgeLimit q) narrow other more = (narrow, more q refl)
 no_report source rounds most verdict.Memory narrow other more = narrow
 no_report source rounds most verdict.NoWorker narrow other more = narrow
 no_report source rounds most verdict.Spent narrow other more = narrow
@@ -111,12 +111,12 @@ tabulated rounds most source tree same keeps narrow (Ok s) summaries bad few = r
 
 pub not_tabulated : (rounds most : ℕ) (source tree : Tree) → tree ≡ rewritten_for rounds source → IsNarrowFor rounds source
     → (r : Result Effects NoVerdict)
-    → (r ≡ Err verdict.EdgeLimit → (q : ℕ) × HasMoreEdges (sequential_of tree) q most)
-    → IfErr r (λ e. (e ≡ verdict.Memory) ⊎ (e ≡ verdict.EdgeLimit)) → IfErr r (IsNoReport source rounds most)
+    → ((q : ℕ) → r ≡ Err (verdict.EdgeLimit q) → HasMoreEdges (sequential_of tree) q most)
+    → IfErr r (λ e. (e ≡ verdict.Memory) ⊎ ((q : ℕ) × (e ≡ verdict.EdgeLimit q))) → IfErr r (IsNoReport source rounds most)
 not_tabulated rounds most source tree same narrow (Ok s) limit cause = tt
 not_tabulated rounds most source tree same narrow (Err why) limit cause =
-    no_report source rounds most why narrow (λ is. elim cause [ inl memory ↦ cc | inr edges ↦ cc ])
-    (λ is. subst (λ (t : Tree). (q : ℕ) × HasMoreEdges (sequential_of t) q most) same (limit (ap Err is)))
+    no_report source rounds most why narrow (λ is. elim cause [ inl memory ↦ cc | inr edges ↦ (let named = edges.1 in cc) ])
+    (λ q is. subst (λ (t : Tree). HasMoreEdges (sequential_of t) q most) same (limit q (ap Err is)))
 
 -- the images of images
 map_twice : {X Y Z : Type 0} (f : Y → Z) (h : X → Y) (xs : List X) → map f (map h xs) ≡ map (λ x. f (h x)) xs
@@ -146,20 +146,18 @@ module _ {G A S : Type 0} (members : S → List Triple) (graphs : Graphs G) (lim
     passed_by p drawn q s e t took sent is so =
         (subst (λ z. EndsSo (begun graphs q limit board) members z s t took sent) is so).1.stood p drawn
 
-    -- if an end names the limit, some procedure has more path edges
-    pub limit_passed : (why : NoVerdict) → IsCause (ends_of outcomes) why → why ≡ verdict.EdgeLimit → (p : Program)
-        → AreDrawnFrom p (graphs_of graphs) → (q : ℕ) × HasMoreEdges p q (most_of limit)
-    limit_passed why named is p drawn =
-        let (q, at) = place_of (ends_of outcomes) (Failed cause.EdgeLimit) (limit_named (ends_of outcomes) why named is) in
+    -- a procedure that is named for the limit has more path edges
+    pub limit_passed : (why : NoVerdict) (q : ℕ) → IsCause (ends_of outcomes) why → why ≡ verdict.EdgeLimit q → (p : Program)
+        → AreDrawnFrom p (graphs_of graphs) → HasMoreEdges p q (most_of limit)
+    limit_passed why q named is p drawn =
+        let at = limit_named (ends_of outcomes) why q named is in
         let (o, there, same) = got_map (λ (x : Outcome G A S). x.end) outcomes q (Failed cause.EdgeLimit) at in
         let near = subst (λ n. q < n) (ended.each_outcome ∙ sym ended.each_pass) (slice_get_within outcomes q o there) in
-        let (s, here) = element_at passes q near in (
-          q,
-          elim (ended.ends q s o here there) [
-            | inl e ↦ passed_by p drawn q s o.end e.0 o.takes.items o.posts.items same e.2
-            | inr idle ↦ absurd (other_cause (sym same ∙ idle.named))
-          ],
-        )
+        let (s, here) = element_at passes q near in
+        elim (ended.ends q s o here there) [
+          | inl e ↦ passed_by p drawn q s o.end e.0 e.2.0 e.2.1 same e.2.2
+          | inr idle ↦ absurd (other_cause (sym same ∙ idle.named))
+        ]
 
     module _ (boxes : ℕ) (count : boxes ≡ length (graphs_of graphs)) (histories : List (List (Event Due))) (closed : Bool)
         (left : Settles FitsIn boxes passes histories closed) where

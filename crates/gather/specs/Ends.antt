@@ -30,8 +30,6 @@ pub record HadNoThread {G A S : Type 0} (b : Start G) (s : Sight Due (Graphs G))
   pub none : own b.number s.seen.order ≡ []
   pub table : o.table ≡ None
   pub named : o.end ≡ Failed NoWorker
-  pub takes : o.takes.items ≡ []
-  pub posts : o.posts.items ≡ []
 
 module _ {G A S : Type 0} (members : S → List Triple) where
   -- the lane's worker has ended, or it had no thread

@@ -1,6 +1,6 @@
 -- What is gathered of outcomes.
 use Rattle.std.specs.Prelude.{◌≡◌, ◌≤◌, ◌⊎◌, ◌↔◌, ℕ, Bool, true, List, [], ◌∷◌}
-use Rattle.std.specs.Prelude.{Option, Some, None, map, Result, IfOk, IfErr}
+use Rattle.std.specs.Prelude.{Option, Some, None, map, Result, IfOk, IfErr, slice_get}
 use Rattle.post_ledger.specs.declared.event.Event.{Event}
 use Rattle.language.specs.Step.{Program}
 use Rattle.language.specs.Lists.{Member}
@@ -14,6 +14,7 @@ use Rattle.path_sets.specs.EdgeLimits.{most_of}
 use Rattle.summaries.specs.Effects.{Effects}
 use Rattle.summaries.specs.Tabulated.{AreSummaries, SomePairBad, HasMoreEdges}
 use Rattle.gather.specs.Ends.{AreOfBoard}
+use Rattle.gather.specs.declared.gathering.Failure.{Failure}
 use Rattle.summaries.specs.declared.no_verdict.NoVerdict.{NoVerdict}
 use Rattle.summaries.specs.declared.no_verdict.NoVerdict.TheVariants as verdict
 use Rattle.summaries.specs.declared.table.Table.{Table}
@@ -23,20 +24,23 @@ use Rattle.procedure_worker.specs.declared.outcome.End.{End}
 use Rattle.procedure_worker.specs.declared.outcome.End.TheVariants.{Closed, Failed}
 use Rattle.procedure_worker.specs.declared.outcome.Outcome.{Outcome}
 
--- the rank of a reason why there is no verdict: the place at which `NoVerdict` lists it
-abbrev pub rank_of : NoVerdict → ℕ
-rank_of verdict.TooWide = 0
-rank_of verdict.Memory = 1
-rank_of verdict.EdgeLimit = 2
-rank_of verdict.NoWorker = 3
-rank_of verdict.Spent = 4
+-- the rank of a cause: `NoVerdict` lists them in this order
+abbrev pub rank_of : Cause → ℕ
+rank_of cause.Memory = 0
+rank_of cause.EdgeLimit = 1
+rank_of cause.NoWorker = 2
+rank_of cause.Spent = 3
+
+-- why there is no verdict, if the worker of this procedure has failed for this cause
+abbrev pub verdict_for : ℕ → Cause → NoVerdict
+verdict_for procedure cause.Memory = verdict.Memory
+verdict_for procedure cause.EdgeLimit = verdict.EdgeLimit procedure
+verdict_for procedure cause.NoWorker = verdict.NoWorker
+verdict_for procedure cause.Spent = verdict.Spent
 
 -- why there is no verdict, if a worker has failed
-abbrev pub verdict_of : Cause → NoVerdict
-verdict_of cause.Memory = verdict.Memory
-verdict_of cause.EdgeLimit = verdict.EdgeLimit
-verdict_of cause.NoWorker = verdict.NoWorker
-verdict_of cause.Spent = verdict.Spent
+abbrev pub verdict_of : Failure → NoVerdict
+verdict_of failure = verdict_for failure.procedure failure.cause
 
 module _ {G A S : Type 0} where
   -- how the workers have ended
@@ -53,12 +57,10 @@ module _ {G A S : Type 0} where
   tables_in [] = []
   tables_in (o ∷ os) = beside o.table (tables_in os)
 
--- Some end names this reason, and none names one of a lesser rank.
-pub record IsLeastCause (ends : List End) (why : NoVerdict) : Type 0 where
-  pub cause : Cause
-  pub named : Member (Failed cause) ends
-  pub is : why ≡ verdict_of cause
-  pub least : (c : Cause) → Member (Failed c) ends → rank_of why ≤ rank_of (verdict_of c)
+-- The worker of the procedure with this number has failed for this cause, and none has for one of a lesser rank.
+pub record IsLeastFailure (ends : List End) (failure : Failure) : Type 0 where
+  pub named : slice_get ends failure.procedure ≡ Some (Failed failure.cause)
+  pub least : (c : Cause) → Member (Failed c) ends → rank_of failure.cause ≤ rank_of c
 
 -- no end names a cause
 abbrev pub NoneFailed : List End → Type 0
@@ -68,16 +70,16 @@ NoneFailed ends = (c : Cause) → Member (Failed c) ends → ⊥
 abbrev pub AllClosed : List End → Type 0
 AllClosed ends = (e : End) → Member e ends → e ≡ Closed
 
--- the reason is the least that an end names, if one names any
-abbrev pub IsLeastOf : List End → Option NoVerdict → Type 0
+-- the failure is the least, if a worker has failed
+abbrev pub IsLeastOf : List End → Option Failure → Type 0
 IsLeastOf ends None = NoneFailed ends
-IsLeastOf ends (Some why) = IsLeastCause ends why
+IsLeastOf ends (Some failure) = IsLeastFailure ends failure
 
--- The reason is one of the two, and its rank is at most those of both.
-pub record IsLesser (one : Option NoVerdict) (other why : NoVerdict) : Type 0 where
-  pub either : (one ≡ Some why) ⊎ (why ≡ other)
-  pub below : rank_of why ≤ rank_of other
-  pub least : (w : NoVerdict) → one ≡ Some w → rank_of why ≤ rank_of w
+-- The failure is one of the two, and its rank is at most those of both.
+pub record IsLesser (one : Option Failure) (other failure : Failure) : Type 0 where
+  pub either : (one ≡ Some failure) ⊎ (failure ≡ other)
+  pub below : rank_of failure.cause ≤ rank_of other.cause
+  pub least : (f : Failure) → one ≡ Some f → rank_of failure.cause ≤ rank_of f.cause
 
 -- The summaries are those of the programs that the graphs are drawn from, if no procedure has more path edges than
 -- the limit, the board is closed, and every worker has ended at the close.
@@ -88,9 +90,11 @@ pub record IsGathered {G : Type 0} (graphs : Graphs G) (most : ℕ) (closed : Bo
   pub bad : (p : Program) → AreDrawnFrom p (graphs_of graphs) → SomePairBad s ↔ SomeBad p (bad_of graphs)
   pub few : (p : Program) → AreDrawnFrom p (graphs_of graphs) → (q : ℕ) → HasMoreEdges p q most → ⊥
 
--- why nothing is gathered: the least cause that an end names, or lack of memory if every worker ended at the close
+-- why nothing is gathered: the least failure of a worker, or lack of memory if every worker ended at the close
 abbrev pub IsCause : List End → NoVerdict → Type 0
-IsCause ends why = IsLeastCause ends why ⊎ ((why ≡ verdict.Memory) × AllClosed ends)
+IsCause ends why =
+    ((failure : Failure) × IsLeastFailure ends failure × (why ≡ verdict_of failure))
+    ⊎ ((why ≡ verdict.Memory) × AllClosed ends)
 
 module _ {G A S : Type 0} (members : S → List Triple) where
   -- The outcomes are gathered, whichever board they are of.

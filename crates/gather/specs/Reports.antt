@@ -70,12 +70,12 @@ pub record IsTabulated (source : Tree) (rounds most : ℕ) (s : Effects) : Type 
   pub bad : SomePairBad s ↔ Unsafe (meaning_of source) rounds
   pub narrow : IsNarrowFor rounds source
 
--- Why there is no report: the rewriting is too wide, and only then; some procedure of it has more path edges than
--- `most`; memory or a thread was refused, or a worker has used up its calls.
+-- Why there is no report: the rewriting is too wide, and only then; the procedure of it with this number has more path
+-- edges than `most`; memory or a thread was refused, or a worker has used up its calls.
 abbrev pub IsNoReport : Tree → ℕ → ℕ → NoVerdict → Type 0
 IsNoReport source rounds most verdict.TooWide = IsNarrowFor rounds source → ⊥
-IsNoReport source rounds most verdict.EdgeLimit =
-    IsNarrowFor rounds source × ((q : ℕ) × HasMoreEdges (sequential_for rounds source) q most)
+IsNoReport source rounds most (verdict.EdgeLimit q) =
+    IsNarrowFor rounds source × HasMoreEdges (sequential_for rounds source) q most
 IsNoReport source rounds most verdict.Memory = IsNarrowFor rounds source
 IsNoReport source rounds most verdict.NoWorker = IsNarrowFor rounds source
 IsNoReport source rounds most verdict.Spent = IsNarrowFor rounds source

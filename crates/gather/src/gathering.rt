@@ -1,5 +1,5 @@
 //! What workers found, gathered.
-ghost use Rattle.std.specs.Prelude.{◌≡◌, ◌∷◌, ◌++◌, [], List, IfOk};
+ghost use Rattle.std.specs.Prelude.{◌≡◌, ◌∷◌, ◌++◌, [], List, IfOk, length};
 ghost use Rattle.gather.specs.Gathered.{rank_of, verdict_of, ends_of, tables_in, IsLeastOf};
 ghost use Rattle.gather.specs.Gathered.{IsLesser, Gathers};
 
@@ -10,60 +10,67 @@ use std::alloc::{AllocError, Allocator};
 use summaries::{NoVerdict, Summaries, Table, collect};
 use switchboard::Cause;
 
-/// The rank of a cause for which there is no verdict: of several the one that `NoVerdict` lists first is returned.
-fn rank(why: NoVerdict) -> u8
-    ensures { result ≡ rank_of why }
+/// The failure of a worker: the number of its procedure, and the cause.
+#[derive(Clone, Copy)]
+pub(crate) struct Failure {
+    procedure: usize,
+    cause: Cause,
+}
+
+/// The rank of a cause: of several the one that `NoVerdict` lists first is returned.
+fn rank(cause: Cause) -> u8
+    ensures { result ≡ rank_of cause }
 {
-    match why {
-        NoVerdict::TooWide => 0,
-        NoVerdict::Memory => 1,
-        NoVerdict::EdgeLimit => 2,
-        NoVerdict::NoWorker => 3,
-        NoVerdict::Spent => 4,
+    match cause {
+        Cause::Memory => 0,
+        Cause::EdgeLimit => 1,
+        Cause::NoWorker => 2,
+        Cause::Spent => 3,
     }
 }
 
 /// Why there is no verdict, if a worker has failed.
-fn verdict_for(cause: Cause) -> NoVerdict
-    ensures { result ≡ verdict_of cause }
+fn verdict_for(failure: Failure) -> NoVerdict
+    ensures { result ≡ verdict_of failure }
 {
-    match cause {
+    match failure.cause {
         Cause::Memory => NoVerdict::Memory,
-        Cause::EdgeLimit => NoVerdict::EdgeLimit,
+        Cause::EdgeLimit => NoVerdict::EdgeLimit(failure.procedure),
         Cause::NoWorker => NoVerdict::NoWorker,
         Cause::Spent => NoVerdict::Spent,
     }
 }
 
-/// The cause with the lesser rank.
-fn lesser(one: Option<NoVerdict>, other: NoVerdict) -> NoVerdict
+/// The failure with the lesser rank, of two equal ones the first.
+fn lesser(one: Option<Failure>, other: Failure) -> Failure
     ensures { IsLesser one other result }
 {
     match one {
-        Some(one) if rank(one) <= rank(other) => one,
+        Some(one) if rank(one.cause) <= rank(other.cause) => one,
         _ => other,
     }
 }
 
-/// The least cause, with this end added to others.
-fn least_with(least: Option<NoVerdict>, end: End) -> Option<NoVerdict>
-    ensures { (ends : List End) → IsLeastOf ends least → IsLeastOf (ends ++ end ∷ []) result }
+/// The least failure, if the worker of the next procedure, with this number, ended like this.
+fn least_with(least: Option<Failure>, procedure: usize, end: End) -> Option<Failure>
+    ensures { (ends : List End) → length ends ≡ procedure → IsLeastOf ends least
+        → IsLeastOf (ends ++ end ∷ []) result }
 {
     match end {
-        End::Failed(cause) => Some(lesser(least, verdict_for(cause))),
+        End::Failed(cause) => Some(lesser(least, Failure { procedure, cause })),
         End::Closed | End::Aborted => least,
     }
 }
 
-/// The cause of the least rank that an end names, if one names any.
+/// The failure of the least rank, if a worker has failed.
 fn least<G: Allocator, A: Allocator, S: PathSet<A>>(
     outcomes: &[Outcome<'_, G, A, S>],
-) -> Option<NoVerdict>
+) -> Option<Failure>
     ensures { IsLeastOf (ends_of outcomes.now) result }
 {
     let mut least = None;
-    for outcome in outcomes {
-        least = least_with(least, outcome.end);
+    for procedure in 0..outcomes.len() {
+        least = least_with(least, procedure, outcomes[procedure].end);
     }
     least
 }
@@ -81,8 +88,6 @@ fn tables_of<'g, G: Allocator, A: Allocator + Copy, S: PathSet<A>>(
             table,
             end: _,
             lack: _,
-            takes: _,
-            posts: _,
         } = outcome;
         if let Some(table) = table {
             tables.push(table)?;
@@ -101,8 +106,8 @@ pub fn gather<G: Allocator, A: Allocator + Copy, S: PathSet<A>>(
 ) -> Result<Summaries<A>, NoVerdict>
     ensures { Gathers S.members graphs.now outcomes.entry.items result }
 {
-    if let Some(why) = least(&outcomes) {
-        return Err(why);
+    if let Some(failure) = least(&outcomes) {
+        return Err(verdict_for(failure));
     }
     let tables = tables_of(alloc, outcomes)?;
     Ok(collect(alloc, graphs, &tables)?)

@@ -13,7 +13,7 @@ use switchboard::Cause;
 #[derive(Drop)]
 pub(crate) struct Lane<'c, 'g, R, P, H: Allocator, A, B, S, K> {
     pub(crate) rt: &'c R,
-    /// For the table and the lists of the worker.
+    /// For the table of the worker.
     pub(crate) alloc: A,
     pub(crate) board: &'c B,
     pub(crate) pass: P,
@@ -58,7 +58,7 @@ where
     fn decline(self) -> (B::Pass, Outcome<'g, B::Heap, S::Heap, S>) {
         let Lane {
             rt,
-            alloc,
+            alloc: _,
             board,
             pass,
             graphs: _,
@@ -73,8 +73,6 @@ where
             table: None,
             end: End::Failed(Cause::NoWorker),
             lack: None,
-            takes: Vec::new(alloc),
-            posts: Vec::new(alloc),
         };
         (pass, outcome)
     }

@@ -30,9 +30,10 @@ fn by_graphs<S: PathSet<A>, A: Allocator + Copy>(
     ensures bad { IfOk result (λ s. SomePairBad s
         ↔ SomeBad program (number_of (codes "bad__") (sequential_tree sequential.now).globals)) }
     ensures few { IfOk result (λ s. (q : ℕ) → ¬ HasMoreEdges program q (most_of limit)) }
-    ensures limit { result ≡ Err NoVerdict.EdgeLimit
-        → (q : ℕ) × HasMoreEdges program q (most_of limit) }
-    ensures cause { IfErr result (λ e. (e ≡ NoVerdict.Memory) ⊎ (e ≡ NoVerdict.EdgeLimit)) }
+    ensures limit { (q : ℕ) → result ≡ Err (NoVerdict.EdgeLimit q)
+        → HasMoreEdges program q (most_of limit) }
+    ensures cause { IfErr result
+        (λ e. (e ≡ NoVerdict.Memory) ⊎ ((q : ℕ) × (e ≡ NoVerdict.EdgeLimit q))) }
 {
     let graphs = graphs(&alloc, sequential)?;
     tabulate::<A, A, S>(alloc, &graphs, limit)

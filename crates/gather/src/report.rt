@@ -72,8 +72,7 @@ where
     ensures bad { (p : Program) → AreDrawnFrom p (graphs_of graphs.now)
         → IfOk result (λ r. SomePairBad r.1 ↔ SomeBad p (bad_of graphs.now)) }
     ensures limit { (p : Program) → AreDrawnFrom p (graphs_of graphs.now)
-        → result ≡ Err NoVerdict.EdgeLimit
-        → (q : ℕ) × HasMoreEdges p q (most_of limit) }
+        → (q : ℕ) → result ≡ Err (NoVerdict.EdgeLimit q) → HasMoreEdges p q (most_of limit) }
     ensures cause { IfErr result (λ why. why ≢ NoVerdict.TooWide) }
 {
     let opening = Due::Entry {
@@ -93,8 +92,8 @@ where
 /// It is rewritten into a sequential program, whose procedures have a worker each, in a thread of its own, over a
 /// board of the type `B`; the path edges are kept in sets of the type `S`. The board and its histories are in memory
 /// of `heap`, tables and summaries in that of `alloc`. The gate is called at each take and post. `TooWide` is
-/// returned if and only if some procedure of the rewriting has more than 128 places, `EdgeLimit` only if some
-/// procedure has more path edges than the limit. Of several causes the one that `NoVerdict` lists first is returned.
+/// returned if and only if some procedure of the rewriting has more than 128 places, `EdgeLimit` with the number of a
+/// procedure that has more path edges than the limit. Of several causes the one that `NoVerdict` lists first is returned.
 ///
 /// A worker has a thread only if `hire` says that it may; if it says no, or the system refuses a thread, that worker
 /// and those after it do nothing but abort the board, and a cause is `NoWorker`. Each worker has one call of the

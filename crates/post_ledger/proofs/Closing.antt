@@ -13,8 +13,8 @@ use Rattle.post_ledger.specs.declared.entry.Entry.{Entry}
 use Rattle.post_ledger.specs.History.{posts, takes, dones, MayFollow, IsLegal}
 use Rattle.post_ledger.specs.Sides.{messages_of, sent, taken}
 use Rattle.post_ledger.specs.Orders.{part, IsLawful, IsCompleted, IsClosed}
-use Rattle.post_ledger.proofs.Histories.{posts-append, takes-append, split_at_element}
-use Rattle.post_ledger.proofs.Orders.{Sizes, sizes_of, sizes_to, dones_fewer, element_at}
+use Rattle.post_ledger.proofs.Histories.{posts-append, takes-append, split_at_element, element_at}
+use Rattle.post_ledger.proofs.Orders.{Sizes, sizes_of, sizes_to, dones_fewer}
 
 module _ {M : Type 0} where
   -- the Takes are the first of the Posts

@@ -2,7 +2,7 @@
 use Rattle.std.proofs.Common.{◌≡◌, ℕ, zero, suc, ◌+◌, ◌<◌, ◌≤◌, List, [], ◌∷◌, ◌++◌, ◌⊎◌, Some, length, take, slice_get, refl, sym, ◌∙◌, ap}
 use Rattle.std.proofs.Common.{subst, inl, inr, arith, add-one, length-append}
 use Rattle.std.proofs.lemmas.Bool.{cases_eq}
-use Rattle.std.proofs.lemmas.List.{append-nil, take-append-le, take_at, length-take}
+use Rattle.std.proofs.lemmas.List.{take-append-le, take_at, length-take}
 use Rattle.std.proofs.lemmas.Option.{slice_get_within, same_Some}
 use Rattle.post_ledger.specs.declared.event.Event.{Event}
 use Rattle.post_ledger.specs.declared.event.Event.TheVariants.{Post, Take, Done}
@@ -62,22 +62,6 @@ seam (z ∷ xs) x ys = seam xs x ys
 pub at_seam : {X : Type 0} (xs : List X) (x : X) (ys : List X) (n : ℕ) → length xs ≡ n → slice_get (xs ++ x ∷ ys) n ≡ Some x
 at_seam xs x ys n e = subst (λ k. slice_get (xs ++ x ∷ ys) k ≡ Some x) e (seam xs x ys)
 
--- the Post at a place is the one whose number is that of the Posts before it
-pub post_at : {M : Type 0} (h : List (Event M)) (i : ℕ) (s : ℕ) (m : M) (n : ℕ) → slice_get h i ≡ Some (Post s m)
-    → length (posts (take i h)) ≡ n → slice_get (posts h) n ≡ Some (s, m)
-post_at h i s m n at many =
-    let parts = split_at_element h i (Post s m) at in
-    let whole : posts h ≡ posts (take i h) ++ (s, m) ∷ posts parts.0 = ap posts parts.1 ∙ posts-append (take i h) (Post s m ∷ parts.0) in
-    subst (λ l. slice_get l n ≡ Some (s, m)) (sym whole) (at_seam (posts (take i h)) (s, m) (posts parts.0) n many)
-
--- an event that is not a Post adds none
-pub posts_skip : {M : Type 0} (h : List (Event M)) (i : ℕ) (e : Event M) → slice_get h i ≡ Some e → posts (e ∷ []) ≡ []
-    → posts (take (i + 1) h) ≡ posts (take i h)
-posts_skip h i e at none =
-    let parts = split_at_element h i e at in
-    ap (λ k. posts (take k h)) (add-one i) ∙ ap posts parts.2 ∙ posts-append (take i h) (e ∷ []) ∙ ap (λ l. posts (take i h) ++ l) none
-    ∙ append-nil (posts (take i h))
-
 -- there are no more Takes than events
 pub takes_few : {M : Type 0} (h : List (Event M)) → length (takes h) ≤ length h
 takes_few [] = omega arith
@@ -108,3 +92,9 @@ each_more h i e at here below j x short there =
           subst (λ k. MayFollow (take k h) x) (sym same) (subst (MayFollow (take i h)) (same_Some e x one) here)
       | inr other ↦ let less : j < i = omega arith in below j x less there
     ]
+
+-- the element of a list at a place inside it
+pub element_at : {X : Type 0} (xs : List X) (i : ℕ) → i < length xs → (x : X) × (slice_get xs i ≡ Some x)
+element_at [] i h = absurd (omega arith)
+element_at (x ∷ xs) zero h = (x, refl)
+element_at (x ∷ xs) (suc i) h = element_at xs i (omega arith)

@@ -1,11 +1,12 @@
 -- What each call of a mailbox keeps.
-use Rattle.std.proofs.Common.{◌≡◌, ℕ, ◌+◌, ◌<◌, ◌≤◌, List, [], ◌∷◌, ◌++◌, Some, true, false, length, take, slice_get, Contains, refl, sym}
-use Rattle.std.proofs.Common.{◌∙◌, ap, subst, arith, add-one, ◌-◌, ◌⊎◌, inl, inr, nat_eq}
-use Rattle.std.proofs.lemmas.List.{append-nil, length_push, take-append-le}
-use Rattle.std.proofs.lemmas.Option.{slice_get_within}
+use Rattle.std.proofs.Common.{◌≡◌, ℕ, zero, suc, ◌+◌, ◌^◌, ◌<◌, ◌≤◌, List, [], ◌∷◌, ◌++◌, Some, true, false, length, slice_get, Contains}
+use Rattle.std.proofs.Common.{refl, sym, ◌∙◌, ap, ap₂, subst, arith, ◌-◌, ◌⊎◌, inl, inr, nat_eq, ltb, get_or, take, add-one}
+use Rattle.std.proofs.lemmas.List.{append-nil, length_push}
+use Rattle.std.proofs.lemmas.List.Concat.{flat_map-append}
+use Rattle.std.proofs.lemmas.Option.{none-some, same_Some, slice_get_read, slice_get_within}
 use Rattle.std.specs.List.{IsDistinct, list_any}
 use Rattle.std.specs.Cmp.{nat_eq_equiv}
-use Rattle.std.proofs.lemmas.Bool.{cases_Bool, or_cases, eqb-true, false≢true}
+use Rattle.std.proofs.lemmas.Bool.{cases_Bool, or_cases, eqb-true, ltb-true, false≢true}
 use Rattle.std.proofs.lemmas.List.Folds.{list_any-append}
 use Rattle.std.proofs.lemmas.Map.Keys.{IsDistinct-push}
 use Rattle.std.proofs.lemmas.Map.Views.{Contains-from_any}
@@ -13,23 +14,10 @@ use Rattle.std.proofs.lemmas.Map.Steps.{length-le_from_distinct_below}
 use Rattle.post_ledger.specs.declared.event.Event.{Event}
 use Rattle.post_ledger.specs.declared.event.Event.TheVariants.{Post, Take, Done}
 use Rattle.post_ledger.specs.History.{posts, takes, dones}
-use Rattle.post_ledger.specs.Kept.{MailboxCounts}
-use Rattle.post_ledger.proofs.Histories.{posts-append, takes-append, dones-append, legal_push, split_at_element, post_at}
-
--- an empty mailbox
-pub counts_new : {M : Type 0} (capacity : ℕ) → MailboxCounts {M = M} [] capacity 0 0 0 0
-unfolding IsDistinct
-counts_new capacity = record {
-  legal = λ i e h. cc;
-  all_taken = refl;
-  all_posted = refl;
-  all_open = refl;
-  room = omega arith;
-  within = omega arith;
-  passed = refl;
-  once = tt;
-  earlier = λ t h. cc;
-}
+use Rattle.post_ledger.specs.declared.mailbox.Step.{Step}
+use Rattle.post_ledger.specs.declared.mailbox.Step.TheVariants as step
+use Rattle.post_ledger.specs.Kept.{AreNumbered, HistoryCounts, IsNumbered, MailboxCounts, event_of, events_of, post_of, take_of}
+use Rattle.post_ledger.proofs.Histories.{posts-append, takes-append, dones-append, legal_push, split_at_element, at_seam, element_at}
 
 -- the lists of a history with one more event
 takes_post : {M : Type 0} (h : List (Event M)) (s : ℕ) (m : M) → takes (h ++ Post s m ∷ []) ≡ takes h
@@ -50,68 +38,35 @@ posts_done h t = posts-append h (Done t ∷ []) ∙ append-nil (posts h)
 takes_done : {M : Type 0} (h : List (Event M)) (t : ℕ) → takes (h ++ Done t ∷ []) ≡ takes h
 takes_done h t = takes-append h (Done t ∷ []) ∙ append-nil (takes h)
 
--- a Post, if the room was reserved
-pub counts_post : {M : Type 0} (h : List (Event M)) (cap cap' n u t o s : ℕ) (m : M) → MailboxCounts h cap n u t o
-    → length h + (u + u + o + 3) ≤ cap' → MailboxCounts (h ++ Post s m ∷ []) cap' n (u + 1) t o
-counts_post h cap cap' n u t o s m kept room =
-    let long : length (h ++ Post s m ∷ []) ≡ length h + 1 = length_push h (Post s m) in
-    let more : length (posts (h ++ Post s m ∷ [])) ≡ length (posts h) + 1 = ap length (posts-append h (Post s m ∷ []))
-    ∙ length_push (posts h) (s, m) in
-    record {
-      legal = legal_push h (Post s m) kept.legal tt;
-      all_taken = ap length (takes_post h s m) ∙ kept.all_taken;
-      all_posted = omega (arith, more, kept.all_posted);
-      all_open = kept.all_open ∙ ap (λ l. length l + o) (sym (dones_post h s m));
-      room = omega (arith, long);
-      within = omega (arith, long, kept.within);
-      passed = ap (λ l. length (posts l)) (take-append-le n h (Post s m ∷ []) kept.within) ∙ kept.passed;
-      once = subst (IsDistinct nat_eq) (sym (dones_post h s m)) kept.once;
-      earlier = subst (λ l. (q : ℕ) → list_any (nat_eq q) l ≡ true → q < t) (sym (dones_post h s m)) kept.earlier;
-    }
+-- a history with one more Post
+history_post : {M : Type 0} (h : List (Event M)) (posted : List (ℕ × M)) (t o s : ℕ) (m : M) → HistoryCounts h posted t o
+    → HistoryCounts (h ++ Post s m ∷ []) (posted ++ (s, m) ∷ []) t o
+history_post h posted t o s m kept = record {
+  legal = legal_push h (Post s m) kept.legal tt;
+  all_posted = posts-append h (Post s m ∷ []) ∙ ap (λ l. l ++ (s, m) ∷ []) kept.all_posted;
+  all_taken = ap length (takes_post h s m) ∙ kept.all_taken;
+  all_open = kept.all_open ∙ ap (λ l. length l + o) (sym (dones_post h s m));
+  once = subst (IsDistinct nat_eq) (sym (dones_post h s m)) kept.once;
+  earlier = subst (λ l. (q : ℕ) → list_any (nat_eq q) l ≡ true → q < t) (sym (dones_post h s m)) kept.earlier;
+}
 
--- the Take of the oldest Post, which is at a place after which none was taken
-pub counts_take : {M : Type 0} (h : List (Event M)) (cap n u t o at s : ℕ) (m : M) → MailboxCounts h cap n u t o → 0 < u
-    → slice_get h at ≡ Some (Post s m) → posts (take at h) ≡ posts (take n h)
-    → MailboxCounts (h ++ Take s m ∷ []) cap (at + 1) (u - 1) (t + 1) (o + 1)
-counts_take h cap n u t o at s m kept some here skipped =
-    let long : length (h ++ Take s m ∷ []) ≡ length h + 1 = length_push h (Take s m) in
+-- with the Take of the oldest Post that was not taken
+history_take : {M : Type 0} (h : List (Event M)) (posted : List (ℕ × M)) (t o s : ℕ) (m : M) → HistoryCounts h posted t o
+    → slice_get posted t ≡ Some (s, m) → HistoryCounts (h ++ Take s m ∷ []) posted (t + 1) (o + 1)
+history_take h posted t o s m kept here =
     let more : length (takes (h ++ Take s m ∷ [])) ≡ length (takes h) + 1 = ap length (takes-append h (Take s m ∷ []))
     ∙ length_push (takes h) (s, m) in
-    let inside : at < length h = slice_get_within h at (Post s m) here in
-    let before : length (posts (take at h)) ≡ t = ap length skipped ∙ kept.passed in
-    let parts = split_at_element h at (Post s m) here in
-    let few : at + 1 ≤ length h = omega arith in
-    let through : posts (take (at + 1) (h ++ Take s m ∷ [])) ≡ posts (take at h) ++ (s, m) ∷ [] =
-    ap posts (take-append-le (at + 1) h (Take s m ∷ []) few ∙ ap (λ k. take k h) (add-one at) ∙ parts.2)
-    ∙ posts-append (take at h) (Post s m ∷ []) in
     record {
-      legal = legal_push h (Take s m) kept.legal (post_at h at s m (length (takes h)) here (before ∙ sym kept.all_taken));
+      legal = legal_push h (Take s m) kept.legal
+          (subst (λ l. slice_get l (length (takes h)) ≡ Some (s, m)) (sym kept.all_posted)
+          (subst (λ n. slice_get posted n ≡ Some (s, m)) (sym kept.all_taken) here));
+      all_posted = posts_take h s m ∙ kept.all_posted;
       all_taken = omega (arith, more, kept.all_taken);
-      all_posted = omega (arith, ap length (posts_take h s m), kept.all_posted);
       all_open = omega (arith, ap length (dones_take h s m), kept.all_open);
-      room = omega (arith, long, kept.room);
-      within = omega (arith, long);
-      passed = ap length through ∙ length_push (posts (take at h)) (s, m) ∙ ap (λ k. k + 1) before;
       once = subst (IsDistinct nat_eq) (sym (dones_take h s m)) kept.once;
       earlier =
           subst (λ l. (q : ℕ) → list_any (nat_eq q) l ≡ true → q < t + 1) (sym (dones_take h s m)) (λ q e. omega (arith, kept.earlier q e));
     }
-
--- the same events with more room
-pub counts_grow : {M : Type 0} (h h' : List (Event M)) (cap cap' n u t o : ℕ) → h' ≡ h → cap ≤ cap' → MailboxCounts h cap n u t o
-    → MailboxCounts h' cap' n u t o
-counts_grow h h' cap cap' n u t o same grown kept =
-    subst (λ l. MailboxCounts l cap' n u t o) (sym same) (record {
-      legal = kept.legal;
-      all_taken = kept.all_taken;
-      all_posted = kept.all_posted;
-      all_open = kept.all_open;
-      room = omega (arith, kept.room);
-      within = kept.within;
-      passed = kept.passed;
-      once = kept.once;
-      earlier = kept.earlier;
-    })
 
 -- a number that is not in a list is not found there
 pub not_found : (xs : List ℕ) (q : ℕ) → (Contains xs q → ⊥) → list_any (nat_eq q) xs ≡ false
@@ -132,9 +87,9 @@ pub more_earlier : (xs : List ℕ) (t q : ℕ) → ((k : ℕ) → list_any (nat_
 more_earlier xs t q earlier old k e = elim (found_push xs q k e) [ inl found ↦ earlier k found | inr same ↦ omega (arith, same) ]
 
 -- a Take that no Done names is open
-pub some_open : {M : Type 0} (h : List (Event M)) (cap n u t o q : ℕ) → MailboxCounts h cap n u t o → q < length (takes h)
-    → (Contains (dones h) q → ⊥) → 0 < o
-some_open h cap n u t o q kept old fresh =
+pub some_open : {M : Type 0} (h : List (Event M)) (posted : List (ℕ × M)) (t o q : ℕ) → HistoryCounts h posted t o
+    → q < length (takes h) → (Contains (dones h) q → ⊥) → 0 < o
+some_open h posted t o q kept old fresh =
     let early : q < t = omega (arith, kept.all_taken) in
     let more =
     length-le_from_distinct_below (dones h ++ q ∷ []) t
@@ -142,23 +97,205 @@ some_open h cap n u t o q kept old fresh =
     (more_earlier (dones h) t q kept.earlier early) in
     omega (arith, more, length_push (dones h) q, kept.all_open)
 
--- the Done of an open Take
-pub counts_done : {M : Type 0} (h : List (Event M)) (cap n u t o q : ℕ) → MailboxCounts h cap n u t o → q < length (takes h)
-    → (Contains (dones h) q → ⊥) → MailboxCounts (h ++ Done q ∷ []) cap n u t (o - 1)
-counts_done h cap n u t o q kept old fresh =
-    let long : length (h ++ Done q ∷ []) ≡ length h + 1 = length_push h (Done q) in
-    let open_one : 0 < o = some_open h cap n u t o q kept old fresh in
+-- with the Done of an open Take
+history_done : {M : Type 0} (h : List (Event M)) (posted : List (ℕ × M)) (t o q : ℕ) → HistoryCounts h posted t o
+    → q < length (takes h) → (Contains (dones h) q → ⊥) → HistoryCounts (h ++ Done q ∷ []) posted t (o - 1)
+history_done h posted t o q kept old fresh =
+    let open_one : 0 < o = some_open h posted t o q kept old fresh in
     let early : q < t = omega (arith, kept.all_taken) in
     let names : dones (h ++ Done q ∷ []) ≡ dones h ++ q ∷ [] = dones-append h (Done q ∷ []) in
     let more : length (dones (h ++ Done q ∷ [])) ≡ length (dones h) + 1 = ap length names ∙ length_push (dones h) q in
     record {
       legal = legal_push h (Done q) kept.legal (old, fresh);
+      all_posted = posts_done h q ∙ kept.all_posted;
       all_taken = ap length (takes_done h q) ∙ kept.all_taken;
-      all_posted = ap length (posts_done h q) ∙ kept.all_posted;
       all_open = omega (arith, more, kept.all_open);
-      room = omega (arith, long, kept.room);
-      within = omega (arith, long, kept.within);
-      passed = ap (λ l. length (posts l)) (take-append-le n h (Done q ∷ []) kept.within) ∙ kept.passed;
       once = subst (IsDistinct nat_eq) (sym names) (IsDistinct-push nat_eq_equiv (dones h) q kept.once (not_found (dones h) q fresh));
       earlier = subst (λ l. (k : ℕ) → list_any (nat_eq k) l ≡ true → k < t) (sym names) (more_earlier (dones h) t q kept.earlier early);
     }
+
+-- ---- the steps
+
+-- an element of a list is at its place with one more at the end
+get_front : {X : Type 0} (xs : List X) (y : X) (i : ℕ) → i < length xs → slice_get (xs ++ y ∷ []) i ≡ slice_get xs i
+get_front [] y i h = absurd (omega (arith, h))
+get_front (x ∷ xs) y zero h = refl
+get_front (x ∷ xs) y (suc i) h = get_front xs y i (omega (arith, h))
+
+module _ {M : Type 0} where
+  -- one more Post changes no event before it
+  same_event : (posted : List (ℕ × M)) (p : ℕ × M) (s : Step) → IsNumbered (length posted) s
+      → event_of (posted ++ p ∷ []) s ≡ event_of posted s
+  same_event posted p (step.Post number) h = ap post_of (get_front posted p number h)
+  same_event posted p (step.Take number) h = ap take_of (get_front posted p number h)
+  same_event posted p (step.Done number) h = refl
+
+  same_events : (posted : List (ℕ × M)) (p : ℕ × M) (ss : List Step) → AreNumbered (length posted) ss
+      → events_of (posted ++ p ∷ []) ss ≡ events_of posted ss
+  same_events posted p [] h = refl
+  same_events posted p (s ∷ ss) h = ap₂ (λ x y. x ++ y) (same_event posted p s h.0) (same_events posted p ss h.1)
+
+-- numbers below a count are below a greater one
+number_below : (few many : ℕ) (s : Step) → few ≤ many → IsNumbered few s → IsNumbered many s
+number_below few many (step.Post number) le h = omega (arith, h)
+number_below few many (step.Take number) le h = omega (arith, h)
+number_below few many (step.Done number) le h = tt
+
+numbers_below : (few many : ℕ) (ss : List Step) → few ≤ many → AreNumbered few ss → AreNumbered many ss
+numbers_below few many [] le h = tt
+numbers_below few many (s ∷ ss) le h = (number_below few many s le h.0, numbers_below few many ss le h.1)
+
+numbers_push : (count : ℕ) (ss : List Step) (s : Step) → AreNumbered count ss → IsNumbered count s → AreNumbered count (ss ++ s ∷ [])
+numbers_push count [] s h new = (new, tt)
+numbers_push count (x ∷ ss) s h new = (h.0, numbers_push count ss s h.1 new)
+
+-- ---- the mailbox
+
+-- an empty mailbox
+pub counts_new : {M : Type 0} (capacity : ℕ) → MailboxCounts {M = M} [] [] capacity 0 0
+unfolding IsDistinct
+counts_new capacity = record {
+  history = record {
+    legal = λ i e h. cc;
+    all_posted = refl;
+    all_taken = refl;
+    all_open = refl;
+    once = tt;
+    earlier = λ t h. cc;
+  };
+  numbered = tt;
+  within = omega arith;
+  few = omega arith;
+  room = omega arith;
+}
+
+-- the events with one more step
+pub posted_event : {M : Type 0} (posted : List (ℕ × M)) (ss : List Step) (s : ℕ) (m : M) → AreNumbered (length posted) ss
+    → events_of (posted ++ (s, m) ∷ []) (ss ++ step.Post (length posted) ∷ []) ≡ events_of posted ss ++ Post s m ∷ []
+posted_event posted ss s m numbered =
+    let all = posted ++ (s, m) ∷ [] in
+    flat_map-append (event_of all) ss (step.Post (length posted) ∷ [])
+    ∙ ap₂ (λ x y. x ++ (y ++ [])) (same_events posted (s, m) ss numbered)
+    (ap post_of (at_seam posted (s, m) [] (length posted) refl))
+
+pub taken_event : {M : Type 0} (posted : List (ℕ × M)) (ss : List Step) (n s : ℕ) (m : M) → slice_get posted n ≡ Some (s, m)
+    → events_of posted (ss ++ step.Take n ∷ []) ≡ events_of posted ss ++ Take s m ∷ []
+taken_event posted ss n s m here =
+    flat_map-append (event_of posted) ss (step.Take n ∷ []) ∙ ap (λ y. events_of posted ss ++ (take_of y ++ [])) here
+
+pub done_event : {M : Type 0} (posted : List (ℕ × M)) (ss : List Step) (q : ℕ)
+    → events_of posted (ss ++ step.Done q ∷ []) ≡ events_of posted ss ++ Done q ∷ []
+done_event posted ss q = flat_map-append (event_of posted) ss (step.Done q ∷ [])
+
+-- a Post, if the room was reserved
+pub counts_post : {M : Type 0} (posted : List (ℕ × M)) (ss : List Step) (cap cap' t o s : ℕ) (m : M)
+    → MailboxCounts posted ss cap t o → length posted < 2 ^ 32
+    → length ss + ((length posted - t) + (length posted - t) + o + 3) ≤ cap'
+    → MailboxCounts (posted ++ (s, m) ∷ []) (ss ++ step.Post (length posted) ∷ []) cap' t o
+counts_post posted ss cap cap' t o s m kept short room =
+    let more : length (posted ++ (s, m) ∷ []) ≡ length posted + 1 = length_push posted (s, m) in
+    let long = length_push ss (step.Post (length posted)) in
+    let all = length (posted ++ (s, m) ∷ []) in
+    let last : IsNumbered all (step.Post (length posted)) = omega (arith, more) in
+    record {
+      history = subst (λ h. HistoryCounts h (posted ++ (s, m) ∷ []) t o) (sym (posted_event posted ss s m kept.numbered))
+          (history_post (events_of posted ss) posted t o s m kept.history);
+      numbered = numbers_push all ss (step.Post (length posted))
+          (numbers_below (length posted) all ss (omega (arith, more)) kept.numbered) last;
+      within = omega (arith, more, kept.within);
+      few = omega (arith, more, short);
+      room = omega (arith, more, long, room, kept.within);
+    }
+
+-- the Take of the oldest Post that was not taken
+pub counts_take : {M : Type 0} (posted : List (ℕ × M)) (ss : List Step) (cap t o s : ℕ) (m : M) → MailboxCounts posted ss cap t o
+    → slice_get posted t ≡ Some (s, m) → MailboxCounts posted (ss ++ step.Take t ∷ []) cap (t + 1) (o + 1)
+counts_take posted ss cap t o s m kept here =
+    let inside : t < length posted = slice_get_within posted t (s, m) here in
+    let long = length_push ss (step.Take t) in
+    record {
+      history = subst (λ h. HistoryCounts h posted (t + 1) (o + 1)) (sym (taken_event posted ss t s m here))
+          (history_take (events_of posted ss) posted t o s m kept.history here);
+      numbered = numbers_push (length posted) ss (step.Take t) kept.numbered inside;
+      within = omega (arith, inside);
+      few = kept.few;
+      room = omega (arith, long, inside, kept.room);
+    }
+
+-- the Done of an open Take
+pub counts_done : {M : Type 0} (posted : List (ℕ × M)) (ss : List Step) (cap t o q : ℕ) → MailboxCounts posted ss cap t o
+    → q < length (takes (events_of posted ss)) → (Contains (dones (events_of posted ss)) q → ⊥)
+    → MailboxCounts posted (ss ++ step.Done q ∷ []) cap t (o - 1)
+counts_done posted ss cap t o q kept old fresh =
+    let some = some_open (events_of posted ss) posted t o q kept.history old fresh in
+    let long = length_push ss (step.Done q) in
+    record {
+      history = subst (λ h. HistoryCounts h posted t (o - 1)) (sym (done_event posted ss q))
+          (history_done (events_of posted ss) posted t o q kept.history old fresh);
+      numbered = numbers_push (length posted) ss (step.Done q) kept.numbered tt;
+      within = kept.within;
+      few = kept.few;
+      room = omega (arith, long, some, kept.room);
+    }
+
+-- the same lists with more room
+pub counts_grow : {M : Type 0} (posted posted' : List (ℕ × M)) (ss ss' : List Step) (cap cap' t o : ℕ) → posted' ≡ posted
+    → ss' ≡ ss → cap ≤ cap' → MailboxCounts posted ss cap t o → MailboxCounts posted' ss' cap' t o
+counts_grow posted posted' ss ss' cap cap' t o same steps grown kept =
+    subst (λ l. MailboxCounts l ss' cap' t o) (sym same)
+    (subst (λ l. MailboxCounts posted l cap' t o) (sym steps) (record {
+      history = kept.history;
+      numbered = kept.numbered;
+      within = kept.within;
+      few = kept.few;
+      room = omega (arith, grown, kept.room);
+    }))
+
+-- ---- the event of a number
+
+-- what was read at a place of the steps
+pub read_there : (steps read : List Step) (i : ℕ) (s x : Step) → read ≡ steps → true ≡ ltb i (length read)
+    → s ≡ get_or read i s → s ≡ x → slice_get steps i ≡ Some x
+read_there steps read i s x same inside here is =
+    subst (λ l. slice_get l i ≡ Some x) same
+    (slice_get_read read (length read) i s refl (ltb-true i (length read) (sym inside)) here ∙ ap Some is)
+
+-- a numbered step is one event
+pub one_event : {M : Type 0} (posted : List (ℕ × M)) (s : Step) → IsNumbered (length posted) s
+    → (e : Event M) × (event_of posted s ≡ e ∷ [])
+one_event posted (step.Post number) h = let (p, at) = element_at posted number h in (Post p.0 p.1, ap post_of at)
+one_event posted (step.Take number) h = let (p, at) = element_at posted number h in (Take p.0 p.1, ap take_of at)
+one_event posted (step.Done number) h = (Done number, refl)
+
+-- as many events as steps
+pub as_many : {M : Type 0} (posted : List (ℕ × M)) (ss : List Step) → AreNumbered (length posted) ss
+    → length (events_of posted ss) ≡ length ss
+as_many posted [] h = refl
+as_many posted (s ∷ ss) h =
+    let (e, one) = one_event posted s h.0 in
+    ap (λ l. length (l ++ events_of posted ss)) one ∙ ap suc (as_many posted ss h.1)
+
+-- the number of a step of a list is below the count
+pub number_there : (count : ℕ) (ss : List Step) (i : ℕ) (s : Step) → AreNumbered count ss → slice_get ss i ≡ Some s
+    → IsNumbered count s
+number_there count [] i s h at = absurd (none-some s at)
+number_there count (x ∷ ss) zero s h at = subst (IsNumbered count) (same_Some x s at) h.0
+number_there count (x ∷ ss) (suc i) s h at = number_there count ss i s h.1 at
+
+-- the event of the step with a number is the event with that number
+pub event_there : {M : Type 0} (posted : List (ℕ × M)) (ss : List Step) (i : ℕ) (s : Step) (e : Event M)
+    → AreNumbered (length posted) ss → slice_get ss i ≡ Some s → event_of posted s ≡ e ∷ []
+    → slice_get (events_of posted ss) i ≡ Some e
+event_there posted [] i s e h at is = absurd (none-some s at)
+event_there posted (x ∷ ss) zero s e h at is =
+    ap (λ l. slice_get (l ++ events_of posted ss) 0) (ap (event_of posted) (same_Some x s at) ∙ is)
+event_there posted (x ∷ ss) (suc i) s e h at is =
+    let (f, one) = one_event posted x h.0 in
+    ap (λ l. slice_get (l ++ events_of posted ss) (suc i)) one ∙ event_there posted ss i s e h.1 at is
+
+-- the events before a number, with the event of that number
+pub one_more : {M : Type 0} (h front : List (Event M)) (i : ℕ) (e : Event M) → slice_get h i ≡ Some e → front ≡ take i h
+    → front ++ e ∷ [] ≡ take (i + 1) h
+one_more h front i e at so_far =
+    let parts = split_at_element h i e at in
+    ap (λ l. l ++ e ∷ []) so_far ∙ sym (ap (λ k. take k h) (add-one i) ∙ parts.2)

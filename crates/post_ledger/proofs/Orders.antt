@@ -18,6 +18,7 @@ use Rattle.post_ledger.specs.History.{posts, takes, dones, MayFollow, IsLegal}
 use Rattle.post_ledger.specs.Orders.{mailbox_of, event_of, maker_of, part, own, posted, completed, HasJob, IsLawful, IsCompleted, IsClosed}
 use Rattle.post_ledger.proofs.Histories.{posts-append, takes-append, dones-append, at_push_cases, legal_push, split_at_element, at_seam}
 use Rattle.post_ledger.proofs.Keeping.{not_found, more_earlier}
+pub use Rattle.post_ledger.proofs.Histories.{element_at}
 
 -- the first element of a list that is kept or not stays in front of what is appended
 front_kept : {X : Type 0} (b : Bool) (x : X) (l m r : List X) → r ≡ l ++ m → cond b (x ∷ r) r ≡ cond b (x ∷ l) l ++ m
@@ -27,12 +28,6 @@ front_kept false x l m r e = e
 take_front : {X : Type 0} (a b : List X) → take (length a) (a ++ b) ≡ a
 take_front [] b = refl
 take_front (x ∷ a) b = ap (λ r. x ∷ r) (take_front a b)
-
--- the element of a list at a place inside it
-pub element_at : {X : Type 0} (xs : List X) (i : ℕ) → i < length xs → (x : X) × (slice_get xs i ≡ Some x)
-element_at [] i h = absurd (omega arith)
-element_at (x ∷ xs) zero h = (x, refl)
-element_at (x ∷ xs) (suc i) h = element_at xs i (omega arith)
 
 module _ {M : Type 0} where
   pub part-append : (q : ℕ) (a b : List (Entry M)) → part q (a ++ b) ≡ part q a ++ part q b

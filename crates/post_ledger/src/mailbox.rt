@@ -1,24 +1,31 @@
 //! The mailbox.
-ghost use Rattle.std.specs.Prelude.{◌≡◌, ◌<◌, ◌≤◌, ◌++◌, ◌∷◌, ◌↔◌, [], length, slice_get, take};
+ghost use Rattle.std.specs.Prelude.{◌≡◌, ◌<◌, ◌++◌, ◌∷◌, ◌↔◌, [], length, slice_get};
 ghost use Rattle.std.specs.Prelude.{Contains};
-ghost use Rattle.std.specs.Prelude.{OnOk, IfErr, IfSome, IfNone, IsNone};
+ghost use Rattle.std.specs.Prelude.{OnOk, IfErr, IfOk, IfSome, IfNone, IsNone};
 ghost use Rattle.post_ledger.specs.History.{posts, takes, dones, IsLegal, TakesOldest};
 
 use crate::event::Event;
-use std::alloc::Allocator;
+use std::alloc::{AllocError, Allocator};
 use std::marker::Model;
 
-/// A mailbox: messages are taken in the order in which they were posted, and nothing is ever forgotten.
-/// In clauses it is its history.
+/// An event without its message: the number of a Post if it is one or took one, and of a Take if it completed one, both
+/// counted from 0.
+#[derive(Clone, Copy)]
+pub(crate) enum Step {
+    Post(u32),
+    Take(u32),
+    Done(u32),
+}
+
+/// A mailbox: messages are taken in the order in which they were posted, and nothing is ever forgotten. It keeps each
+/// message once. In clauses it is its history.
 #[derive(Drop)]
 pub struct Mailbox<M, A: Allocator> {
+    /// The senders and messages of the Posts so far.
+    posted: Vec<(u8, M), A>,
     /// The events so far, with spare room for a Take and a Done of each Post that lacks them.
-    events: Vec<Event<M>, A>,
-    /// Where to look for the next Post to take: all Posts before this event are taken.
-    next: usize,
-    /// How many Posts are not taken.
-    untaken: usize,
-    /// How many Takes there are.
+    steps: Vec<Step, A>,
+    /// How many Takes there are: the next one takes the Post with this number.
     taken: usize,
     /// How many Takes are not completed.
     open: usize,
@@ -30,62 +37,46 @@ impl<M, A: Allocator> Model for Mailbox<M, A> {
 
     ghost Value = { List (Event M) };
 
-    ghost use Rattle.post_ledger.specs.Kept.{IsKept};
+    ghost use Rattle.post_ledger.specs.Kept.{IsKept, events_of};
 
-    ghost view = { λ m. m.events.items };
+    ghost view = { λ m. events_of m.posted.items m.steps.items };
 
     ghost invariant = { IsKept };
 }
 
-/// The first Post from a place on: its place, sender and message.
-fn next_post<M: Copy>(events: &[Event<M>], from: usize) -> Option<(usize, u8, M)>
-    requires { from ≤ length events.now }
-    ensures found { IfSome result
-        (λ f. (from ≤ f.0) × (slice_get events.now f.0 ≡ Some (Event.Post f.1 f.2))) }
-    ensures skipped { IfSome result
-        (λ f. posts (take f.0 events.now) ≡ posts (take from events.now)) }
-    ensures none { IfNone result (posts events.now ≡ posts (take from events.now)) }
-{
-    let mut at = from;
-    while at < events.len() {
-        match events[at] {
-            Event::Post { sender, message } => return Some((at, sender, message)),
-            Event::Take { .. } => at += 1,
-            Event::Done { .. } => at += 1,
-        }
-    }
-    None
-}
-
 impl<M: Copy, A: Allocator> Mailbox<M, A> {
-    /// A mailbox with no events. Takes no memory.
-    pub fn new(alloc: A) -> Self
+    /// A mailbox with no events, with an allocator for its messages and one for its events. Takes no memory.
+    pub fn new(messages: A, events: A) -> Self
         ensures { result ≡ [] }
     {
         Mailbox {
-            events: Vec::new(alloc),
-            next: 0,
-            untaken: 0,
+            posted: Vec::new(messages),
+            steps: Vec::new(events),
             taken: 0,
             open: 0,
         }
     }
 
     /// Posts a message of a sender, and reserves the places of its Take and its Done. If memory for that is
-    /// refused, the message comes back.
+    /// refused, or 2^32 messages were posted, the message comes back.
     pub fn post(&mut self, sender: u8, message: M) -> Result<(), M>
         ensures ok { OnOk result (self.new ≡ self.old ++ Event.Post sender message ∷ []) }
         ensures err { IfErr result (λ back. (back ≡ message) × (self.new ≡ self.old)) }
     {
-        let owed = self.untaken + self.untaken + self.open;
-        match self.events.reserve(owed + 3) {
-            Err(_) => Err(message),
-            Ok(()) => {
-                self.events.push_reserved(Event::Post { sender, message });
-                self.untaken += 1;
-                Ok(())
-            }
+        let Ok(number) = u32::try_from(self.posted.len()) else {
+            return Err(message);
+        };
+        let untaken = self.posted.len() - self.taken;
+        let owed = untaken + untaken + self.open;
+        if let Err(_) = self.posted.reserve(1) {
+            return Err(message);
         }
+        if let Err(_) = self.steps.reserve(owed + 3) {
+            return Err(message);
+        }
+        self.posted.push_reserved((sender, message));
+        self.steps.push_reserved(Step::Post(number));
+        Ok(())
     }
 
     /// Takes the oldest message that is not taken, with the number of its Take: `None` if and only if every
@@ -110,17 +101,15 @@ impl<M: Copy, A: Allocator> Mailbox<M, A> {
             × (slice_get (posts self.old) (length (takes self.old)) ≡ Some (t.1, t.2))
             × (self.new ≡ self.old ++ Event.Take t.1 t.2 ∷ [])) }
     {
-        if self.untaken == 0 {
+        let number = self.taken;
+        if number >= self.posted.len() {
             return None;
         }
-        let (at, sender, message) = next_post(&self.events, self.next)?;
-        let number = self.taken as u64;
-        self.events.push_reserved(Event::Take { sender, message });
-        self.next = at + 1;
+        let (sender, message) = self.posted[number];
+        self.steps.push_reserved(Step::Take(number as u32));
         self.taken += 1;
-        self.untaken -= 1;
         self.open += 1;
-        Some((number, sender, message))
+        Some((number as u64, sender, message))
     }
 
     /// Records that the take of this number is completed. Takes no memory.
@@ -129,15 +118,57 @@ impl<M: Copy, A: Allocator> Mailbox<M, A> {
         requires open { Contains (dones self.old) take → ⊥ }
         ensures { self.new ≡ self.old ++ Event.Done take ∷ [] }
     {
-        self.events.push_reserved(Event::Done { take });
+        self.steps.push_reserved(Step::Done(take as u32));
         self.open -= 1;
     }
 
-    /// The events so far, the oldest first.
-    pub fn history(&self) -> &[Event<M>]
-        ensures all { result.now ≡ self.now }
-        ensures legal { IsLegal result.now }
+    /// How many messages were taken.
+    pub fn taken(&self) -> usize
+        ensures { result ≡ length (takes self.now) }
     {
-        self.events.as_slice()
+        self.taken
+    }
+
+    /// How many events there are.
+    pub fn len(&self) -> usize
+        ensures { result ≡ length self.now }
+    {
+        self.steps.len()
+    }
+
+    /// The event with this number, counted from 0, the oldest first.
+    pub fn event(&self, number: usize) -> Option<Event<M>>
+        ensures { result ≡ slice_get self.now number }
+    {
+        let event = match *self.steps.get(number)? {
+            Step::Post(post) => {
+                let (sender, message) = self.posted[post as usize];
+                Event::Post { sender, message }
+            }
+            Step::Take(post) => {
+                let (sender, message) = self.posted[post as usize];
+                Event::Take { sender, message }
+            }
+            Step::Done(take) => Event::Done {
+                take: u64::from(take),
+            },
+        };
+        Some(event)
+    }
+
+    /// A list of the events so far, the oldest first. An error means that there is no memory for the list.
+    pub fn history<L: Allocator>(&self, alloc: L) -> Result<Vec<Event<M>, L>, AllocError>
+        ensures all { IfOk result (λ list. list.items ≡ self.now) }
+        ensures legal { IsLegal self.now }
+    {
+        // What the mailbox keeps of its fields is known where one of them is used.
+        let _ = &self.steps;
+        let mut list = Vec::with_capacity(alloc, self.len())?;
+        for number in 0..self.len() {
+            if let Some(event) = self.event(number) {
+                list.push(event)?;
+            }
+        }
+        Ok(list)
     }
 }

@@ -2,7 +2,7 @@
 use Rattle.std.proofs.Common.{◌≡◌, ◌≢◌, ◌⊎◌, inl, inr, ℕ, ◌<◌, ◌∷◌, ◌++◌, [], List, Some, None, Ok, Err}
 use Rattle.std.proofs.Common.{length, slice_get, refl, sym, ap, ◌∙◌, subst, arith, false, MatchOption}
 use Rattle.std.specs.Prelude.{◌↔◌, Option, Result, IsSome, IsErrAnd, MatchResult}
-use Rattle.std.specs.Option.{ForSome}
+use Rattle.std.specs.Option.{ForSome, IfNone}
 use Rattle.atomic_table.specs.Seated.{TableId}
 use Rattle.ticket_lock.specs.Proved.Facts.{StartsWith-trans}
 use Rattle.std.proofs.lemmas.Option.{slice_get_within}
@@ -10,7 +10,6 @@ use Rattle.std.proofs.lemmas.List.{map-append}
 use Rattle.post_ledger.specs.declared.entry.Entry.{Entry}
 use Rattle.post_ledger.specs.declared.entry.Entry.TheVariants.{Posted, Taken, Completed}
 use Rattle.post_ledger.specs.Orders.{own, HasJob}
-use Rattle.language.specs.Lists.{Member}
 use Rattle.language.specs.Step.{Program}
 use Rattle.language.proofs.Members.{member_left, member_right, member_append}
 use Rattle.language.proofs.Entering.{due_there}
@@ -57,7 +56,7 @@ use Rattle.procedure_worker.specs.Own.{taken_in, posted_in}
 use Rattle.procedure_worker.specs.Stops.{cause_of, end_of, lack_of, end_at, RefusedFor, FailsFor, TakesOrFails}
 use Rattle.procedure_worker.specs.Works.{Start, IsPassOf, IsFresh, HasStood, HasFailed, Stands, HasSent, EndsSo, IsReady, IsTaking}
 use Rattle.procedure_worker.specs.Works.{IsDealing, IsSending, IsStopped, HasStopped, Failed, Completes, StopsSo, StoppedFor, IsAtFault}
-use Rattle.procedure_worker.specs.Works.{IsFounded, mails_of, cause_for}
+use Rattle.procedure_worker.specs.Works.{IsFounded, MayGoOn, cause_for, took_by}
 use Rattle.procedure_worker.proofs.Lists.{taken_post, taken_take, taken_done, posted_post, posted_take, posted_done}
 
 -- what is said of an error holds for an answer that is this error
@@ -240,11 +239,11 @@ module _ {G : Type 0} (b : Start G) where
         (sent : List (ℕ × Due)) →
         Stands b members s x took sent → s.made ≡ false → HasStood b (cause_of why) s
         → IsAtFault (end.Failed (cause_of why)) x → Failed FitsIn why e s t
-        → EndsSo b members (end_of e) t x took sent × IsAtFault (end_of e) x
+        → ((took : List Due) × (sent : List (ℕ × Due)) × EndsSo b members (end_of e) t x took sent) × IsAtFault (end_of e) x
     failed_ends why e s t x took sent k made stood fault f =
         let c = cause_of why in
-        subst (λ z. EndsSo b members (end_of z) t x took sent × IsAtFault (end_of z) x) (sym f.0)
-        ((stands_abort c s t x took sent k f.1, has_failed c s t k.pass made stood f.1), fault)
+        subst (λ z. ((l : List Due) × (m : List (ℕ × Due)) × EndsSo b members (end_of z) t x l m) × IsAtFault (end_of z) x) (sym f.0)
+        ((took, sent, (stands_abort c s t x took sent k f.1, has_failed c s t k.pass made stood f.1)), fault)
 
     -- The message is completed, and all that is implied was posted: the worker is ready, or was without a call.
     pub complete_ends : {P : Type 0} (job : ℕ) (r : Option Finish) (s t : Sight Due (Graphs G)) (w : Worker P G A S) (pass : P)
@@ -253,10 +252,12 @@ module _ {G : Type 0} (b : Start G) where
         (λ e. HasStopped b members e t (record w { pass = pass }))
     complete_ends job None s t w pass d quiet done =
         let g = d.sent.0 in record {
+          took = d.took;
+          sent = d.posts;
           served = (
             (
               record {
-                stands = stands_done job s t w.table w.takes.items w.posts.items g.stands done;
+                stands = stands_done job s t w.table d.took d.posts g.stands done;
                 made = done.made ∙ g.made;
                 whole = g.whole;
                 all = g.all;
@@ -268,7 +269,7 @@ module _ {G : Type 0} (b : Start G) where
         }
     complete_ends job (Some e) s t w pass d quiet failed =
         let g = d.sent.0 in
-        failed_ends reason.Spent e s t w.table w.takes.items w.posts.items g.stands g.made failed.0
+        failed_ends reason.Spent e s t w.table d.took d.posts g.stands g.made failed.0
         (not_at_fault (end.Failed cause.Spent) w.table g.whole) failed.1
 
     -- The worker stops, for its reason.
@@ -278,13 +279,17 @@ module _ {G : Type 0} (b : Start G) where
     stopped_ends job stop.Aborted e s t w k so = elim so [
       | inl done ↦ subst (λ z. HasStopped b members z t w) (sym done.0) (
         (
-          stands_done job s t w.table w.takes.items w.posts.items k.stands done.1,
-          done.1.made ∙ k.made,
-          abort_stays done.1.goes,
+          k.took,
+          k.posts,
+          (
+            stands_done job s t w.table k.took k.posts k.stands done.1,
+            done.1.made ∙ k.made,
+            abort_stays done.1.goes,
+          ),
         ),
         k.fault,
       )
-      | inr failed ↦ failed_ends reason.Spent e s t w.table w.takes.items w.posts.items k.stands k.made failed.0
+      | inr failed ↦ failed_ends reason.Spent e s t w.table k.took k.posts k.stands k.made failed.0
           (not_at_abort (end.Failed cause.Spent) w.table k.fault) failed.1
     ]
       where
@@ -296,7 +301,7 @@ module _ {G : Type 0} (b : Start G) where
         abort_stays g = let z = known s.seen.aborted k.reason in ap Rattle.std.specs.Prelude.is_some
             (g.before.aborted z.0 z.1)
     stopped_ends job (stop.Failed why) e s t w k so =
-        failed_ends why e s t w.table w.takes.items w.posts.items k.stands k.made k.reason k.fault so
+        failed_ends why e s t w.table k.took k.posts k.stands k.made k.reason k.fault so
 
     -- A table that has kept what it took is that of the procedure still.
     table_keeps : (f : Option TableFault) (p : Program) (q : ℕ) (x y : Table G A S) → IsTableOf members p q x
@@ -337,11 +342,13 @@ module _ {G : Type 0} (b : Start G) where
         IsSending b members job to d s (record w { table = y })
     answered_sending job to d s w y deals keeps answer =
         let g = deals.sent.0 in
-        let stands = stands_keeps None s w.table y w.takes.items w.posts.items g.stands keeps in
+        let stands = stands_keeps None s w.table y deals.took deals.posts g.stands keeps in
         let pass = g.stands.pass in
         let p = pass.drawn.0 in
         let due : IsDueFor p to d = answer_due members p b.number y (stands.table p pass.drawn.1) w.table to d answer in
         record {
+          took = deals.took;
+          posts = deals.posts;
           goes = record {
             stands = stands;
             made = g.made;
@@ -361,12 +368,14 @@ module _ {G : Type 0} (b : Start G) where
         IsStopped b members job (stop.Failed why) s (record w { table = y })
     table_stops job f why s w y same deals keeps =
         let g = deals.sent.0 in
-        let stands = stands_keeps (Some f) s w.table y w.takes.items w.posts.items g.stands keeps in record {
+        let stands = stands_keeps (Some f) s w.table y deals.took deals.posts g.stands keeps in record {
+          took = deals.took;
+          posts = deals.posts;
           stands = stands;
           made = g.made;
           has = deals.has;
           reason = subst (λ c. HasStood b c s) (sym same)
-              (fault_stood f s s y w.takes.items w.posts.items stands keeps.fault);
+              (fault_stood f s s y deals.took deals.posts stands keeps.fault);
           fault = subst (λ c. IsAtFault (end.Failed c) y) (sym same) (at_fault f y keeps.fault);
         }
 
@@ -382,56 +391,44 @@ module _ {G : Type 0} (b : Start G) where
     -- The message is posted.
     pub sent_dealing : {P : Type 0} (job to : ℕ) (d : Due) (s t : Sight Due (Graphs G)) (v w : Worker P G A S)
         → IsSending b members job to d s v →
-        WasPosted FitsIn job to d s t → w.table ≡ v.table → w.takes ≡ v.takes
-        → w.posts.items ≡ v.posts.items ++ (to, d) ∷ [] →
-        IsDealing b members job t w
-    sent_dealing job to d s t v w k p table takes posts =
+        WasPosted FitsIn job to d s t → w.table ≡ v.table → IsDealing b members job t w
+    sent_dealing job to d s t v w k p table =
         let g = k.goes in
-        let still = stands_post job to d s t v.table v.takes.items v.posts.items g.stands p in
-        let whole : HasSent b members t v.table v.takes.items (v.posts.items ++ (to, d) ∷ []) = (
+        let still = stands_post job to d s t v.table k.took k.posts g.stands p in
+        let whole : HasSent b members t v.table k.took (k.posts ++ (to, d) ∷ []) = (
           record { stands = still; made = p.0.made ∙ g.made; whole = g.whole; all = g.all },
-          map-append (λ (x : ℕ × Due). mail x.0 x.1) v.posts.items ((to, d) ∷ []) ∙ k.but,
+          map-append (λ (x : ℕ × Due). mail x.0 x.1) k.posts ((to, d) ∷ []) ∙ k.but,
         ) in record {
-          sent = subst (λ l. HasSent b members t w.table w.takes.items l) (sym posts)
-              (subst (λ l. HasSent b members t w.table l.items (v.posts.items ++ (to, d) ∷ [])) (sym takes)
-              (subst (λ x. HasSent b members t x v.takes.items (v.posts.items ++ (to, d) ∷ [])) (sym table) whole));
+          took = k.took;
+          posts = k.posts ++ (to, d) ∷ [];
+          sent = subst (λ x. HasSent b members t x k.took (k.posts ++ (to, d) ∷ [])) (sym table) whole;
           has = job_of_pass t job still.pass (kept_added FitsIn s t job (Posted to s.number d job) p.0
               (no_done_post s.number to s.number d job)
               (job_to_pass s job g.stands.pass k.has));
         }
 
-    -- What stands holds for a worker with the same lists and the same table.
-    stands_like : {P : Type 0} (t : Sight Due (Graphs G)) (v w : Worker P G A S)
-        → Stands b members t v.table v.takes.items v.posts.items → w.table ≡ v.table →
-        w.takes.items ≡ v.takes.items → w.posts.items ≡ v.posts.items
-        → Stands b members t w.table w.takes.items w.posts.items
-    stands_like t v w stands table takes posts =
-        subst (λ l. Stands b members t w.table w.takes.items l) (sym posts)
-        (subst (λ l. Stands b members t w.table l v.posts.items) (sym takes)
-        (subst (λ x. Stands b members t x v.takes.items v.posts.items) (sym table) stands))
-
     -- The worker stops before the post, or at a post that made no event.
     sending_stopped : {P : Type 0} (job to : ℕ) (d : Due) (why : Stop) (s : Sight Due (Graphs G)) (v w : Worker P G A S)
-        → IsSending b members job to d s v → StoppedFor b why s →
-        w.table ≡ v.table → w.takes ≡ v.takes → w.posts.items ≡ v.posts.items →
-        IsStopped b members job why s w
-    sending_stopped job to d why s v w k stands table takes posts = record {
-      stands = stands_like s v w k.goes.stands table (ap (λ l. l.items) takes) posts;
+        → IsSending b members job to d s v → StoppedFor b why s → w.table ≡ v.table → IsStopped b members job why s w
+    sending_stopped job to d why s v w k stopped table = record {
+      took = k.took;
+      posts = k.posts;
+      stands = subst (λ x. Stands b members s x k.took k.posts) (sym table) k.goes.stands;
       made = k.goes.made;
       has = k.has;
-      reason = stands;
+      reason = stopped;
       fault = not_at_fault (end_at why) w.table (ap failure table ∙ k.goes.whole);
     }
 
     sending_none : {P : Type 0} (job to : ℕ) (d : Due) (why : Stop) (s t : Sight Due (Graphs G)) (v w : Worker P G A S)
         → IsSending b members job to d s v →
-        MadeNone FitsIn s t → StoppedFor b why t → w.table ≡ v.table → w.takes ≡ v.takes
-        → w.posts.items ≡ v.posts.items →
-        IsStopped b members job why t w
-    sending_none job to d why s t v w k m stopped table takes posts =
+        MadeNone FitsIn s t → StoppedFor b why t → w.table ≡ v.table → IsStopped b members job why t w
+    sending_none job to d why s t v w k m stopped table =
         let g = k.goes in record {
-          stands = stands_like t v w (stands_none s t v.table v.takes.items v.posts.items g.stands m) table
-              (ap (λ l. l.items) takes) posts;
+          took = k.took;
+          posts = k.posts;
+          stands = subst (λ x. Stands b members t x k.took k.posts) (sym table)
+              (stands_none s t v.table k.took k.posts g.stands m);
           made = m.made ∙ g.made;
           has = job_none job s t g.stands.pass m k.has;
           reason = stopped;
@@ -440,36 +437,29 @@ module _ {G : Type 0} (b : Start G) where
 
     -- The post was refused.
     pub sending_refused : {P : Type 0} (job to : ℕ) (d : Due) (why : Stop) (s t : Sight Due (Graphs G)) (v w : Worker P G A S)
-        → IsSending b members job to d s v → RefusedFor FitsIn why s t →
-        w.table ≡ v.table → w.takes ≡ v.takes → w.posts.items ≡ v.posts.items →
-        IsStopped b members job why t w
-    sending_refused job to d stop.Aborted s t v w k refused table takes posts =
-        sending_none job to d stop.Aborted s t v w k refused.0.0 refused.1 table takes posts
-    sending_refused job to d (stop.Failed reason.Spent) s t v w k spent table takes posts =
+        → IsSending b members job to d s v → RefusedFor FitsIn why s t → w.table ≡ v.table → IsStopped b members job why t w
+    sending_refused job to d stop.Aborted s t v w k refused table =
+        sending_none job to d stop.Aborted s t v w k refused.0.0 refused.1 table
+    sending_refused job to d (stop.Failed reason.Spent) s t v w k spent table =
         subst (λ z. IsStopped b members job (stop.Failed reason.Spent) z w) (sym spent.1)
-        (sending_stopped job to d (stop.Failed reason.Spent) s v w k spent.0 table takes posts)
-    sending_refused job to d (stop.Failed reason.EdgeLimit) s t v w k refused table takes posts = absurd refused
-    sending_refused job to d (stop.Failed (reason.NoRoom witness)) s t v w k refused table takes posts =
-        sending_none job to d (stop.Failed (reason.NoRoom witness)) s t v w k refused.0.0 tt table takes posts
+        (sending_stopped job to d (stop.Failed reason.Spent) s v w k spent.0 table)
+    sending_refused job to d (stop.Failed reason.EdgeLimit) s t v w k refused table = absurd refused
+    sending_refused job to d (stop.Failed (reason.NoRoom witness)) s t v w k refused table =
+        sending_none job to d (stop.Failed (reason.NoRoom witness)) s t v w k refused.0.0 tt table
 
     -- The pass took a message, which the table is to take.
     pub took_taking : {P : Type 0} (job : ℕ) (d : Due) (s t : Sight Due (Graphs G)) (v w : Worker P G A S) → IsReady b members s v
-        → promises.TookOldest FitsIn job d s t →
-        w.table ≡ v.table → w.takes.items ≡ v.takes.items ++ d ∷ [] → w.posts ≡ v.posts →
-        IsTaking b members job d t w
-    took_taking job d s t v w ready m table takes posts =
+        → promises.TookOldest FitsIn job d s t → w.table ≡ v.table → IsTaking b members job d t w
+    took_taking job d s t v w ready m table =
         let g = ready.served.0.0 in
-        let still = stands_take job d s t v.table v.takes.items v.posts.items g.stands m in
-        let here = subst (λ l. Stands b members t w.table w.takes.items l) (sym (ap (λ l. l.items) posts))
-        (subst (λ l. Stands b members t w.table l v.posts.items) (sym takes)
-        (subst (λ x. Stands b members t x (v.takes.items ++ d ∷ []) v.posts.items) (sym table) still)) in record {
-          stands = here;
+        let still = stands_take job d s t v.table ready.took ready.sent g.stands m in record {
+          before = ready.took;
+          posts = ready.sent;
+          stands = subst (λ x. Stands b members t x (ready.took ++ d ∷ []) ready.sent) (sym table) still;
           made = m.added.made ∙ g.made;
           whole = ap failure table ∙ g.whole;
-          before = v.takes.items;
-          last = takes;
           all = λ i h. subst (λ x. TookMessage x.found i) (sym table) (g.all i h);
-          sent = ap (λ l. mails_of l.items) posts ∙ (ready.served.0.1 ∙ sym (ap answers_of table));
+          sent = ready.served.0.1 ∙ sym (ap answers_of table);
           fits = subst (λ world. FitsIn world b.number d) (sym m.added.goes.before.world)
               (subst (λ n. FitsIn s.seen.world n d) g.stands.pass.number m.fit);
           has = job_of_pass t job still.pass (job_new FitsIn s t job d m);
@@ -478,8 +468,8 @@ module _ {G : Type 0} (b : Start G) where
     -- The table was given the message, with this result.
     given_stands : {P : Type 0} (d : Due) {T : Type 0} (answer : Result T TableFault) (job : ℕ) (s : Sight Due (Graphs G))
         (w : Worker P G A S) (y : Table G A S) →
-        IsTaking b members job d s w → TableTakes members d answer w.table y
-        → Stands b members s y w.takes.items w.posts.items
+        (k : IsTaking b members job d s w) → TableTakes members d answer w.table y
+        → Stands b members s y (k.before ++ d ∷ []) k.posts
     given_stands d answer job s w y k given = record {
       pass = k.stands.pass;
       table = λ p drawn.
@@ -498,7 +488,7 @@ module _ {G : Type 0} (b : Start G) where
           };
       limit = ap most_of given.stays.limit ∙ k.stands.limit;
       only = λ i h. elim (given.only i h) [
-        | inl this ↦ subst (Member (due_of i)) (sym k.last) (member_right (due_of i) k.before (d ∷ []) (inl this))
+        | inl this ↦ member_right (due_of i) k.before (d ∷ []) (inl this)
         | inr old ↦ k.stands.only i old
       ];
       takes = k.stands.takes;
@@ -511,13 +501,15 @@ module _ {G : Type 0} (b : Start G) where
         IsTaking b members job d s w → TableTakes members d (Ok x) w.table y → IsDealing b members job s
         (record w { table = y })
     given_dealing d x job s w y k given = record {
+      took = k.before ++ d ∷ [];
+      posts = k.posts;
       sent = (
         record {
           stands = given_stands d (Ok x) job s w y k given;
           made = k.made;
           whole = given.fault;
           all = λ i h. (given.taken i).1
-              (elim (member_append (due_of i) k.before (d ∷ []) (subst (Member (due_of i)) k.last h)) [
+              (elim (member_append (due_of i) k.before (d ∷ []) h) [
                 | inl old ↦ inr (k.all i old)
                 | inr last ↦ elim last [ inl this ↦ inl this | inr none ↦ absurd none ]
               ]);
@@ -534,8 +526,8 @@ module _ {G : Type 0} (b : Start G) where
         HasStopped b members e t (record w { table = y })
     taking_stops d {T} f why job e s t w y same k given failed =
         let stands = given_stands d {T = T} (Err f) job s w y k given in
-        failed_ends why e s t y w.takes.items w.posts.items stands k.made
-        (subst (λ c. HasStood b c s) (sym same) (fault_stood f s s y w.takes.items w.posts.items stands given.fault))
+        failed_ends why e s t y (k.before ++ d ∷ []) k.posts stands k.made
+        (subst (λ c. HasStood b c s) (sym same) (fault_stood f s s y (k.before ++ d ∷ []) k.posts stands given.fault))
         (subst (λ c. IsAtFault (end.Failed c) y) (sym same) (at_fault f y given.fault)) failed
 
     pub given_fault : {P : Type 0} (d : Due) (T : Type 0) (why : Reason) (job : ℕ) (e : Finish) (s t : Sight Due (Graphs G))
@@ -553,8 +545,10 @@ module _ {G : Type 0} (b : Start G) where
         (graphs_of b.graphs) →
         IsFresh b s → IsNew members w.table → IsQuiet members w.table →
         slice_get (graphs_of b.graphs) b.number ≡ Some (graph_of w.table) → procedure_of w.table ≡ b.number →
-        limit_of w.table ≡ b.limit → w.takes.items ≡ [] → w.posts.items ≡ [] → IsReady b members s w
-    fresh_ready s w drawn fresh new quiet graph procedure limit takes posts = record {
+        limit_of w.table ≡ b.limit → IsReady b members s w
+    fresh_ready s w drawn fresh new quiet graph procedure limit = record {
+      took = [];
+      sent = [];
       served = (
         (
           record {
@@ -579,18 +573,54 @@ module _ {G : Type 0} (b : Start G) where
               };
               limit = limit;
               only = λ i h. absurd (new.nothing i h);
-              takes = ap taken_in fresh.none ∙ sym takes;
-              posts = ap posted_in fresh.none ∙ sym posts;
+              takes = ap taken_in fresh.none;
+              posts = ap posted_in fresh.none;
             };
             made = fresh.made;
             whole = new.fault;
-            all = λ i h. absurd (subst (Member (due_of i)) takes h);
+            all = λ i h. absurd h;
           },
-          ap mails_of posts ∙ sym new.answered,
+          sym new.answered,
         ),
         quiet,
       );
     }
+
+-- what has not changed if the worker continues is what was there before
+pub took_still : (r : Option Finish) (a b c : List Due) → IfNone r (a ≡ b) → b ≡ c → IfNone r (a ≡ c)
+took_still None a b c first then = first ∙ then
+took_still (Some e) a b c first then = tt
+
+module _ {G : Type 0} where
+  -- what a pass took, by its own list at a number that stays
+  took_on : (s t : Sight Due (Graphs G)) (l : List Due) → t.number ≡ s.number
+      → taken_in (own s.number t.seen.order) ≡ l → took_by t ≡ l
+  took_on s t l same is = ap (λ n. taken_in (own n t.seen.order)) same ∙ is
+
+  -- a post takes no message
+  pub took_posted : (job to : ℕ) (d : Due) (s t : Sight Due (Graphs G)) → WasPosted FitsIn job to d s t → took_by t ≡ took_by s
+  took_posted job to d s t p =
+      took_on s t (took_by s) p.0.goes.number
+      (taken_post (own s.number s.seen.order) (own s.number t.seen.order) to s.number d job p.0.own)
+
+  -- nor does a completion, if the worker continues behind it
+  pub took_completed : (job : ℕ) (r : Option Finish) (s t : Sight Due (Graphs G)) → Completes FitsIn job r s t
+      → IfNone r (took_by t ≡ took_by s)
+  took_completed job None s t a =
+      took_on s t (took_by s) a.goes.number
+      (taken_done (own s.number s.seen.order) (own s.number t.seen.order) s.number job a.own)
+  took_completed job (Some e) s t failed = tt
+
+  -- a take takes one
+  pub took_more : (job : ℕ) (d : Due) (s t u : Sight Due (Graphs G)) (r : Option Finish) → promises.TookOldest FitsIn job d s t
+      → IfNone r (took_by u ≡ took_by t) → IfNone r (MayGoOn s u)
+  took_more job d s t u None m same =
+      inl (
+        d,
+        same ∙ took_on s t (took_by s ++ d ∷ []) m.added.goes.number
+            (taken_take (own s.number s.seen.order) (own s.number t.seen.order) s.number m.sender d m.added.own),
+      )
+  took_more job d s t u (Some e) m same = tt
 
 -- a pass that has seen the opening alone
 pub new_fresh : {G : Type 0} (graphs : Graphs G) (board : TableId) (budget boxes number : ℕ) (limit : EdgeLimit)

@@ -105,9 +105,13 @@ pub record FoundNone {G : Type 0} (s t : Sight Due (Graphs G)) : Type 0 where
   pub alive : t.seen.aborted ≡ None
   pub all : AllTaken s.number t.seen.order
 
+-- the messages that a pass took, in order
+abbrev pub took_by : {G : Type 0} → Sight Due (Graphs G) → List Due
+took_by s = taken_in (own s.number s.seen.order)
+
 -- A worker continues only if it took one more message, or found none yet.
-abbrev pub MayGoOn : {G : Type 0} → Sight Due (Graphs G) → Sight Due (Graphs G) → List Due → List Due → Type 0
-MayGoOn s t before after = ((d : Due) × (after ≡ before ++ d ∷ [])) ⊎ FoundNone s t
+abbrev pub MayGoOn : {G : Type 0} → Sight Due (Graphs G) → Sight Due (Graphs G) → Type 0
+MayGoOn s t = ((d : Due) × (took_by t ≡ took_by s ++ d ∷ [])) ⊎ FoundNone s t
 
 -- The order of a board begins with the starter's message, by which procedure 0 is entered with every value 0.
 abbrev pub IsOpened : ℕ → List (Entry Due) → Type 0
@@ -161,7 +165,7 @@ module _ {G : Type 0} (b : Start G) where
 
   module _ {A S : Type 0} (members : S → List Triple) where
     -- The table is that of the procedure, in each program that the graphs are drawn from, and has taken only what its
-    -- pass took; what the pass took and posted is listed.
+    -- pass took. The lists are what the pass took and posted.
     pub record Stands (s : Sight Due (Graphs G)) (t : Table G A S) (took : List Due)
         (sent : List (ℕ × Due)) : Type 0 where
       pub pass : IsPassOf s
@@ -197,42 +201,51 @@ module _ {G : Type 0} (b : Start G) where
     -- the outcome has a table, and the worker ended so with it, on what the end rests on
     abbrev pub HasEnded : Sight Due (Graphs G) → Outcome G A S → Type 0
     HasEnded s o =
-        (t : Table G A S) × (o.table ≡ Some t) × EndsSo o.end s t o.takes.items o.posts.items × IsFounded o.end o.lack t
+        (t : Table G A S) × (o.table ≡ Some t)
+        × ((took : List Due) × (sent : List (ℕ × Due)) × EndsSo o.end s t took sent) × IsFounded o.end o.lack t
 
     module _ {P : Type 0} where
       -- The worker between two takes.
       pub record IsReady (s : Sight Due (Graphs G)) (w : Worker P G A S) : Type 0 where
-        pub served : HasServed s w.table w.takes.items w.posts.items
+        pub took : List Due
+        pub sent : List (ℕ × Due)
+        pub served : HasServed s w.table took sent
 
       -- The worker has taken a message, which its table is to take next.
       pub record IsTaking (job : ℕ) (d : Due) (s : Sight Due (Graphs G)) (w : Worker P G A S) : Type 0 where
-        pub stands : Stands s w.table w.takes.items w.posts.items
+        pub before : List Due
+        pub posts : List (ℕ × Due)
+        pub stands : Stands s w.table (before ++ d ∷ []) posts
         pub made : s.made ≡ false
         pub whole : failure w.table ≡ None
-        pub before : List Due
-        pub last : w.takes.items ≡ before ++ d ∷ []
         pub all : (k : NumberedMessage) → Member (due_of k) before → TookMessage w.table.found k
-        pub sent : mails_of w.posts.items ≡ answers_of w.table
+        pub sent : mails_of posts ≡ answers_of w.table
         pub fits : FitsIn s.seen.world b.number d
         pub has : HasJob b.number job s.seen.order
 
       -- The worker has a job, and has posted all that its table answered.
       pub record IsDealing (job : ℕ) (s : Sight Due (Graphs G)) (w : Worker P G A S) : Type 0 where
-        pub sent : HasSent s w.table w.takes.items w.posts.items
+        pub took : List Due
+        pub posts : List (ℕ × Due)
+        pub sent : HasSent s w.table took posts
         pub has : HasJob b.number job s.seen.order
 
       -- The worker has a job, and all that its table answered is posted except this message, which is due
       -- there.
       pub record IsSending (job to : ℕ) (d : Due) (s : Sight Due (Graphs G)) (w : Worker P G A S) : Type 0 where
-        pub goes : Goes s w.table w.takes.items w.posts.items
-        pub but : mails_of w.posts.items ++ mail to d ∷ [] ≡ answers_of w.table
+        pub took : List Due
+        pub posts : List (ℕ × Due)
+        pub goes : Goes s w.table took posts
+        pub but : mails_of posts ++ mail to d ∷ [] ≡ answers_of w.table
         pub near : to < s.seen.boxes
         pub fits : FitsIn s.seen.world to d
         pub has : HasJob b.number job s.seen.order
 
       -- The worker has a job, and stops for this reason.
       pub record IsStopped (job : ℕ) (why : Stop) (s : Sight Due (Graphs G)) (w : Worker P G A S) : Type 0 where
-        pub stands : Stands s w.table w.takes.items w.posts.items
+        pub took : List Due
+        pub posts : List (ℕ × Due)
+        pub stands : Stands s w.table took posts
         pub made : s.made ≡ false
         pub has : HasJob b.number job s.seen.order
         pub reason : StoppedFor why s
@@ -240,4 +253,6 @@ module _ {G : Type 0} (b : Start G) where
 
       -- The worker has ended, for its table's fault if that has failed.
       abbrev pub HasStopped : Finish → Sight Due (Graphs G) → Worker P G A S → Type 0
-      HasStopped e s w = EndsSo (end_of e) s w.table w.takes.items w.posts.items × IsAtFault (end_of e) w.table
+      HasStopped e s w =
+          ((took : List Due) × (sent : List (ℕ × Due)) × EndsSo (end_of e) s w.table took sent)
+          × IsAtFault (end_of e) w.table

@@ -2,7 +2,7 @@
 use crate::room::NoRoom;
 use path_sets::PathSet;
 use std::alloc::Allocator;
-use summaries::{Due, Table};
+use summaries::Table;
 use switchboard::Cause;
 
 /// How a worker ended.
@@ -16,8 +16,8 @@ pub enum End {
     Failed(Cause),
 }
 
-/// What a worker returns: its table, how it ended, evidence that memory was refused, and the messages that its
-/// pass took and posted, each in order; a message posted is paired with the number of its mailbox.
+/// What a worker returns: its table, how it ended, and evidence that memory was refused. What its pass took and posted is
+/// in the histories of the board.
 #[derive(Drop)]
 pub struct Outcome<'g, G: Allocator, A: Allocator, S: PathSet<A>> {
     /// None if the worker had no thread.
@@ -25,6 +25,4 @@ pub struct Outcome<'g, G: Allocator, A: Allocator, S: PathSet<A>> {
     pub end: End,
     /// Evidence that memory was refused, if the worker failed for that.
     pub lack: Option<NoRoom>,
-    pub takes: Vec<Due, A>,
-    pub posts: Vec<(u8, Due), A>,
 }

@@ -1,6 +1,5 @@
 //! All requests of a worker for memory. A refused request leaves a witness, which only this file can make.
-ghost use Rattle.std.specs.Prelude.{◌≡◌, ◌≤◌, ◌<◌, vec_len, vec_capacity};
-ghost use Rattle.std.specs.Prelude.{OnOk, OnErr, IfOk, IfErr, IfSome, IfNone, MatchResult};
+ghost use Rattle.std.specs.Prelude.{◌≡◌, ◌<◌, OnOk, IfOk, IfErr, IfSome, IfNone, MatchResult};
 ghost use Rattle.post_ledger.specs.Orders.{HasJob};
 ghost use Rattle.switchboard.specs.Promises.{WasPosted};
 ghost use Rattle.summaries.specs.Fitting.{FitsIn};
@@ -19,18 +18,6 @@ use switchboard::{Board, Job, PostFault};
 /// Evidence that memory was refused to a worker: it comes only from such a refusal.
 #[derive(Clone, Copy, Debug, PartialEq, Eq)]
 pub struct NoRoom(());
-
-/// Makes room for one more in a list.
-pub(crate) fn one_more<T, A: Allocator>(list: &mut Vec<T, A>) -> Result<(), NoRoom>
-    ensures items { list.new.items ≡ list.old.items }
-    ensures room { OnOk result (vec_len list.new < vec_capacity list.new) }
-    ensures full { OnErr result (vec_capacity list.old ≤ vec_len list.old) }
-{
-    match list.reserve(1) {
-        Ok(()) => Ok(()),
-        Err(_) => Err(NoRoom(())),
-    }
-}
 
 /// Posts a message, as the board does.
 pub(crate) fn post<R: Wait, G: Allocator, H: Allocator, B: Board<Due, Graphs<G>, H>, K>(

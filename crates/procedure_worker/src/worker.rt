@@ -7,12 +7,12 @@ ghost use Rattle.summaries.specs.Fitting.{FitsIn};
 ghost use Rattle.summaries.specs.Tables.{IsQuiet};
 ghost use Rattle.procedure_worker.specs.Works.{start_of, IsReady, IsTaking, IsDealing, IsSending};
 ghost use Rattle.procedure_worker.specs.Works.{IsStopped, HasStopped, Failed, Completes};
-ghost use Rattle.procedure_worker.specs.Works.{StopsSo, MayGoOn};
+ghost use Rattle.procedure_worker.specs.Works.{StopsSo, MayGoOn, took_by};
 
 use crate::desk::Desk;
 use crate::gate::Gate;
 use crate::pause::pause;
-use crate::room::{deliver, next, one_more, post};
+use crate::room::{deliver, next, post};
 use crate::stop::{Finish, Reason, Stop};
 use flow_graph::Graphs;
 use path_sets::PathSet;
@@ -27,10 +27,9 @@ use ticket_lock::Spent;
 pub(crate) struct Worker<'g, P, G: Allocator, A: Allocator, S: PathSet<A>> {
     pub(crate) pass: P,
     pub(crate) table: Table<'g, G, A, S>,
-    /// What its pass took, in order.
-    pub(crate) takes: Vec<Due, A>,
-    /// What its pass posted, in order, each with the number of its mailbox.
-    pub(crate) posts: Vec<(u8, Due), A>,
+    /// How many messages its pass took, and how many it posted, for the gate.
+    pub(crate) taken: u64,
+    pub(crate) posted: u64,
     /// How many takes in a row found its mailbox empty.
     pub(crate) empty: u32,
 }
@@ -103,14 +102,12 @@ impl<'g, P, G: Allocator, A: Allocator, S: PathSet<A>> Worker<'g, P, G, A, S> {
             (λ why.
             IsStopped (start_of B.identity desk.now) S.members job.now why
             (B.sight self.new.pass) self.new) }
-        ensures takes { self.new.takes ≡ self.old.takes }
+        ensures takes { OnOk result
+            (took_by (B.sight self.new.pass) ≡ took_by (B.sight self.old.pass)) }
     {
-        if let Err(witness) = one_more(&mut self.posts) {
-            return Err(Stop::Failed(Reason::NoRoom(witness)));
-        }
         post(desk, &mut self.pass, job, to, due)?;
-        self.posts.push_reserved((to, due));
-        desk.gate.posted(desk.number, self.posts.len() as u64);
+        self.posted = self.posted.wrapping_add(1);
+        desk.gate.posted(desk.number, self.posted);
         Ok(())
     }
 }
@@ -132,7 +129,8 @@ impl<'g, P, G: Allocator, A: Allocator + Copy, S: PathSet<A>> Worker<'g, P, G, A
             (λ why.
             IsStopped (start_of B.identity desk.now) S.members job.now why
             (B.sight self.new.pass) self.new) }
-        ensures takes { self.new.takes ≡ self.old.takes }
+        ensures takes { OnOk result
+            (took_by (B.sight self.new.pass) ≡ took_by (B.sight self.old.pass)) }
     {
         match next(&mut self.table) {
             Ok(Some((to, due))) => {
@@ -157,7 +155,8 @@ impl<'g, P, G: Allocator, A: Allocator + Copy, S: PathSet<A>> Worker<'g, P, G, A
             (λ e.
             HasStopped (start_of B.identity desk.now) S.members e
             (B.sight self.new.pass) self.new) }
-        ensures takes { self.new.takes ≡ self.old.takes }
+        ensures takes { IfNone result
+            (took_by (B.sight self.new.pass) ≡ took_by (B.sight self.old.pass)) }
     {
         for _ in desk.rt.forever() {
             match self.answer(desk, &job) {
@@ -183,7 +182,8 @@ impl<'g, P, G: Allocator, A: Allocator + Copy, S: PathSet<A>> Worker<'g, P, G, A
             (λ e.
             HasStopped (start_of B.identity desk.now) S.members e
             (B.sight self.new.pass) self.new) }
-        ensures takes { self.new.takes ≡ self.old.takes }
+        ensures takes { IfNone result
+            (took_by (B.sight self.new.pass) ≡ took_by (B.sight self.old.pass)) }
     {
         match deliver(&mut self.table, due) {
             Ok(()) => self.deal(desk, job),
@@ -204,17 +204,13 @@ impl<'g, P, G: Allocator, A: Allocator + Copy, S: PathSet<A>> Worker<'g, P, G, A
             (λ e.
             HasStopped (start_of B.identity desk.now) S.members e
             (B.sight self.new.pass) self.new) }
-        ensures goes { IfNone result (MayGoOn (B.sight self.old.pass) (B.sight self.new.pass)
-            self.old.takes.items self.new.takes.items) }
+        ensures goes { IfNone result (MayGoOn (B.sight self.old.pass) (B.sight self.new.pass)) }
     {
-        if let Err(witness) = one_more(&mut self.takes) {
-            return Some(fail(desk, &mut self.pass, None, Reason::NoRoom(witness)));
-        }
         match desk.board.take(desk.rt, &mut self.pass) {
             Ok(Taken::Message(job, due)) => {
                 self.empty = 0;
-                self.takes.push_reserved(due);
-                desk.gate.taken(desk.number, self.takes.len() as u64);
+                self.taken = self.taken.wrapping_add(1);
+                desk.gate.taken(desk.number, self.taken);
                 self.serve(desk, job, due)
             }
             Ok(Taken::Empty) => {

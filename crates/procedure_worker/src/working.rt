@@ -18,11 +18,11 @@ use switchboard::Board;
 
 /// Works for a procedure: takes one message of its mailbox, posts all that its table then owes, completes it, and
 /// begins again, until the board is closed, or aborted by another pass, or by this one for a cause of its own. It
-/// fails for lack of memory only if memory was refused to one of its lists, to its table or to a post, which its
-/// outcome shows; if its table has failed, it fails for the table's fault. Between two takes that find the mailbox
+/// fails for lack of memory only if memory was refused to its table or to a post, which its outcome shows; if its
+/// table has failed, it fails for the table's fault. Between two takes that find the mailbox
 /// empty it lets other threads run, and sleeps if that continues. The pass must be that of the procedure, as the
-/// board gave it, and the board must be one of these graphs that the starter's message opened. Lists and table are in
-/// memory of `alloc`; their places are reserved before each call of the board.
+/// board gave it, and the board must be one of these graphs that the starter's message opened. The table is in memory
+/// of `alloc`.
 pub fn work<'g, R, G, H, A, B, S, K>(
     rt: &R,
     alloc: A,
@@ -59,8 +59,8 @@ where
     let mut worker: Worker<'g, B::Pass, G, A, S> = Worker {
         pass,
         table: Table::new(alloc, desk.graphs, desk.number, desk.limit),
-        takes: Vec::new(alloc),
-        posts: Vec::new(alloc),
+        taken: 0,
+        posted: 0,
         empty: 0,
     };
     for _ in rt.forever() {
@@ -68,16 +68,14 @@ where
             let Worker {
                 pass,
                 table,
-                takes,
-                posts,
+                taken: _,
+                posted: _,
                 empty: _,
             } = worker;
             let outcome = Outcome {
                 table: Some(table),
                 end: finish.end(),
                 lack: finish.lack(),
-                takes,
-                posts,
             };
             return (pass, outcome);
         }

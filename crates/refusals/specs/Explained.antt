@@ -7,7 +7,7 @@ use Rattle.syntax.specs.declared.fault.ReadFault.TheVariants as read
 use Rattle.scopes.specs.declared.fault.ScopeFault.{ScopeFault}
 use Rattle.scopes.specs.declared.fault.ScopeFault.TheVariants as scope
 use Rattle.resolved.specs.Limits.{most_places}
-use Rattle.diagnostics.specs.Message.{Locates, LocatesForeign, first_word, needs, of_name, unexpected}
+use Rattle.diagnostics.specs.Message.{Locates, LocatesForeign, exceeds, first_word, needs, of_name, unexpected}
 use Rattle.path_sets.specs.EdgeLimits.{most_of}
 use Rattle.path_sets.specs.Limits.{most_edges}
 use Rattle.round_rewrite.specs.Programs.{count_of}
@@ -66,29 +66,38 @@ ExplainsUnread path text read.Memory old new = new ≡ old ++ no_memory
 abbrev pub one_round : ℕ → List ℕ
 one_round rounds = if nat_lt 1 rounds then codes "hint: one round is enough for one thread\n" else []
 
--- the line about what makes a check smaller
-abbrev pub smaller : List ℕ
-smaller = codes "hint: fewer rounds, fewer bits for a counter, locals in place of globals, or one property at a time\n"
-
 -- what helps if the highest limit of path edges was passed
 abbrev pub no_higher : ℕ → List ℕ
 no_higher rounds =
-    codes " path edges, and no limit is higher\n" ++ (smaller ++ one_round rounds)
+    codes "hint: no limit is higher; use fewer rounds, fewer bits for a counter, locals in place of globals, or one property at a time\n"
+    ++ one_round rounds
 
 -- what helps if another limit was passed
 abbrev pub higher : ℕ → List ℕ
-higher rounds = codes " path edges; --edges N raises the limit, up to " ++ (decimal most_edges ++ (codes "\n" ++ one_round rounds))
+higher rounds = codes "hint: --edges N raises the limit, up to " ++ (decimal most_edges ++ (codes "\n" ++ one_round rounds))
 
 -- what helps if this limit was passed
 abbrev pub ways_out : ℕ → ℕ → List ℕ
 ways_out rounds most = if most == most_edges then no_higher rounds else higher rounds
 
--- the lines for a passed limit of path edges; an order without such a limit has none
-abbrev pub edge_line : List ℕ → Order → List ℕ
-edge_line path (Check rounds edges stats) =
-    (path ++ (codes ": some procedure has more than " ++ decimal (most_of edges)))
-    ++ ways_out (count_of rounds) (most_of edges)
-edge_line path (Sequential rounds) = []
+-- the line about `main__`, which has no place, and has more path edges than this
+abbrev pub main_line : List ℕ → ℕ → List ℕ
+main_line path most =
+    path ++ (codes ": `main__`, which calls the threads, has more than " ++ (decimal most ++ codes " path edges\n"))
+
+-- Which procedure has more path edges than this is said at its name, or in the line about `main__`.
+abbrev pub TellsOver : List ℕ → List ℕ → Option ℕ → ℕ → List ℕ → List ℕ → Type 0
+TellsOver path text at most old new =
+    MatchOption at (new ≡ old ++ main_line path most)
+    (λ o. Locates path text (min (length text) o) (of_name (exceeds most)) old new)
+
+-- For a passed limit of path edges it is said which procedure passed it, and then what helps; nothing for an order
+-- without such a limit.
+abbrev pub ExplainsLimit : List ℕ → List ℕ → Option ℕ → Order → List ℕ → List ℕ → Type 0
+ExplainsLimit path text at (Check rounds edges stats) old new =
+    (told : List ℕ) × TellsOver path text at (most_of edges) old told
+    × (new ≡ told ++ ways_out (count_of rounds) (most_of edges))
+ExplainsLimit path text at (Sequential rounds) old new = new ≡ old
 
 -- the line for a program that is too wide in some procedure
 abbrev pub wide_line : List ℕ → ℕ → List ℕ
@@ -106,7 +115,7 @@ Explains path text order (Unchecked fault) old new =
 Explains path text order (TooWide wide) old new =
     MatchOption wide (new ≡ old ++ wide_line path (rounds_of order))
     (λ w. Locates path text (min (length text) w.at) (of_name (needs w.places (rounds_of order) most_places)) old new)
-Explains path text order EdgeLimit old new = new ≡ old ++ edge_line path order
+Explains path text order (EdgeLimit at) old new = ExplainsLimit path text at order old new
 Explains path text order Memory old new = new ≡ old ++ no_memory
 Explains path text order NoWorker old new =
     new ≡ old ++ (path ++ codes ": the system refused a thread for a procedure\n")

@@ -2,7 +2,7 @@
 
 ghost use Rattle.std.specs.Prelude.{◌≡◌, ◌++◌, OnOk, option_map};
 ghost use Rattle.std.specs.String.{string_bytes};
-ghost use Rattle.refusals.specs.Explained.{Explains, ExplainsUnread, edge_line, no_memory};
+ghost use Rattle.refusals.specs.Explained.{Explains, ExplainsLimit, ExplainsUnread, TellsOver, no_memory};
 ghost use Rattle.orders.specs.Parts.{rounds_of};
 ghost use Rattle.refusals.specs.Explained.{is_constant, one_round, scope_told, undeclared};
 ghost use Rattle.refusals.specs.Explained.{ways_out};
@@ -23,9 +23,9 @@ use tokens::MOST_BYTES;
 /// The message for lack of memory.
 pub const NO_MEMORY: &str = "bebopk: out of memory\n";
 
-/// What makes a check smaller.
-const SMALLER: &str =
-    "hint: fewer rounds, fewer bits for a counter, locals in place of globals, or one property at a time\n";
+/// What helps if the highest limit of path edges was passed.
+const NO_HIGHER: &str =
+    "hint: no limit is higher; use fewer rounds, fewer bits for a counter, locals in place of globals, or one property at a time\n";
 
 /// Writes that memory ran out.
 fn push_no_memory<A: Allocator>(message: &mut String<A>) -> Result<(), AllocError>
@@ -134,31 +134,50 @@ fn push_ways_out<A: Allocator>(
 {
     let one = one_round(rounds);
     if edges == MOST_EDGES {
-        write!(
-            message,
-            " path edges, and no limit is higher\n{SMALLER}{one}"
-        )
+        write!(message, "{NO_HIGHER}{one}")
     } else {
         write!(
             message,
-            " path edges; --edges N raises the limit, up to {MOST_EDGES}\n{one}"
+            "hint: --edges N raises the limit, up to {MOST_EDGES}\n{one}"
         )
     }
 }
 
-/// Writes which limit of path edges was passed, and what helps; nothing for an order that has none.
+/// Writes which procedure has more path edges than a limit: that whose name is at an offset, or `main__`.
+fn over<A: Allocator>(
+    message: &mut String<A>,
+    path: &str,
+    text: &[u8],
+    at: Option<u32>,
+    edges: u32,
+) -> Result<(), AllocError>
+    ensures { OnOk result
+        (TellsOver path.now text.now at edges (string_bytes message.old) (string_bytes message.new)) }
+{
+    match at {
+        Some(at) => at_offset(message, path, text, at, Wrong::Edges(edges)),
+        None => write!(
+            message,
+            "{path}: `main__`, which calls the threads, has more than {edges} path edges\n"
+        ),
+    }
+}
+
+/// Writes which procedure has passed the limit of path edges, and what helps; nothing for an order that has no limit.
 fn edge_limit<A: Allocator>(
     message: &mut String<A>,
     path: &str,
+    text: &[u8],
+    at: Option<u32>,
     order: Order,
 ) -> Result<(), AllocError>
-    ensures { OnOk result
-        (string_bytes message.new ≡ string_bytes message.old ++ edge_line path.now order) }
+    ensures { OnOk result (ExplainsLimit path.now text.now at order (string_bytes message.old)
+        (string_bytes message.new)) }
 {
     match order {
         Order::Check { rounds, edges, .. } => {
             let edges = edges.edges();
-            write!(message, "{path}: some procedure has more than {edges}")?;
+            over(message, path, text, at, edges)?;
             push_ways_out(message, rounds.count(), edges)
         }
         Order::Sequential { .. } => Ok(()),
@@ -226,7 +245,7 @@ pub fn explain<A: Allocator>(
             None => push_no_memory(message),
         },
         Refusal::TooWide(wide) => too_wide(message, path, text, order, *wide),
-        Refusal::EdgeLimit => edge_limit(message, path, order),
+        Refusal::EdgeLimit(at) => edge_limit(message, path, text, *at, order),
         Refusal::Memory => push_no_memory(message),
         Refusal::NoWorker => write!(
             message,

@@ -80,7 +80,7 @@ pub fn line<A: Allocator>(
         Refusal::Unread(fault) => unread(alloc, fault),
         Refusal::Unchecked(fault) => unchecked(alloc, fault),
         Refusal::TooWide(_) => Ok(fixed("refused: 14 too wide\n")),
-        Refusal::EdgeLimit => Ok(fixed("no verdict: edge limit\n")),
+        Refusal::EdgeLimit(_) => Ok(fixed("no verdict: edge limit\n")),
         Refusal::Memory => Ok(fixed(MEMORY_LINE)),
         Refusal::NoWorker => Ok(fixed("no verdict: no worker\n")),
         Refusal::Spent => Ok(fixed("no verdict: spent\n")),
@@ -94,6 +94,6 @@ pub fn status(refusal: &Refusal) -> u8
     match refusal {
         Refusal::Unread(ReadFault::Memory) | Refusal::Unchecked(ScopeFault::Memory) => 3,
         Refusal::Unread(_) | Refusal::Unchecked(_) | Refusal::TooWide(_) => 2,
-        Refusal::EdgeLimit | Refusal::Memory | Refusal::NoWorker | Refusal::Spent => 3,
+        Refusal::EdgeLimit(_) | Refusal::Memory | Refusal::NoWorker | Refusal::Spent => 3,
     }
 }

@@ -13,8 +13,9 @@ pub enum Refusal {
     Unchecked(ScopeFault),
     /// Some procedure of the rewritten program has more than 128 places; with the first such procedure of the source.
     TooWide(Option<Wide>),
-    /// Some procedure of the rewritten program has more path edges than the limit.
-    EdgeLimit,
+    /// A procedure of the rewritten program has more path edges than the limit: that whose name is at this offset, or
+    /// `main__`, which is not in the text.
+    EdgeLimit(Option<u32>),
     /// An allocation was refused.
     Memory,
     /// A worker's thread was refused.

@@ -4,7 +4,6 @@ use crate::program::{Asked, Parts, Trial, on_one_thread};
 use flow_graph::Graphs;
 use gather::{Answer, Report, check_rounds, check_rounds_with};
 use path_sets::{DiagramEdges, OrderedEdges};
-use post_ledger::Event;
 use procedure_worker::{Gate, Open};
 use std::alloc::{AllocError, Allocator, Global};
 use std::sync::Wait;
@@ -46,17 +45,6 @@ where
     }
 }
 
-/// How many Takes a history has.
-fn takes(history: &[Event<Due>]) -> usize {
-    let mut takes = 0;
-    for event in history {
-        if matches!(event, Event::Take { .. }) && takes < 65_536 {
-            takes += 1;
-        }
-    }
-    takes
-}
-
 /// Writes how many entries, pairs and takes each procedure has.
 fn write_counts<A: Allocator>(out: &mut String, report: &Report<A, A>) -> Result<(), AllocError> {
     for procedure in 0..=31u8 {
@@ -64,7 +52,7 @@ fn write_counts<A: Allocator>(out: &mut String, report: &Report<A, A>) -> Result
         if number < report.summaries.len() && number < report.ledger.histories.len() {
             let entries = report.summaries.entries(procedure).len();
             let pairs = report.summaries.pairs(procedure).len();
-            let takes = takes(report.ledger.histories[number].history());
+            let takes = report.ledger.histories[number].taken();
             write!(
                 out,
                 "\n{procedure}: entries {entries} pairs {pairs} taken {takes}"

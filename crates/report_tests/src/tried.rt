@@ -5,7 +5,7 @@ ghost use Rattle.std.specs.Prelude.{◌≤◌, ◌^◌};
 use crate::program::{Parts, Trial};
 use crate::refusing::{Moment, Refusing};
 use flow_graph::Graphs;
-use gather::{Answer, check_rounds_tried};
+use gather::{Answer, CrewBoard, CrewSet, check_rounds_tried};
 use path_sets::{DiagramEdges, OrderedEdges};
 use std::alloc::{AllocError, Global};
 use std::sync::Wait;
@@ -13,6 +13,10 @@ use std::thread::Threads;
 use summaries::{Due, EdgeLimit, NoVerdict};
 use switchboard::{LockPerBox, OneLock};
 use ticket_lock::MOST_TICKETS;
+
+type LockEach = LockPerBox<Due, Graphs<Global>, Global>;
+
+type LockAll = OneLock<Due, Graphs<Global>, Global>;
 
 /// A lane that no program has.
 const NO_LANE: u8 = 64;
@@ -29,6 +33,7 @@ pub fn parts_at(number: u8) -> Parts {
 fn write_came(out: &mut String, came: Result<Answer, NoVerdict>) -> Result<(), AllocError> {
     match came {
         Ok(answer) => write!(out, "{answer:?}"),
+        Err(NoVerdict::EdgeLimit(_)) => out.push_str("EdgeLimit"),
         Err(why) => write!(out, "{why:?}"),
     }
 }
@@ -45,7 +50,29 @@ pub fn put(out: &mut String, one: &str) -> Result<(), AllocError> {
 }
 
 impl<R: Wait + Threads + Sync> Trial<'_, R> {
-    /// The answer of the workers with these parts, with one value as the gate and as `Hire`.
+    /// The answer of the workers over this board and kind of set, with one value as the gate and as `Hire`. At the edge
+    /// limit procedure 0 is named, since which one passes it first may depend on the schedule.
+    fn over<B: CrewBoard, S: CrewSet>(
+        &self,
+        heap: B::Heap,
+        alloc: S::Heap,
+        limit: EdgeLimit,
+        hire: &Refusing,
+        budget: u64,
+    ) -> Result<Answer, NoVerdict>
+        requires { (2 ≤ budget) × (budget ≤ 2 ^ 56) }
+    {
+        let (program, rounds) = (&self.asked.program, self.asked.rounds);
+        match check_rounds_tried::<R, B, S, Refusing, Refusing, Global>(
+            self.rt, heap, alloc, program, rounds, limit, hire, hire, budget,
+        ) {
+            Ok(report) => Ok(report.answer),
+            Err(NoVerdict::EdgeLimit(_)) => Err(NoVerdict::EdgeLimit(0)),
+            Err(why) => Err(why),
+        }
+    }
+
+    /// The answer of the workers with these parts.
     fn tried(
         &self,
         parts: Parts,
@@ -55,50 +82,15 @@ impl<R: Wait + Threads + Sync> Trial<'_, R> {
     ) -> Result<Answer, NoVerdict>
         requires { (2 ≤ budget) × (budget ≤ 2 ^ 56) }
     {
-        let (program, rounds) = (&self.asked.program, self.asked.rounds);
-        let report = match (parts.one_lock, parts.diagrams) {
-            (false, true) => check_rounds_tried::<
-                R,
-                LockPerBox<Due, Graphs<Global>, Global>,
-                DiagramEdges<Global>,
-                Refusing,
-                Refusing,
-                Global,
-            >(
-                self.rt, self.alloc, self.alloc, program, rounds, limit, hire, hire, budget,
+        let a = self.alloc;
+        match (parts.one_lock, parts.diagrams) {
+            (false, true) => self.over::<LockEach, DiagramEdges<Global>>(a, a, limit, hire, budget),
+            (false, false) => self.over::<LockEach, OrderedEdges<Global>>(
+                a, a, limit, hire, budget,
             ),
-            (false, false) => check_rounds_tried::<
-                R,
-                LockPerBox<Due, Graphs<Global>, Global>,
-                OrderedEdges<Global>,
-                Refusing,
-                Refusing,
-                Global,
-            >(
-                self.rt, self.alloc, self.alloc, program, rounds, limit, hire, hire, budget,
-            ),
-            (true, true) => check_rounds_tried::<
-                R,
-                OneLock<Due, Graphs<Global>, Global>,
-                DiagramEdges<Global>,
-                Refusing,
-                Refusing,
-                Global,
-            >(
-                self.rt, self.alloc, self.alloc, program, rounds, limit, hire, hire, budget,
-            ),
-            (true, false) => check_rounds_tried::<
-                R,
-                OneLock<Due, Graphs<Global>, Global>,
-                OrderedEdges<Global>,
-                Refusing,
-                Refusing,
-                Global,
-            >(
-                self.rt, self.alloc, self.alloc, program, rounds, limit, hire, hire, budget,
-            ),
-        };
-        Ok(report?.answer)
+            (true, true) => self.over::<LockAll, DiagramEdges<Global>>(a, a, limit, hire, budget),
+            (true, false) => self.over::<LockAll, OrderedEdges<Global>>(a, a, limit, hire, budget),
+        }
     }
 
     /// The same if no lane is refused.

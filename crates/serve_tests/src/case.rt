@@ -5,7 +5,7 @@ use crate::memory::served;
 use crate::refused::in_turn;
 use crate::streams::{Manner, SOUND, Sink, Source};
 use cases::words_behind;
-use cli::{Order, ended, order, serve};
+use cli::{Order, ended, order, serve_telling};
 use std::alloc::{AllocError, Global};
 use std::fs;
 use std::io::{self, ErrorKind, Read, Write};
@@ -84,12 +84,7 @@ where
     let mut written = Vec::new(rt.alloc());
     let mut log = Vec::new(rt.alloc());
     let status = ended(rt, || Ok(words?), opener, &mut written, &mut log);
-    print_reply(rt, number_of(status), written.as_slice())?;
-    if log.is_empty() {
-        return rt.print("standard error: nothing\n");
-    }
-    rt.print("standard error:\n")?;
-    io::writer(rt).write_all(log.as_slice())
+    print_both(rt, number_of(status), written.as_slice(), log.as_slice())
 }
 
 /// Prints the result of a text, asked in one of the ways of the table in `main.rt`.
@@ -131,7 +126,7 @@ fn print_served<R: Print + AllocGlobal + Wait + Threads + Sync>(
     print_reply(rt, status, written.as_slice())
 }
 
-/// Prints what `serve` does with a reader and a writer that behave in these ways.
+/// Prints what `serve_telling` does with a reader and a writer that behave in these ways.
 fn print_streamed<R: Print + AllocGlobal + Wait + Threads + Sync>(
     rt: &R,
     text: &str,
@@ -141,8 +136,19 @@ fn print_streamed<R: Print + AllocGlobal + Wait + Threads + Sync>(
 ) -> io::Result<()> {
     let mut source = Source::new(text.as_bytes(), reading);
     let mut sink = Sink::new(Vec::new(rt.alloc()), writing);
-    let status = serve(rt, &mut source, &mut sink, order);
-    print_reply(rt, status, sink.taken())
+    let mut log = Vec::new(rt.alloc());
+    let status = serve_telling(rt, "a.bp", &mut source, order, &mut sink, &mut log);
+    print_both(rt, status, sink.taken(), log.as_slice())
+}
+
+/// Prints a status, what was written, and what the standard error took.
+fn print_both<R: Print>(rt: &R, status: u8, written: &[u8], log: &[u8]) -> io::Result<()> {
+    print_reply(rt, status, written)?;
+    if log.is_empty() {
+        return rt.print("standard error: nothing\n");
+    }
+    rt.print("standard error:\n")?;
+    io::writer(rt).write_all(log)
 }
 
 /// Prints a status and what was written, which may lack its newline.

@@ -5,9 +5,9 @@
 //! | `program: WORDS` | what the program does for the words: the status, and what the standard output and the standard error took |
 //! | `file: WORDS \| TEXT` | the same if `a.bp` is the only file and has this text, in which `\n` stands for a line feed |
 //! | `broken COUNT: WORDS \| FILES` | how many lines of each kind `serve` writes for COUNT broken texts, made from these files in turn |
-//! | `HOW: WORDS \| TEXT` | the status that `serve` gives, and what the writer took |
+//! | `HOW: WORDS \| TEXT` | the status that `serve` gives, and what the writer took; for a stream, what the log took too |
 //!
-//! | `HOW` | How `serve` reads and writes |
+//! | `HOW` | How `serve` reads and writes; for a stream, `serve_telling` |
 //! |---|---|
 //! | `whole` | from memory and to memory |
 //! | `padded to COUNT` | the same, the text followed by blanks to COUNT bytes |

@@ -120,17 +120,15 @@ module _ {G A S : Type 0} (members : S → List Triple) (p : Program) (Aside : M
 
   -- a table that has failed for its limit has more edges than that
   pub too_many : (q : ℕ) (t t' : Table G A S) → slice_get ts q ≡ Some t → IsTable members t' → StaysAs t t' → t'.fault ≡ Some EdgeLimit
-      → ((k : NumberedMessage) → TookMessage t'.found k → IsNumberOf (IsDue p q) k) → (n : ℕ) → HaveLimit n ts →
-      (s : ℕ) × HasMoreEdges p s n
-  too_many q t t' is table stays failed due n limits = (
-    q,
-    subst (HasMoreEdges p q) (ap most_of stays.limit ∙ limits q t is)
-        (over_limit members p q t' (still_of q t t' is table stays due) failed),
-  )
+      → ((k : NumberedMessage) → TookMessage t'.found k → IsNumberOf (IsDue p q) k) → (n : ℕ) → HaveLimit n ts
+      → HasMoreEdges p q n
+  too_many q t t' is table stays failed due n limits =
+      subst (HasMoreEdges p q) (ap most_of stays.limit ∙ limits q t is)
+      (over_limit members p q t' (still_of q t t' is table stays due) failed)
 
   pub same_too_many : (q : ℕ) (t t' : Table G A S) → slice_get ts q ≡ Some t → IsTable members t' → StaysAs t t'
       → t'.fault ≡ Some EdgeLimit → TookSame t.found t'.found
-      → (n : ℕ) → HaveLimit n ts → (s : ℕ) × HasMoreEdges p s n
+      → (n : ℕ) → HaveLimit n ts → HasMoreEdges p q n
   same_too_many q t t' is table stays failed same = too_many q t t' is table stays failed (same_due q t t' is same)
 
   -- what a table answers is due
@@ -273,10 +271,11 @@ pub refused : {F : Type 0} (P : Type 0) (Q : F → Type 0) (r : Result (Unit {0}
 refused P Q (Ok _) told = absurd told
 refused P Q (Err _) told = tt
 
--- the fault of a table for which there is no verdict for the limit
-pub limit_told : (fault : TableFault) → verdict.EdgeLimit ≡ no_verdict fault → fault ≡ EdgeLimit
-limit_told Memory e = let no : ⊥ = cc in absurd no
-limit_told EdgeLimit e = refl
+-- the table for whose limit there is no verdict, and its fault
+pub limit_told : (procedure q : ℕ) (fault : TableFault) → no_verdict procedure fault ≡ verdict.EdgeLimit q
+    → (fault ≡ EdgeLimit) × (procedure ≡ q)
+limit_told procedure q Memory e = let no : ⊥ = cc in absurd no
+limit_told procedure q EdgeLimit e = let same : procedure ≡ q = cc in (refl, same)
 
 -- tables that are new have taken nothing except the opening
 pub new_tables : {G A S : Type 0} (members : S → List Triple) (p : Program) (ts : List (Table G A S)) → AreDrawnFrom p (map graph_of ts)

@@ -14,10 +14,10 @@ use Rattle.summaries.specs.declared.no_verdict.NoVerdict.{NoVerdict}
 use Rattle.summaries.specs.declared.no_verdict.NoVerdict.TheVariants as verdict
 use Rattle.summaries.specs.Found.{pair}
 
--- why there is no verdict, if a table has failed
-abbrev pub no_verdict : TableFault → NoVerdict
-no_verdict fault.Memory = verdict.Memory
-no_verdict fault.EdgeLimit = verdict.EdgeLimit
+-- why there is no verdict, if the table of the procedure with this number has failed
+abbrev pub no_verdict : ℕ → TableFault → NoVerdict
+no_verdict procedure fault.Memory = verdict.Memory
+no_verdict procedure fault.EdgeLimit = verdict.EdgeLimit procedure
 
 -- each number is less than the next
 abbrev pub IsAscending : List ℕ → Type 0

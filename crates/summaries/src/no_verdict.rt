@@ -3,7 +3,6 @@
 ghost use Rattle.std.specs.Prelude.{◌≡◌};
 ghost use Rattle.summaries.specs.declared.no_verdict.NoVerdict.TheVariants.{Memory};
 
-use crate::table_fault::TableFault;
 use std::alloc::{AllocError, AllocFailed};
 
 /// Why an analysis has no verdict. Of several reasons, the one that comes first here is returned.
@@ -13,8 +12,8 @@ pub enum NoVerdict {
     TooWide,
     /// Memory is refused.
     Memory,
-    /// Some procedure has more path edges than the limit.
-    EdgeLimit,
+    /// The procedure with this number has more path edges than the limit.
+    EdgeLimit(usize),
     /// A thread is refused.
     NoWorker,
     /// A worker has used up its calls.
@@ -34,18 +33,5 @@ impl<T: Drop> From<AllocFailed<T>> for NoVerdict {
 
     fn from(_e: AllocFailed<T>) -> NoVerdict {
         NoVerdict::Memory
-    }
-}
-
-impl From<TableFault> for NoVerdict {
-    ghost use Rattle.summaries.specs.Tabulated.{no_verdict};
-
-    ghost from_gives = { λ fault e. e ≡ no_verdict fault };
-
-    fn from(fault: TableFault) -> NoVerdict {
-        match fault {
-            TableFault::Memory => NoVerdict::Memory,
-            TableFault::EdgeLimit => NoVerdict::EdgeLimit,
-        }
     }
 }

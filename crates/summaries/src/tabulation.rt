@@ -6,7 +6,7 @@ ghost use Rattle.language.specs.Sequential.{SomeBad};
 ghost use Rattle.flow_graph.specs.Drawn.{bad_of, graphs_of};
 ghost use Rattle.flow_graph.specs.Graphs.{AreDrawnFrom};
 ghost use Rattle.summaries.specs.Tables.{graph_of, IsTable, TableTakes};
-ghost use Rattle.summaries.specs.Tabulated.{AreSummaries, SomePairBad, HasMoreEdges};
+ghost use Rattle.summaries.specs.Tabulated.{AreSummaries, SomePairBad, HasMoreEdges, no_verdict};
 ghost use Rattle.summaries.specs.Together.{opening, HaveLimit, AreNew, AreTables, AreQuietBefore};
 ghost use Rattle.summaries.specs.Together.{AreFull};
 ghost use Rattle.path_sets.specs.EdgeLimits.{most_of};
@@ -52,9 +52,11 @@ pub fn deliver<G: Allocator, A: Allocator + Copy, S: PathSet<A>>(
     }
 }
 
-/// The starter enters procedure 0, and the tables take each other's messages until none owes any.
+/// The starter enters procedure 0, and the tables take each other's messages until none owes any. `last` is the number of
+/// the table that was called last: if there is a fault, it is that table's.
 fn run<G: Allocator, A: Allocator + Copy, S: PathSet<A>>(
     tables: &mut Vec<Table<'_, G, A, S>, A>,
+    last: &mut usize,
 ) -> Result<(), TableFault>
     ghost program: { Program }
     requires { AreTables S.members program (λ x. x ≡ opening) tables.old.items }
@@ -64,7 +66,7 @@ fn run<G: Allocator, A: Allocator + Copy, S: PathSet<A>>(
     ensures limits { (n : ℕ) → HaveLimit n tables.old.items
         → OnOk result (HaveLimit n tables.new.items) }
     ensures limit { result ≡ Err TableFault.EdgeLimit → (n : ℕ) → HaveLimit n tables.old.items
-        → (q : ℕ) × HasMoreEdges program q n }
+        → HasMoreEdges program last.new n }
 {
     if tables.is_empty() {
         return Ok(());
@@ -73,13 +75,16 @@ fn run<G: Allocator, A: Allocator + Copy, S: PathSet<A>>(
         caller: Caller::Starter,
         a: 0,
     };
+    *last = 0;
     deliver(&mut tables[0], opening)?;
     let mut at = 0;
     // The tables before `at` owe no message.
     while at < tables.len() {
+        *last = at;
         match tables[at].next()? {
             Some((to, due)) => {
                 let to = to as usize;
+                *last = to;
                 deliver(&mut tables[to], due)?;
                 at = at.min(to);
             }
@@ -108,8 +113,18 @@ pub fn collect<G: Allocator, A: Allocator + Copy, S: PathSet<A>>(
     Ok(Summaries { procedures, bad })
 }
 
+/// Why there is no verdict, if the table of a procedure has failed.
+fn no_verdict(procedure: usize, fault: TableFault) -> NoVerdict
+    ensures { result ≡ no_verdict procedure fault }
+{
+    match fault {
+        TableFault::Memory => NoVerdict::Memory,
+        TableFault::EdgeLimit => NoVerdict::EdgeLimit(procedure),
+    }
+}
+
 /// The summaries of a program by its flow graphs, if no procedure has more path edges than the limit; the path edges
-/// are kept in sets of the type `S`. `EdgeLimit` is returned only if some procedure has more.
+/// are kept in sets of the type `S`. `EdgeLimit` names a procedure that has more.
 pub fn tabulate<G: Allocator, A: Allocator + Copy, S: PathSet<A>>(
     alloc: A,
     graphs: &Graphs<G>,
@@ -120,11 +135,15 @@ pub fn tabulate<G: Allocator, A: Allocator + Copy, S: PathSet<A>>(
     ensures summaries { IfOk result (λ s. AreSummaries program s) }
     ensures bad { IfOk result (λ s. SomePairBad s ↔ SomeBad program (bad_of graphs.now)) }
     ensures few { IfOk result (λ s. (q : ℕ) → ¬ HasMoreEdges program q (most_of limit)) }
-    ensures limit { result ≡ Err NoVerdict.EdgeLimit
-        → (q : ℕ) × HasMoreEdges program q (most_of limit) }
-    ensures cause { IfErr result (λ e. (e ≡ NoVerdict.Memory) ⊎ (e ≡ NoVerdict.EdgeLimit)) }
+    ensures limit { (q : ℕ) → result ≡ Err (NoVerdict.EdgeLimit q)
+        → HasMoreEdges program q (most_of limit) }
+    ensures cause { IfErr result
+        (λ e. (e ≡ NoVerdict.Memory) ⊎ ((q : ℕ) × (e ≡ NoVerdict.EdgeLimit q))) }
 {
     let mut tables: Vec<Table<'_, G, A, S>, A> = tables_of(alloc, graphs, limit)?;
-    run(&mut tables)?;
-    Ok(collect(alloc, graphs, &tables)?)
+    let mut last = 0;
+    match run(&mut tables, &mut last) {
+        Ok(()) => Ok(collect(alloc, graphs, &tables)?),
+        Err(fault) => Err(no_verdict(last, fault)),
+    }
 }

@@ -35,7 +35,7 @@ fn tabulated<A: Allocator + Copy, S: PathSet<A>>(
 ) -> Result<Summaries<A>, NoVerdict> {
     match u32::try_from(edges).ok().and_then(EdgeLimit::new) {
         Some(limit) => by_graphs::<_, S>(alloc, sequential, limit),
-        None => Err(NoVerdict::EdgeLimit),
+        None => Err(NoVerdict::EdgeLimit(0)),
     }
 }
 

@@ -85,12 +85,13 @@ pub fn print_told_without<R: Print + AllocGlobal + Wait + Threads + Sync>(
 }
 
 /// Prints what standard error tells where a procedure passes the limit of an order, which may be one that no test
-/// reaches.
+/// reaches: the procedure whose name begins the text, or `main__` for an empty text.
 pub fn print_edge_limit<R: Print + AllocGlobal>(
     rt: &R,
     file: &str,
     text: &[u8],
     order: Order,
 ) -> io::Result<()> {
-    print_message(rt, file, text, order, &Refusal::EdgeLimit)
+    let at = if text.is_empty() { None } else { Some(0) };
+    print_message(rt, file, text, order, &Refusal::EdgeLimit(at))
 }

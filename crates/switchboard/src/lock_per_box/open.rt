@@ -21,8 +21,8 @@ use post_ledger::Mailbox;
 use std::alloc::{AllocError, Allocator};
 
 /// The mailbox with this number, with the opening post if it is the one that has it.
-fn first_box<M: Copy, A: Allocator>(
-    alloc: A,
+fn first_box<M: Copy, A: Allocator + Clone>(
+    alloc: &A,
     number: u8,
     boxes: u8,
     to: u8,
@@ -30,7 +30,7 @@ fn first_box<M: Copy, A: Allocator>(
 ) -> Result<Mailbox<M, A>, AllocError>
     ensures { IfOk result (λ h. h ≡ part number (Posted to boxes first 0 ∷ [])) }
 {
-    let mut mailbox = Mailbox::new(alloc);
+    let mut mailbox = Mailbox::new(alloc.clone()?, alloc.clone()?);
     if number == to {
         match mailbox.post(boxes, first) {
             Err(_) => return Err(AllocError),
@@ -53,7 +53,7 @@ fn first_boxes<M: Copy, A: Allocator + Clone>(
 {
     let mut slots = Vec::with_capacity(alloc.clone()?, usize::from(boxes))?;
     for number in 0..boxes {
-        let mailbox = first_box(alloc.clone()?, number, boxes, to, first)?;
+        let mailbox = first_box(alloc, number, boxes, to, first)?;
         slots.push_reserved(Some(mailbox));
     }
     Ok(slots)

@@ -56,7 +56,7 @@ fn empty_mailboxes<M: Copy, A: Allocator + Clone>(
     let mut mailboxes = Vec::with_capacity(alloc.clone()?, usize::from(boxes))?;
     for number in 0..boxes {
         let _ = number;
-        mailboxes.push_reserved(Mailbox::new(alloc.clone()?));
+        mailboxes.push_reserved(Mailbox::new(alloc.clone()?, alloc.clone()?));
     }
     Ok(mailboxes)
 }

@@ -1,10 +1,9 @@
 -- Each turn writes one more line, and the last turn is over the last procedure.
-use Rattle.std.proofs.Common.{◌∙◌, ◌<◌, ◌≤◌, ap, arith, count_by, length, refl, sym}
+use Rattle.std.proofs.Common.{◌∙◌, ◌<◌, ◌≤◌, arith, length, refl, sym}
 use Rattle.std.proofs.lemmas.Option.{slice_get_read}
 use Rattle.std.specs.String.{string_bytes}
 use Rattle.trees.specs.Trees.{tree_of}
 use Rattle.cli.specs.Counts.{names_of}
-use Rattle.cli.specs.Counted.{is_take}
 use Rattle.cli.proofs.Counting.{all_written, line_pushed, there}
 use Rattle.cli.proofs.counts.push_counts.Goals as goal
 
@@ -23,11 +22,10 @@ loop-number-preserved g c =
     let (s, at) = there ss k lt in
     let history = c.index-mailboxes-number.result in
     let kept = slice_get_read hs (length hs) k history refl lt_h c.index-mailboxes-number.is in
-    let taken = c.taken_in-taken.ensures ∙ ap (count_by is_take) c.history.ensures.all in
     line_pushed names ss hs k (string_bytes c.args.lines.now) (string_bytes c.loop-number.lines)
     (string_bytes c.push_line.new.lines) c.name_of-name.result.now s history c.entries-entries.result.now
-    c.pairs-pairs.result.now c.taken_in-taken.result c.name_of-name.ensures at kept (c.entries-entries.ensures s at)
-    (c.pairs-pairs.ensures s at) taken c.loop-number.invariant c.in_ok-push_line.ensures
+    c.pairs-pairs.result.now c.taken-taken.result c.name_of-name.ensures at kept (c.entries-entries.ensures s at)
+    (c.pairs-pairs.ensures s at) c.taken-taken.ensures c.loop-number.invariant c.in_ok-push_line.ensures
 
 pub returns : goal.returns
 returns g c =

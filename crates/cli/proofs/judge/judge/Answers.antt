@@ -1,5 +1,5 @@
 -- What the cause is reported as is a refusal that stands.
-use Rattle.std.proofs.Common.{ℕ, List, Some, inl, subst, sym}
+use Rattle.std.proofs.Common.{ℕ, List, Some, inl, refl, subst, sym}
 use Rattle.language.specs.Tree.{Tree}
 use Rattle.syntax.specs.Text.{Text}
 use Rattle.scopes.specs.Checked.{IsChecked}
@@ -20,8 +20,8 @@ stands text t rounds most cause.TooWide refusal of checked wider (wide, first, i
     (t, record { of = of; checked = checked; wider = wider; first = first })
 stands text t rounds most cause.Memory refusal of checked narrow is =
     subst (RefusalStands text rounds (Some most)) (sym is) (inl (t, of, checked, narrow))
-stands text t rounds most cause.EdgeLimit refusal of checked past is =
-    subst (RefusalStands text rounds (Some most)) (sym is) (t, of, checked, past.1)
+stands text t rounds most (cause.EdgeLimit q) refusal of checked past is =
+    subst (RefusalStands text rounds (Some most)) (sym is) (t, of, checked, (q, past.1, refl))
 stands text t rounds most cause.NoWorker refusal of checked narrow is =
     subst (RefusalStands text rounds (Some most)) (sym is) (t, of, checked, narrow)
 stands text t rounds most cause.Spent refusal of checked narrow is =

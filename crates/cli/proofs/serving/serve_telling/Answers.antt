@@ -1,7 +1,7 @@
 -- The reply is the answer to the text that was read, and the message is about that.
 use Rattle.std.proofs.Common.{inl, subst}
 use Rattle.cli.specs.Served.{IsReply}
-use Rattle.cli.specs.Streams.{Said, Writes}
+use Rattle.cli.specs.Streams.{Said, Writes, streams}
 use Rattle.cli.specs.Written.{bytes_of}
 use Rattle.cli.proofs.Giving.{replied}
 use Rattle.cli.proofs.serving.serve_telling.Goals as goal
@@ -15,9 +15,10 @@ returns-clause-serves g c =
     let of = c.answer-reply.ensures in
     let (message, about, logs) = c.tell_why.ensures in
     let said : Said = record { reply = bytes_of reply; status = reply.status; message = message } in
-    let taken = g.W.Stream.held c.args.writer.now in
-    let written = g.W.Stream.held c.say.new.writer in
-    let wrote = subst (λ b. Writes taken written b reply.status c.say.result) c.as_slice.ensures.value c.say.ensures in
+    let told = g.L.Stream.held c.tell_why.new.log in
+    let old = streams (g.W.Stream.held c.args.writer.now) told in
+    let new = streams (g.W.Stream.held c.say.new.writer) (g.L.Stream.held c.say.new.log) in
+    let wrote = subst (λ b. Writes old new b reply.status c.say.result) c.as_slice.ensures.value c.say.ensures in
     record {
       said = said;
       due = inl (
@@ -26,5 +27,5 @@ returns-clause-serves g c =
         subst (λ t. IsReply path t order said) c.as_slice-text.ensures.value
             (replied path text order reply message of.answers of.silent of.refuses about),
       );
-      says = (wrote, logs);
+      says = (told, logs, wrote);
     }

@@ -12,5 +12,5 @@ returns g c =
     record {
       said = record { reply = file_line; status = 2; message = message };
       unread = inl (search rules, refl, refl, is);
-      says = (c.say.ensures, logs);
+      says = (g.L.Stream.held c.tell_reason.new.log, logs, c.say.ensures);
     }

@@ -9,6 +9,11 @@ returns-in_ok-push_name-in-Wide g c =
     rw (c.in-Wide.is, ← c.first_word-in-Wide.ensures)
     (at_last c.push_width.result _ _ _ _ _ c.in_ok-push_name-in-Wide.ensures c.push_width.ensures)
 
+pub returns-in_ok-push_name-in-Edges : goal.returns-in_ok-push_name-in-Edges
+returns-in_ok-push_name-in-Edges g c =
+    rw (c.in-Edges.is, ← c.first_word-in-Edges.ensures)
+    (at_last c.push_edges.result _ _ _ _ _ c.in_ok-push_name-in-Edges.ensures c.push_edges.ensures)
+
 pub returns-in_ok-push_first-in-Unexpected : goal.returns-in_ok-push_first-in-Unexpected
 returns-in_ok-push_first-in-Unexpected g c =
     let item = first_item c.args.rest.now in

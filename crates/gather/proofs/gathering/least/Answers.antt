@@ -1,29 +1,32 @@
 -- One more end is taken in.
-use Rattle.std.proofs.Common.{◌≡◌, ◌+◌, ◌++◌, ◌∷◌, [], take, suc, refl, sym, ap, ◌∙◌, subst, arith}
-use Rattle.std.proofs.lemmas.Option.{slice_get_read}
-use Rattle.std.proofs.lemmas.List.{map-append}
+use Rattle.std.proofs.Common.{◌≡◌, ◌+◌, ◌++◌, ◌<◌, ◌≤◌, ◌∷◌, [], get_or, take, length, suc, sym, ap, ◌∙◌, subst, arith, length-take-le}
+use Rattle.std.proofs.lemmas.Option.{slice_get-get_or}
+use Rattle.std.proofs.lemmas.List.{length-map, map-append}
 use Rattle.post_ledger.proofs.Histories.{split_at_element}
 use Rattle.gather.specs.Gathered.{ends_of, IsLeastOf}
 use Rattle.gather.proofs.Causes.{none_least}
 use Rattle.gather.proofs.Coming.{take_whole}
 use Rattle.gather.proofs.gathering.least.Goals as goal
 
-pub loop-outcome-init : goal.loop-outcome-init
-loop-outcome-init g c = none_least
+pub loop-procedure-init : goal.loop-procedure-init
+loop-procedure-init g c = none_least
 
-pub loop-outcome-preserved : goal.loop-outcome-preserved
-loop-outcome-preserved g c =
+pub loop-procedure-preserved : goal.loop-procedure-preserved
+loop-procedure-preserved g c =
     let all = c.args.outcomes.now in
-    let i = c.loop-outcome.outcome-index in
-    let item = c.outcome-item.result in
-    let is = slice_get_read all _ i item refl c.loop-outcome-test.true c.outcome-item.is in
+    let i = c.loop-procedure.procedure in
+    let item = get_or all i c.index-outcomes-procedure.result in
+    let within : i < length all = c.loop-procedure-test.true in
+    let is = slice_get-get_or all i c.index-outcomes-procedure.result within in
     let (rest, whole, longer) = split_at_element all i item is in
     let one : i + 1 ≡ suc i = omega arith in
     let next : take (i + 1) all ≡ take i all ++ item ∷ [] = ap (λ n. take n all) one ∙ longer in
+    let short : i ≤ length all = omega (arith, within) in
+    let count : length (ends_of (take i all)) ≡ i = length-map (take i all) _ ∙ length-take-le i all short in
     subst (λ l. IsLeastOf l c.least_with-least.result)
     (sym (ap ends_of next ∙ map-append _ (take i all) (item ∷ [])))
-    (c.least_with-least.ensures (ends_of (take i all)) c.loop-outcome.invariant)
+    (c.least_with-least.ensures (ends_of (take i all)) count c.loop-procedure.invariant)
 
 pub returns : goal.returns
-returns g c = subst (λ l. IsLeastOf (ends_of l) c.loop-outcome.least)
-    (take_whole c.args.outcomes.now c.loop-outcome.outcome-index c.loop-outcome-test.false) c.loop-outcome.invariant
+returns g c = subst (λ l. IsLeastOf (ends_of l) c.loop-procedure.least)
+    (take_whole c.args.outcomes.now c.loop-procedure.procedure c.loop-procedure-test.false) c.loop-procedure.invariant

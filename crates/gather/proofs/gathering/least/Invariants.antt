@@ -3,5 +3,5 @@ use Rattle.std.proofs.Common.{take}
 use Rattle.gather.specs.Gathered.{ends_of, IsLeastOf}
 use Rattle.gather.proofs.gathering.least.Given as goal
 
-abbrev pub invariant-loop-outcome : goal.invariant-loop-outcome
-invariant-loop-outcome g l = IsLeastOf (ends_of (take l.outcome-index l.outcomes)) l.least
+abbrev pub invariant-loop-procedure : goal.invariant-loop-procedure
+invariant-loop-procedure g l = IsLeastOf (ends_of (take l.procedure l.outcomes)) l.least

@@ -16,7 +16,8 @@ open_with_budget-requires-clause-fits g c = opening_fits c.args.graphs.now c.req
 pub work_all-requires-after_bounds : goal.work_all-requires-after_bounds
 work_all-requires-after_bounds g c κs within =
     new_crew c.args.graphs.now c.args.limit (g.B-Board.identity c.in_ok-board.board) c.args.budget c.len-boxes.result c.requires.drawn
-    c.len-boxes.ensures (map g.B-Board.sight c.in_ok-board.passes.items) c.in_ok-board.ensures.1
+    c.len-boxes.ensures (map g.B-Board.sight c.in_ok-board.passes.items)
+    c.in_ok-board.ensures.1
 
 -- the lanes, split into passes and outcomes, have ended
 ended : (g : Over) (c : After-back-2-1 g) → HaveEnded g.S.PathSet.members c.args.graphs.now c.args.limit
@@ -32,14 +33,14 @@ into_ledger-ledger-requires g c =
     (g.B-Board.mailboxes c.in_ok-board.board) (c.in_ok-board.ensures.0 ∙ c.len-boxes.ensures)
 
 pub returns-in_err-summaries-clause-limit : goal.returns-in_err-summaries-clause-limit
-returns-in_err-summaries-clause-limit g c = λ p drawn is.
+returns-in_err-summaries-clause-limit g c = λ p drawn q is.
     let a = (goal.at.returns-in_err-summaries-clause-limit g c).After-back-2-1 in
     let e = err_from_is_err_and c.from_residual-in_err-summaries.result c.from_residual-in_err-summaries.ensures.1 in
     let of =
     of_board _ _ _ _ _ _ (ended g a) _ (c.in_ok-board.ensures.0 ∙ c.len-boxes.ensures) _ _ c.into_ledger-ledger.ensures.settles in
     limit_passed g.S.PathSet.members c.args.graphs.now c.args.limit (g.B-Board.identity c.in_ok-board.board)
     (map g.B-Board.sight c.in_ok-back.back.items) c.in_ok-back.outcomes.items (ended g a) c.in_err-summaries.field-0.0
-    (c.in_err-summaries.ensures c.into_ledger-ledger.result.histories.items c.into_ledger-ledger.result.closed of).1
+    q (c.in_err-summaries.ensures c.into_ledger-ledger.result.histories.items c.into_ledger-ledger.result.closed of).1
     (let at = e.1 in let same = e.2 in cc) p drawn
 
 pub returns-in_err-summaries-clause-cause : goal.returns-in_err-summaries-clause-cause

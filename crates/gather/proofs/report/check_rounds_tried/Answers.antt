@@ -26,7 +26,7 @@ returns-in_err-ledger-clause-none g c =
     let source = checked_tree c.args.program.now in
     rw (e.1, e.2) (no_report source rounds (most_of c.args.limit) c.in_err-ledger.field-0.0
     (subst AllNarrow same c.in-Ok.sequential.narrow) c.in_err-ledger.ensures.cause
-    (λ is. c.in_err-ledger.ensures.limit (sequential_for rounds source) drawn (λ i. Err (is i))))
+    (λ q is. c.in_err-ledger.ensures.limit (sequential_for rounds source) drawn q (λ i. Err (is i))))
 
 pub returns-clause-report : goal.returns-clause-report
 returns-clause-report g c =

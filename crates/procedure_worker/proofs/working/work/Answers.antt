@@ -9,7 +9,7 @@ pub loop-init : goal.loop-init
 loop-init g c = (
   fresh_ready (begun c.args.graphs.now c.args.procedure c.args.limit (g.B.Board.identity c.args.board.now)) g.S.PathSet.members
       (g.B.Board.sight c.args.pass) _ c.requires.drawn c.requires.fresh c.new.ensures.new c.new.ensures.quiet
-      c.new.ensures.graph c.new.ensures.procedure c.new.ensures.limit c.new-2.ensures.items c.new-3.ensures.items,
+      c.new.ensures.graph c.new.ensures.procedure c.new.ensures.limit,
   tt,
   tt,
 )
@@ -22,8 +22,12 @@ returns-in-Some-turn g c =
     let stopped = c.in-Some-turn.ensures.ends in (
       w.table,
       refl,
-      subst (λ z. EndsSo b g.S.PathSet.members z (g.B.Board.sight w.pass) w.table w.takes.items w.posts.items)
-          (sym c.end.ensures) stopped.0,
+      (
+        stopped.0.0,
+        stopped.0.1,
+        subst (λ z. EndsSo b g.S.PathSet.members z (g.B.Board.sight w.pass) w.table stopped.0.0 stopped.0.1)
+            (sym c.end.ensures) stopped.0.2,
+      ),
       subst (λ z. IsFounded z c.lack.result w.table) (sym c.end.ensures)
           (subst (λ z. IsFounded (end_of e) z w.table) (sym c.lack.ensures) (founded e w.table stopped.1)),
     )

@@ -1,12 +1,13 @@
 -- The tables are those of the program, and full in the end.
-use Rattle.std.proofs.Common.{Err, sym, ap, subst}
+use Rattle.std.proofs.Common.{◌≡◌, Err, sym, ap, ◌∙◌, subst}
 use Rattle.flow_graph.specs.Graphs.{AreDrawnFrom}
 use Rattle.summaries.specs.declared.no_verdict.NoVerdict.TheVariants as verdict
-use Rattle.summaries.proofs.Steps.{fault_told, limit_told, new_tables}
+use Rattle.summaries.proofs.Steps.{limit_told, new_tables}
+use Rattle.summaries.specs.Tabulated.{HasMoreEdges}
 use Rattle.summaries.specs.Together.{HaveLimit, AreFull}
 use Rattle.summaries.proofs.tabulation.tabulate.Given.{Over}
 use Rattle.summaries.proofs.tabulation.tabulate.Goals as goal
-use Rattle.summaries.proofs.tabulation.tabulate.Goals.{In_ok-collect}
+use Rattle.summaries.proofs.tabulation.tabulate.Goals.{In_ok-collect-in-Ok}
 use Rattle.path_sets.specs.EdgeLimits.{most_of}
 
 pub run-requires : goal.run-requires
@@ -24,28 +25,30 @@ run-requires g c κs within =
       ),
     )
 
-pub returns-in_err-run-clause-limit : goal.returns-in_err-run-clause-limit
-returns-in_err-run-clause-limit g c = λ e.
-    let told = fault_told _ c.from_residual-in_err-run.result verdict.EdgeLimit c.from_residual-in_err-run.ensures.1 e in
-    c.in_err-run.ensures.limit (ap Err (limit_told c.in_err-run.field-0.0 told)) (most_of c.args.limit) c.in_ok-tables.ensures.limit
+pub returns-clause-limit : goal.returns-clause-limit
+returns-clause-limit g c = λ q e.
+    let named : c.no_verdict.result ≡ verdict.EdgeLimit q = cc in
+    let (is, same) = limit_told _ q c.in-Err.fault (sym c.no_verdict.ensures ∙ named) in
+    subst (λ n. HasMoreEdges g.program n (most_of c.args.limit)) same
+    (c.in-Err.ensures.limit (ap Err is) (most_of c.args.limit) c.in_ok-tables.ensures.limit)
 
 -- no table owes anything in the end
-tables_full : (g : Over) (c : In_ok-collect g) → AreFull g.S.PathSet.members g.program c.deref.result.now
+tables_full : (g : Over) (c : In_ok-collect-in-Ok g) → AreFull g.S.PathSet.members g.program c.deref.result.now
 tables_full g c =
-    let ran = c.in_ok-run.ensures in
+    let ran = c.in-Ok.ensures in
     subst (AreFull g.S.PathSet.members g.program) (sym c.deref.ensures.value) (ran.tables, ran.quiet)
 
-pub returns-clause-summaries : goal.returns-clause-summaries
-returns-clause-summaries g c = c.in_ok-collect.ensures.summaries g.program
-    (tables_full g ((goal.at.returns-clause-summaries g c).In_ok-collect))
+pub returns-in-Ok-clause-summaries : goal.returns-in-Ok-clause-summaries
+returns-in-Ok-clause-summaries g c = c.in_ok-collect-in-Ok.ensures.summaries g.program
+    (tables_full g ((goal.at.returns-in-Ok-clause-summaries g c).In_ok-collect-in-Ok))
 
-pub returns-clause-bad : goal.returns-clause-bad
-returns-clause-bad g c = c.in_ok-collect.ensures.bad g.program
-    (tables_full g ((goal.at.returns-clause-bad g c).In_ok-collect))
+pub returns-in-Ok-clause-bad : goal.returns-in-Ok-clause-bad
+returns-in-Ok-clause-bad g c = c.in_ok-collect-in-Ok.ensures.bad g.program
+    (tables_full g ((goal.at.returns-in-Ok-clause-bad g c).In_ok-collect-in-Ok))
 
-pub returns-clause-few : goal.returns-clause-few
-returns-clause-few g c =
-    c.in_ok-collect.ensures.few g.program (most_of c.args.limit)
-    (tables_full g ((goal.at.returns-clause-few g c).In_ok-collect))
+pub returns-in-Ok-clause-few : goal.returns-in-Ok-clause-few
+returns-in-Ok-clause-few g c =
+    c.in_ok-collect-in-Ok.ensures.few g.program (most_of c.args.limit)
+    (tables_full g ((goal.at.returns-in-Ok-clause-few g c).In_ok-collect-in-Ok))
     (subst (HaveLimit (most_of c.args.limit)) (sym c.deref.ensures.value)
-    (c.in_ok-run.ensures.limits (most_of c.args.limit) c.in_ok-tables.ensures.limit))
+    (c.in-Ok.ensures.limits (most_of c.args.limit) c.in_ok-tables.ensures.limit))

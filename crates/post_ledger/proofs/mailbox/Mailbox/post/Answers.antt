@@ -1,22 +1,42 @@
 -- A Post finds the room that was reserved.
-use Rattle.std.proofs.Common.{◌≤◌, ◌+◌, ◌∷◌, ◌++◌, [], length, ap, ◌∙◌, arith}
+use Rattle.std.proofs.Common.{◌≡◌, ◌≤◌, ◌<◌, ◌+◌, ◌-◌, ◌^◌, ◌∷◌, ◌++◌, [], length, ap, ap₂, ◌∙◌, arith}
 use Rattle.std.specs.Vec.{vec_capacity}
 use Rattle.post_ledger.specs.declared.event.Event.TheVariants.{Post}
-use Rattle.post_ledger.proofs.Keeping.{counts_post, counts_grow}
+use Rattle.post_ledger.specs.declared.mailbox.Step.TheVariants as step
+use Rattle.post_ledger.specs.Kept.{events_of}
+use Rattle.post_ledger.proofs.Keeping.{counts_post, counts_grow, posted_event}
+use Rattle.post_ledger.proofs.mailbox.Mailbox.post.Given.{Over}
 use Rattle.post_ledger.proofs.mailbox.Mailbox.post.Goals as goal
+use Rattle.post_ledger.proofs.mailbox.Mailbox.post.Goals.{After-push_reserved-2}
 
-pub invariant_of-self : goal.invariant_of-self
-invariant_of-self g c =
-    counts_grow c.self.inside.events.items c.reserve.new.self.items (vec_capacity c.self.inside.events) (vec_capacity c.reserve.new.self)
-    c.self.inside.next c.self.inside.untaken c.self.inside.taken c.self.inside.open c.reserve.ensures.items c.reserve.ensures.capacity
-    c.self.invariant
+-- the new Post is the last
+new_posted : (g : Over) (c : After-push_reserved-2 g)
+    → c.push_reserved.new.self.items ≡ c.self.inside.posted.items ++ (c.args.sender, c.args.message) ∷ []
+new_posted g c = c.push_reserved.ensures.items ∙ ap (λ l. l ++ (c.args.sender, c.args.message) ∷ []) c.reserve.ensures.items
 
-pub invariant_of-self-in-Ok : goal.invariant_of-self-in-Ok
-invariant_of-self-in-Ok g c =
+-- and its step, with its number
+new_steps : (g : Over) (c : After-push_reserved-2 g)
+    → c.push_reserved-2.new.self.items ≡ c.self.inside.steps.items ++ step.Post (length c.self.inside.posted.items) ∷ []
+new_steps g c =
+    let number : c.in-Ok.number ≡ length c.self.inside.posted.items = omega (arith, c.in-Ok.ensures) in
+    c.push_reserved-2.ensures.items ∙ ap₂ (λ l k. l ++ step.Post k ∷ []) c.reserve-2.ensures.items number
+
+pub invariant_of-self-2 : goal.invariant_of-self-2
+invariant_of-self-2 g c =
     let i = c.self.inside in
-    let room : length i.events.items + (i.untaken + i.untaken + i.open + 3) ≤ vec_capacity c.push_reserved.new.self =
-    omega (arith, c.in-Ok.ensures.ok, c.reserve.ensures.len, c.push_reserved.ensures.capacity) in
-    counts_grow (i.events.items ++ Post c.args.sender c.args.message ∷ []) c.push_reserved.new.self.items _ _ _ _ _ _
-    (c.push_reserved.ensures.items ∙ ap (λ l. l ++ Post c.args.sender c.args.message ∷ []) c.reserve.ensures.items) (omega arith)
-    (counts_post i.events.items (vec_capacity i.events)
-    (vec_capacity c.push_reserved.new.self) i.next i.untaken i.taken i.open c.args.sender c.args.message c.self.invariant room)
+    let n = length i.posted.items in
+    let short : n < 2 ^ 32 = omega (arith, c.in-Ok.ensures) in
+    let room : length i.steps.items + ((n - i.taken) + (n - i.taken) + i.open + 3) ≤ vec_capacity c.push_reserved-2.new.self =
+    omega (arith, c.in_default-reserve-2.ensures.ok, c.reserve-2.ensures.len, c.push_reserved-2.ensures.capacity) in
+    counts_grow (i.posted.items ++ (c.args.sender, c.args.message) ∷ []) c.push_reserved.new.self.items
+    (i.steps.items ++ step.Post n ∷ []) c.push_reserved-2.new.self.items (vec_capacity c.push_reserved-2.new.self) _ _ _
+    (new_posted g c) (new_steps g c) (omega arith)
+    (counts_post i.posted.items i.steps.items (vec_capacity i.steps) (vec_capacity c.push_reserved-2.new.self) i.taken i.open
+    c.args.sender c.args.message c.self.invariant short room)
+
+pub returns-clause-ok : goal.returns-clause-ok
+returns-clause-ok g c =
+    let i = c.self.inside in
+    ap₂ events_of (new_posted g c) (new_steps g c)
+    ∙ posted_event i.posted.items i.steps.items c.args.sender c.args.message c.self.invariant.numbered
+    ∙ ap (λ l. l ++ Post c.args.sender c.args.message ∷ []) c.self.view_is

@@ -2,8 +2,8 @@
 use Rattle.std.proofs.Common.{refl, ◌∙◌, subst}
 use Rattle.std.specs.Bool.{OnFalse}
 use Rattle.summaries.specs.Tables.{IsQuiet}
-use Rattle.procedure_worker.specs.Works.{start_of}
-use Rattle.procedure_worker.proofs.Works.{complete_ends, stopped_ends, job_to_pass}
+use Rattle.procedure_worker.specs.Works.{start_of, took_by}
+use Rattle.procedure_worker.proofs.Works.{complete_ends, job_to_pass, stopped_ends, took_completed, took_still}
 use Rattle.procedure_worker.proofs.worker.Worker.deal.Goals as goal
 
 pub returns-in-Ok-false-clause-ends : goal.returns-in-Ok-false-clause-ends
@@ -28,10 +28,11 @@ pub loop-preserved : goal.loop-preserved
 loop-preserved g c = ((c.in-Ok-true.ensures.dealing, c.in-Ok-true.ensures.takes ∙ c.loop.invariant.0.1), tt, tt)
 
 pub returns-in-Ok-false-clause-takes : goal.returns-in-Ok-false-clause-takes
-returns-in-Ok-false-clause-takes g c = c.in-Ok-false.ensures.takes ∙ c.loop.invariant.0.1
-
-pub returns-in-Err-clause-takes : goal.returns-in-Err-clause-takes
-returns-in-Err-clause-takes g c = c.in-Err.ensures.takes ∙ c.loop.invariant.0.1
+returns-in-Ok-false-clause-takes g c =
+    let s = g.B.Board.sight c.answer.new.self.pass in
+    let t = g.B.Board.sight c.complete.new.pass in
+    took_still c.complete.result (took_by t) (took_by s) _ (took_completed c.args.job c.complete.result s t c.complete.ensures)
+    (c.in-Ok-false.ensures.takes ∙ c.loop.invariant.0.1)
 
 pub give_up-requires : goal.give_up-requires
 give_up-requires g c =

@@ -1,9 +1,9 @@
 -- The pass took a message, which the table is to take.
-use Rattle.std.proofs.Common.{◌∷◌, ◌++◌, [], Ok, refl, ap, ◌∙◌, subst}
+use Rattle.std.proofs.Common.{Ok, refl, subst}
 use Rattle.summaries.specs.Fitting.{FitsIn}
 use Rattle.switchboard.specs.Promises.{Took}
 use Rattle.procedure_worker.specs.Works.{start_of}
-use Rattle.procedure_worker.proofs.Works.{took_taking}
+use Rattle.procedure_worker.proofs.Works.{took_more, took_taking}
 use Rattle.procedure_worker.proofs.worker.Worker.turn.Goals as goal
 
 pub serve-requires : goal.serve-requires
@@ -11,6 +11,12 @@ serve-requires g c =
     let s = g.B.Board.sight c.args.self.now.pass in
     let t = g.B.Board.sight c.take.new.pass in
     took_taking (start_of g.B.Board.identity c.args.desk.now) g.S.PathSet.members c.in-Ok-Message.job c.in-Ok-Message.due s t
-    c.args.self.now (record c.args.self.now { pass = c.take.new.pass; takes = c.push_reserved.new.self; empty = 0 }) c.requires
+    c.args.self.now _ c.requires
     (subst (λ r. Took FitsIn (Ok r) s t) c.in-Ok-Message.field-0-is c.in-Ok-Message.ensures) refl
-    (c.push_reserved.ensures.items ∙ ap (λ l. l ++ c.in-Ok-Message.due ∷ []) c.one_more.ensures.items) refl
+
+pub returns-in-Ok-Message-clause-goes : goal.returns-in-Ok-Message-clause-goes
+returns-in-Ok-Message-clause-goes g c =
+    let s = g.B.Board.sight c.args.self.now.pass in
+    let t = g.B.Board.sight c.take.new.pass in
+    took_more c.in-Ok-Message.job c.in-Ok-Message.due s t (g.B.Board.sight c.serve.new.self.pass) c.serve.result
+    (subst (λ r. Took FitsIn (Ok r) s t) c.in-Ok-Message.field-0-is c.in-Ok-Message.ensures) c.serve.ensures.takes

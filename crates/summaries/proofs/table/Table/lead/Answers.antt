@@ -1,4 +1,4 @@
-use Rattle.std.proofs.Common.{◌≡◌, ◌≤◌, length, Some, slice_get, refl, subst, arith}
+use Rattle.std.proofs.Common.{◌≡◌, refl, arith}
 use Rattle.std.proofs.lemmas.Result.{IfOk-weaker}
 use Rattle.summaries.specs.Grows.{triple_of, IsNext}
 use Rattle.summaries.proofs.Leading.{led_to, lead_only, lead_step, next_reached}

@@ -1,13 +1,11 @@
-use Rattle.std.proofs.Common.{◌≡◌, Some, slice_get, true, inl, inr, refl, sym, ap, ◌∙◌, subst, arith, rules}
+use Rattle.std.proofs.Common.{◌≡◌, Some, slice_get, inl, inr, refl, sym, subst}
 use Rattle.language.specs.Lists.{Member}
 use Rattle.summaries.specs.Found.{IsLed}
-use Rattle.summaries.specs.declared.edge.Led.{Led}
 use Rattle.summaries.proofs.Growing.{ok_err}
 use Rattle.summaries.proofs.Keys.{found_is_in}
 use Rattle.summaries.proofs.Remembered.{led_eq, same_led, all_led, led_now, remembered_step, inserted_or}
 use Rattle.summaries.proofs.Stepping.{still_holds, worked_off}
 use Rattle.summaries.proofs.Working.{led_worked}
-use Rattle.summaries.proofs.Worked.{refused_worked}
 use Rattle.summaries.proofs.table.Table.lead_once.Goals as goal
 
 pub returns-then-contains-clause-worked : goal.returns-then-contains-clause-worked

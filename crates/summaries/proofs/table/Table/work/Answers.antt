@@ -6,12 +6,11 @@ use Rattle.flow_graph.specs.Returns.{left_by}
 use Rattle.flow_graph.specs.declared.flow.Flow.TheVariants.{Call}
 use Rattle.summaries.specs.Under.{under}
 use Rattle.summaries.specs.Found.{call_eq, pair, TookMessage, HasExit}
-use Rattle.summaries.specs.Grows.{triple_of, IsNext}
+use Rattle.summaries.specs.Grows.{triple_of}
 use Rattle.summaries.proofs.Growing.{ok_err}
-use Rattle.summaries.proofs.Leading.{led_to, lead_only, lead_step, next_reached}
-use Rattle.summaries.proofs.Working.{beyond_worked, called_worked, led_worked}
-use Rattle.summaries.proofs.Stepping.{still_holds, worked_off, both_ok, all_reached, taken_as}
-use Rattle.summaries.proofs.Worked.{refused_worked, then_worked, added_worked}
+use Rattle.summaries.proofs.Working.{beyond_worked, called_worked}
+use Rattle.summaries.proofs.Stepping.{worked_off, both_ok, all_reached, taken_as}
+use Rattle.summaries.proofs.Worked.{refused_worked, then_worked}
 use Rattle.summaries.proofs.table.Table.work.Goals as goal
 use Rattle.path_sets.specs.EdgeLimits.{most_of}
 

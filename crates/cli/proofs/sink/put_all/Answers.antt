@@ -5,8 +5,8 @@ use Rattle.std.proofs.lemmas.List.{take_rest}
 use Rattle.std.specs.Io.KnownBytes.{Appends, Keeps}
 use Rattle.std.proofs.KnownBytes.{Appends-kept, Appends-trans}
 use lib.Seq.{take-add}
-use Rattle.cli.proofs.sink.taken_of.Goals as goal
-use Rattle.cli.proofs.sink.taken_of.Goals.{in-Ok, in-Err+else-ne}
+use Rattle.cli.proofs.sink.put_all.Goals as goal
+use Rattle.cli.proofs.sink.put_all.Goals.{in-Ok+else-at-bytes, in-Err+else-ne}
 
 -- what was taken before, and what a write takes after it
 took_more : (a b c : Option (List ℕ)) (all : List ℕ) (at n m : ℕ) → m ≡ at + n → Appends a b (take at all)
@@ -31,7 +31,7 @@ loop-turn-preserved g c =
     let old = g.W.Write.contents c.loop-turn.writer in
     let new = g.W.Write.contents c.write.new.self in
     elim c.match-write.branch [
-      | in-Ok w ↦ record {
+      | in-Ok+else-at-bytes w ↦ record {
         within = search rules;
         took = took_more first old new all at w.in-Ok.count c.match-write.at w.at-is before.took w.in-Ok.ensures.bytes;
       }
