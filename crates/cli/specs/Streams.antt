@@ -38,7 +38,7 @@ pub record Said : Type 0 where
   pub status : ℕ
   pub message : List ℕ
 
--- The stream took the reason why the standard output did not take all of a reply.
+-- The stream took the reason why the standard output did not take all of a reply, or that memory ran out for it.
 abbrev pub LogsCut : KnownStream → KnownStream → Type 0
 LogsCut old new = (why : List ℕ) × IsReason (codes "standard output") why × Logs old new why
 

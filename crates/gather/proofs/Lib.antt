@@ -8,3 +8,4 @@ pub mod Found
 pub mod Causes
 pub mod Crews
 pub mod Reporting
+pub mod Readings

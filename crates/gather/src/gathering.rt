@@ -3,10 +3,13 @@ ghost use Rattle.std.specs.Prelude.{◌≡◌, ◌∷◌, ◌++◌, [], List, If
 ghost use Rattle.gather.specs.Gathered.{rank_of, verdict_of, ends_of, tables_in, IsLeastOf};
 ghost use Rattle.gather.specs.Gathered.{IsLesser, Gathers};
 
+use crate::reading::read_all;
 use flow_graph::Graphs;
 use path_sets::PathSet;
 use procedure_worker::{End, Outcome};
 use std::alloc::{AllocError, Allocator};
+use std::sync::Wait;
+use std::thread::Threads;
 use summaries::{NoVerdict, Summaries, Table, collect};
 use switchboard::Cause;
 
@@ -99,16 +102,23 @@ fn tables_of<'g, G: Allocator, A: Allocator + Copy, S: PathSet<A>>(
 /// The summaries that the workers of a board have found, from their outcomes, if every worker ended at the close and
 /// memory suffices; otherwise the cause of the least rank that an end names. What it says holds for the ledger that
 /// the board leaves.
-pub fn gather<G: Allocator, A: Allocator + Copy, S: PathSet<A>>(
+pub fn gather<R, G, A, S>(
+    rt: &R,
     alloc: A,
     graphs: &Graphs<G>,
     outcomes: Vec<Outcome<'_, G, A, S>, A>,
 ) -> Result<Summaries<A>, NoVerdict>
+where
+    R: Wait + Threads + Sync,
+    G: Allocator + Send + Sync,
+    A: Allocator + Copy + Send + Sync,
+    S: PathSet<A> + Send,
     ensures { Gathers S.members graphs.now outcomes.entry.items result }
 {
     if let Some(failure) = least(&outcomes) {
         return Err(verdict_for(failure));
     }
     let tables = tables_of(alloc, outcomes)?;
-    Ok(collect(alloc, graphs, &tables)?)
+    let summaries = read_all(rt, alloc, tables)?;
+    Ok(collect::<G, A, S>(graphs, summaries))
 }

@@ -9,6 +9,7 @@ mod kinds;
 mod lane;
 mod no_thread;
 mod one_thread;
+mod reading;
 mod report;
 mod slot;
 

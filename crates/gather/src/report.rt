@@ -84,7 +84,7 @@ where
     let ended = work_all::<R, B, S, K, H>(rt, alloc, &board, passes, graphs, limit, gate, hire)?;
     let (mut back, outcomes) = parted(heap, alloc, ended)?;
     let ledger = board.into_ledger(&mut back);
-    let summaries = gather(alloc, graphs, outcomes)?;
+    let summaries = gather(rt, alloc, graphs, outcomes)?;
     Ok((ledger, summaries))
 }
 

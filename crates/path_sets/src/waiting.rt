@@ -18,8 +18,8 @@ use crate::newest::open;
 use crate::spot::Spot;
 use std::alloc::{AllocError, Allocator};
 
-/// For every `SHARE` places that have gone into the diagrams, one place may wait.
-const SHARE: usize = 6;
+/// How many places may wait for each that has gone into the diagrams.
+const SHARE: usize = 8;
 
 /// The least limit on the number of places that wait.
 const LEAST: usize = 16_384;
@@ -188,7 +188,7 @@ impl<A: Allocator + Copy> Gathered<A> {
         let places = self.batches[at].masks.len();
         self.places = self.places.saturating_sub(places);
         self.gone = self.gone.saturating_add(places);
-        self.most = (self.gone / SHARE).max(LEAST).min(MOST);
+        self.most = self.gone.saturating_mul(SHARE).max(LEAST).min(MOST);
         if at + 1 < self.batches.len() {
             self.oldest = at + 1;
         }

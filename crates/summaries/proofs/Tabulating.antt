@@ -179,10 +179,10 @@ module _ {G A S : Type 0} (members : S → List Triple) (p : Program) (ts : List
               ),
         )
 
-    module _ (ss : List Effect) (as_long : length ss ≡ length ts) (read : AreReadOff ts ss) where
+    module _ (ss : List Effect) (read : AreReadOff ts ss) where
       -- a summary and its table
-      table_of : (q : ℕ) (s : Effect) → slice_get ss q ≡ Some s → (t : Table G A S) × (slice_get ts q ≡ Some t) × IsReadOff t s
-      table_of q s is = let (t, there) = there_too ss ts q s as_long is in (t, there, read q t s there is)
+      table_of : (q : ℕ) (s : Effect) → slice_get ss q ≡ Some s → (t : Table G A S) × (slice_get ts q ≡ Some t) × IsReadOff t.found s
+      table_of q s is = let (t, there) = there_too ss ts q s read.all is in (t, there, read.each q t s there is)
 
       -- what is read off are the summaries of the procedures
       pub all_summaries : (q : ℕ) (s : Effect) → slice_get ss q ≡ Some s → IsSummary p q s
@@ -212,7 +212,7 @@ module _ {G A S : Type 0} (members : S → List Triple) (p : Program) (ts : List
             let (a, b, m, bit) = h.2 in
             (table_bad t there bad).1 (a, b, (off.pairs (pair a b)).0 m, bit),
         λ h. let (t, there) = got ts 0 (bad_table bad h) in
-            let (s, is) = there_too ts ss 0 t (sym as_long) there in
+            let (s, is) = there_too ts ss 0 t (sym read.all) there in
             let (a, b, m, bit) = (table_bad t there bad).0 h in
-            (s, is, (a, b, ((read 0 t s there is).pairs (pair a b)).1 m, bit)),
+            (s, is, (a, b, ((read.each 0 t s there is).pairs (pair a b)).1 m, bit)),
       )

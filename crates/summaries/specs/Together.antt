@@ -10,6 +10,7 @@ use Rattle.flow_graph.specs.Numbers.{NumberedMessage, IsNumberOf}
 use Rattle.summaries.specs.declared.due.Caller.{Caller}
 use Rattle.summaries.specs.declared.due.Caller.TheVariants.{Starter}
 use Rattle.summaries.specs.declared.due.Due.TheVariants.{Entry}
+use Rattle.summaries.specs.declared.found.Found.{Found}
 use Rattle.summaries.specs.declared.pair.Pair.{Pair}
 use Rattle.summaries.specs.declared.table.Table.{Table}
 use Rattle.summaries.specs.Under.{under}
@@ -38,17 +39,18 @@ module _ {G A S : Type 0} where
   abbrev pub HaveLimit : ℕ → List (Table G A S) → Type 0
   HaveLimit limit ts = (q : ℕ) (t : Table G A S) → slice_get ts q ≡ Some t → limit_of t ≡ limit
 
-module _ {G A S : Type 0} where
-  -- The summary has the entries that the table has taken, and the pairs that it has found, both ascending.
-  pub record IsReadOff (table : Table G A S) (summary : Effect) : Type 0 where
-    pub ascend : IsAscending summary.entries
-    pub entries : (a : ℕ) → Member a summary.entries ↔ ((from : Caller) × Member from (under nat_eq table.found.entries.by_key a))
-    pub pairs_ascend : ArePairsAscending summary.pairs
-    pub pairs : (x : Pair) → Member x summary.pairs ↔ Member x table.found.pairs.keys
+-- The summary has the entries that a table has taken, and the pairs that it has found, both ascending.
+pub record IsReadOff {A : Type 0} (found : Found A) (summary : Effect) : Type 0 where
+  pub ascend : IsAscending summary.entries
+  pub entries : (a : ℕ) → Member a summary.entries ↔ ((from : Caller) × Member from (under nat_eq found.entries.by_key a))
+  pub pairs_ascend : ArePairsAscending summary.pairs
+  pub pairs : (x : Pair) → Member x summary.pairs ↔ Member x found.pairs.keys
 
-  -- each summary is that of the table with its number
-  abbrev pub AreReadOff : List (Table G A S) → List Effect → Type 0
-  AreReadOff ts ss = (q : ℕ) (t : Table G A S) (s : Effect) → slice_get ts q ≡ Some t → slice_get ss q ≡ Some s → IsReadOff t s
+module _ {G A S : Type 0} where
+  -- The summaries are those of the tables, one for each, in their order.
+  pub record AreReadOff (ts : List (Table G A S)) (ss : List Effect) : Type 0 where
+    pub all : length ss ≡ length ts
+    pub each : (q : ℕ) (t : Table G A S) (s : Effect) → slice_get ts q ≡ Some t → slice_get ss q ≡ Some s → IsReadOff t.found s
 
 module _ {G A S : Type 0} (members : S → List Triple) where
   -- The table is that of the procedure, works on the flow graph that was drawn from it, and has taken only messages

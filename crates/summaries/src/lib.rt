@@ -34,7 +34,8 @@ pub use laws::{
 pub use no_verdict::NoVerdict;
 pub use pair::Pair;
 pub use path_sets::EdgeLimit;
-pub use summaries::Summaries;
+pub use reading::{read, read_off};
+pub use summaries::{Summaries, Summary};
 pub use table::Table;
 pub use table_fault::TableFault;
 pub use tabulation::{collect, deliver, tabulate};

@@ -1,14 +1,15 @@
 //! What tables found, as summaries.
 
-ghost use Rattle.std.specs.Prelude.{◌≡◌, ◌↔◌, ℕ, length, IfOk, nat_eq};
+ghost use Rattle.std.specs.Prelude.{◌↔◌, ℕ, IfOk, nat_eq};
 ghost use Rattle.language.specs.Lists.{Member};
 ghost use Rattle.summaries.specs.declared.due.Caller.{Caller};
 ghost use Rattle.summaries.specs.declared.pair.Pair.{Pair};
 ghost use Rattle.summaries.specs.Under.{under};
 ghost use Rattle.summaries.specs.Tabulated.{IsAscending, ArePairsAscending};
-ghost use Rattle.summaries.specs.Together.{AreReadOff};
+ghost use Rattle.summaries.specs.Together.{AreReadOff, IsReadOff};
 
 use crate::due;
+use crate::found::Found;
 use crate::groups::Groups;
 use crate::kept_pair::KeptPair;
 use crate::pair::Pair;
@@ -56,22 +57,45 @@ fn pairs<A: Allocator + Copy>(
     Ok(pairs)
 }
 
+/// What is found, as a summary.
+fn summary_of<A: Allocator + Copy>(alloc: A, found: &Found<A>) -> Result<Summary<A>, AllocError>
+    ensures { IfOk result (IsReadOff found.now) }
+{
+    Ok(Summary {
+        entries: entries(alloc, &found.entries)?,
+        pairs: pairs(alloc, &found.pairs)?,
+    })
+}
+
+/// What a table found. The table gives back the memory of its path edges first.
+pub fn read_off<G: Allocator, A: Allocator + Copy, S: PathSet<A>>(
+    alloc: A,
+    table: Table<'_, G, A, S>,
+) -> Result<Summary<A>, AllocError>
+    ensures { IfOk result (IsReadOff table.entry.found) }
+{
+    let Table {
+        graph: _,
+        procedure: _,
+        limit: _,
+        edges,
+        found,
+        fault: _,
+    } = table;
+    drop(edges);
+    summary_of(alloc, &found)
+}
+
 /// What the tables found, table by table.
-pub(crate) fn read<G: Allocator, A: Allocator + Copy, S: PathSet<A>>(
+pub fn read<G: Allocator, A: Allocator + Copy, S: PathSet<A>>(
     alloc: A,
     tables: &[Table<'_, G, A, S>],
 ) -> Result<Vec<Summary<A>, A>, AllocError>
-    ensures len { IfOk result (λ v. length v.items ≡ length tables.now) }
-    ensures read { IfOk result (λ v. AreReadOff tables.now v.items) }
+    ensures { IfOk result (λ v. AreReadOff tables.now v.items) }
 {
     let mut summaries = Vec::new(alloc);
     for table in tables {
-        let found = &table.found;
-        let summary = Summary {
-            entries: entries(alloc, &found.entries)?,
-            pairs: pairs(alloc, &found.pairs)?,
-        };
-        summaries.push(summary)?;
+        summaries.push(summary_of(alloc, &table.found)?)?;
     }
     Ok(summaries)
 }

@@ -10,7 +10,7 @@ use std::marker::Model;
 
 /// What one procedure does as a whole: with which valuations it is entered, and its pairs, both ascending.
 #[derive(Debug, Drop)]
-pub(crate) struct Summary<A: Allocator> {
+pub struct Summary<A: Allocator> {
     pub(crate) entries: Vec<Word, A>,
     pub(crate) pairs: Vec<Pair, A>,
 }

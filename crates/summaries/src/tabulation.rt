@@ -1,20 +1,21 @@
 //! The tabulation of a whole program on one thread.
 
-ghost use Rattle.std.specs.Prelude.{◌≡◌, ◌↔◌, ℕ, length, map, IfOk, IfErr, OnOk, Err, ◌⊎◌};
+ghost use Rattle.std.specs.Prelude.{◌≡◌, ◌↔◌, ℕ, List, length, map, IfOk, IfErr, OnOk, Err, ◌⊎◌};
 ghost use Rattle.language.specs.Step.{Program};
 ghost use Rattle.language.specs.Sequential.{SomeBad};
 ghost use Rattle.flow_graph.specs.Drawn.{bad_of, graphs_of};
 ghost use Rattle.flow_graph.specs.Graphs.{AreDrawnFrom};
+ghost use Rattle.summaries.specs.declared.table.Table.{Table};
 ghost use Rattle.summaries.specs.Tables.{graph_of, IsTable, TableTakes};
 ghost use Rattle.summaries.specs.Tabulated.{AreSummaries, SomePairBad, HasMoreEdges, no_verdict};
 ghost use Rattle.summaries.specs.Together.{opening, HaveLimit, AreNew, AreTables, AreQuietBefore};
-ghost use Rattle.summaries.specs.Together.{AreFull};
+ghost use Rattle.summaries.specs.Together.{AreFull, AreReadOff};
 ghost use Rattle.path_sets.specs.EdgeLimits.{most_of};
 
 use crate::due::{Caller, Due};
 use crate::no_verdict::NoVerdict;
 use crate::reading::read;
-use crate::summaries::Summaries;
+use crate::summaries::{Summaries, Summary};
 use crate::table::Table;
 use crate::table_fault::TableFault;
 use flow_graph::Graphs;
@@ -94,23 +95,19 @@ fn run<G: Allocator, A: Allocator + Copy, S: PathSet<A>>(
     Ok(())
 }
 
-/// The summaries of the program that the graphs are drawn from, by the tables of all its procedures, which owe each
-/// other nothing.
-pub fn collect<G: Allocator, A: Allocator + Copy, S: PathSet<A>>(
-    alloc: A,
+/// The summaries of the program that the graphs are drawn from, by what was read off the tables of all its procedures,
+/// which owe each other nothing.
+pub fn collect<G: Allocator, A: Allocator, S: PathSet<A>>(
     graphs: &Graphs<G>,
-    tables: &[Table<'_, G, A, S>],
-) -> Result<Summaries<A>, AllocError>
-    ensures summaries { (p : Program) → AreFull S.members p tables.now
-        → IfOk result (λ s. AreSummaries p s) }
-    ensures bad { (p : Program) → AreFull S.members p tables.now
-        → IfOk result (λ s. SomePairBad s ↔ SomeBad p (bad_of graphs.now)) }
-    ensures few { (p : Program) (n : ℕ) → AreFull S.members p tables.now → HaveLimit n tables.now
-        → IfOk result (λ _. (q : ℕ) → ¬ HasMoreEdges p q n) }
+    procedures: Vec<Summary<A>, A>,
+) -> Summaries<A>
+    ensures summaries { (p : Program) (ts : List (Table G A S)) → AreFull S.members p ts
+        → AreReadOff ts procedures.items → AreSummaries p result }
+    ensures bad { (p : Program) (ts : List (Table G A S)) → AreFull S.members p ts
+        → AreReadOff ts procedures.items → SomePairBad result ↔ SomeBad p (bad_of graphs.now) }
 {
-    let procedures = read(alloc, tables)?;
     let bad = graphs.bad();
-    Ok(Summaries { procedures, bad })
+    Summaries { procedures, bad }
 }
 
 /// Why there is no verdict, if the table of a procedure has failed.
@@ -143,7 +140,7 @@ pub fn tabulate<G: Allocator, A: Allocator + Copy, S: PathSet<A>>(
     let mut tables: Vec<Table<'_, G, A, S>, A> = tables_of(alloc, graphs, limit)?;
     let mut last = 0;
     match run(&mut tables, &mut last) {
-        Ok(()) => Ok(collect(alloc, graphs, &tables)?),
+        Ok(()) => Ok(collect::<G, A, S>(graphs, read(alloc, &tables)?)),
         Err(fault) => Err(no_verdict(last, fault)),
     }
 }

@@ -1,8 +1,9 @@
 -- If no end names a cause, the tables are full; otherwise the least cause is returned.
-use Rattle.std.proofs.Common.{sym, ◌∙◌, subst}
+use Rattle.std.proofs.Common.{subst}
 use Rattle.path_sets.specs.EdgeLimits.{most_of}
-use Rattle.summaries.specs.Together.{HaveLimit, AreFull}
-use Rattle.gather.specs.Gathered.{ends_of, NoneFailed}
+use Rattle.summaries.specs.Together.{AreReadOff}
+use Rattle.summaries.proofs.Tabulating.{few}
+use Rattle.gather.specs.Gathered.{ends_of, tables_in, NoneFailed}
 use Rattle.gather.proofs.Causes.{by_memory}
 use Rattle.gather.proofs.Full.{all_closed, shut, full, limits}
 use Rattle.gather.proofs.gathering.gather.Given.{Over}
@@ -19,11 +20,11 @@ returns-in_err-tables g c = λ histories closed of.
     (all_closed g.S.PathSet.members c.args.graphs.now of.limit of.board of.passes c.args.outcomes.items
     histories closed of.ended of.settled none)
 
-pub returns-in_err-collect : goal.returns-in_err-collect
-returns-in_err-collect g c = λ histories closed of.
-    let none = none_failed g (goal.at.returns-in_err-collect g c).In_default in
-    by_memory _ (ends_of c.args.outcomes.items) _ c.from_residual-in_err-collect.result
-    c.from_residual-in_err-collect.ensures.1 (λ why is. is)
+pub returns-in_err-summaries : goal.returns-in_err-summaries
+returns-in_err-summaries g c = λ histories closed of.
+    let none = none_failed g (goal.at.returns-in_err-summaries g c).In_default in
+    by_memory _ (ends_of c.args.outcomes.items) _ c.from_residual-in_err-summaries.result
+    c.from_residual-in_err-summaries.ensures.1 (λ why is. is)
     (all_closed g.S.PathSet.members c.args.graphs.now of.limit of.board of.passes c.args.outcomes.items
     histories closed of.ended of.settled none)
 
@@ -33,18 +34,17 @@ returns g c = λ histories closed of.
     let graphs = c.args.graphs.now in
     let outcomes = c.args.outcomes.items in
     let none = none_failed g (goal.at.returns g c).In_default in
-    let at = sym (c.deref-2.ensures.value ∙ c.in_ok-tables.ensures) in
-    let collected = c.in_ok-collect.ensures in
-    let whole = full members graphs of.limit of.board of.passes outcomes histories closed of.ended of.settled none in (
+    let off = subst (λ ts. AreReadOff ts c.in_ok-summaries.summaries.items) c.in_ok-tables.ensures c.in_ok-summaries.ensures in
+    let whole = full members graphs of.limit of.board of.passes outcomes histories closed of.ended of.settled none in
+    let tables = tables_in outcomes in (
       record {
         shut = shut members graphs of.limit of.board of.passes outcomes histories closed of.ended of.settled none;
         ended = all_closed members graphs of.limit of.board of.passes outcomes histories closed of.ended of.settled none;
-        summaries = λ p drawn. collected.summaries p (subst (AreFull members p) at (whole p drawn));
-        bad = λ p drawn. collected.bad p (subst (AreFull members p) at (whole p drawn));
+        summaries = λ p drawn. c.collect.ensures.summaries p tables (whole p drawn) off;
+        bad = λ p drawn. c.collect.ensures.bad p tables (whole p drawn) off;
         few = λ p drawn.
-            collected.few p (most_of of.limit) (subst (AreFull members p) at (whole p drawn))
-            (subst (HaveLimit (most_of of.limit)) at
-            (limits members graphs of.limit of.board of.passes outcomes histories closed of.ended of.settled none));
+            few members p tables (whole p drawn).0 (whole p drawn).1 (most_of of.limit)
+            (limits members graphs of.limit of.board of.passes outcomes histories closed of.ended of.settled none);
       },
       tt,
     )

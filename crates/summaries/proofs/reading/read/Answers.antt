@@ -16,21 +16,15 @@ loop-table-preserved g c =
     let table = c.table-item.result in
     let is : slice_get tables c.loop-table.table-index ≡ Some table =
     slice_get_read tables _ c.loop-table.table-index table refl c.loop-table-test.true c.table-item.is in
-    let new : Effect = record { entries = c.in_ok-entries.field-0.items; pairs = c.in_ok-pairs.field-0.items } in
-    let read : IsReadOff table new = record {
-      ascend = c.in_ok-entries.ensures.ascend;
-      entries = c.in_ok-entries.ensures.entries;
-      pairs_ascend = c.in_ok-pairs.ensures.ascend;
-      pairs = c.in_ok-pairs.ensures.pairs;
-    } in
+    let new : Effect = c.in_ok-summary_of.field-0 in
     record {
       count = omega (arith, invariant.count, ap length pushed, length-append before (new ∷ []));
       read = λ q t s is_t is_s.
           each_pushed (λ n (u : Effect). (v : Table g.row.G.Denot g.row.A.Denot g.row.S.Denot) →
-          slice_get tables n ≡ Some v → IsReadOff v u) before new
+          slice_get tables n ≡ Some v → IsReadOff v.found u) before new
           (λ n u is_u v is_v. invariant.read n v u is_v is_u)
           (λ v is_v.
-          subst (λ (w : Table g.row.G.Denot g.row.A.Denot g.row.S.Denot). IsReadOff w new)
-          (same_Some table v (sym is ∙ ap (slice_get tables) (sym invariant.count) ∙ is_v)) read)
+          subst (λ (w : Table g.row.G.Denot g.row.A.Denot g.row.S.Denot). IsReadOff w.found new)
+          (same_Some table v (sym is ∙ ap (slice_get tables) (sym invariant.count) ∙ is_v)) c.in_ok-summary_of.ensures)
           q s (subst (λ l. slice_get l q ≡ Some s) pushed is_s) t is_t;
     }

@@ -3,11 +3,12 @@ use Rattle.std.proofs.Common.{◌≡◌, Err, sym, ap, ◌∙◌, subst}
 use Rattle.flow_graph.specs.Graphs.{AreDrawnFrom}
 use Rattle.summaries.specs.declared.no_verdict.NoVerdict.TheVariants as verdict
 use Rattle.summaries.proofs.Steps.{limit_told, new_tables}
+use Rattle.summaries.proofs.Tabulating.{few}
 use Rattle.summaries.specs.Tabulated.{HasMoreEdges}
 use Rattle.summaries.specs.Together.{HaveLimit, AreFull}
 use Rattle.summaries.proofs.tabulation.tabulate.Given.{Over}
 use Rattle.summaries.proofs.tabulation.tabulate.Goals as goal
-use Rattle.summaries.proofs.tabulation.tabulate.Goals.{In_ok-collect-in-Ok}
+use Rattle.summaries.proofs.tabulation.tabulate.Goals.{In_ok-read-in-Ok}
 use Rattle.path_sets.specs.EdgeLimits.{most_of}
 
 pub run-requires : goal.run-requires
@@ -33,22 +34,22 @@ returns-clause-limit g c = λ q e.
     (c.in-Err.ensures.limit (ap Err is) (most_of c.args.limit) c.in_ok-tables.ensures.limit)
 
 -- no table owes anything in the end
-tables_full : (g : Over) (c : In_ok-collect-in-Ok g) → AreFull g.S.PathSet.members g.program c.deref.result.now
+tables_full : (g : Over) (c : In_ok-read-in-Ok g) → AreFull g.S.PathSet.members g.program c.deref.result.now
 tables_full g c =
     let ran = c.in-Ok.ensures in
     subst (AreFull g.S.PathSet.members g.program) (sym c.deref.ensures.value) (ran.tables, ran.quiet)
 
 pub returns-in-Ok-clause-summaries : goal.returns-in-Ok-clause-summaries
-returns-in-Ok-clause-summaries g c = c.in_ok-collect-in-Ok.ensures.summaries g.program
-    (tables_full g ((goal.at.returns-in-Ok-clause-summaries g c).In_ok-collect-in-Ok))
+returns-in-Ok-clause-summaries g c = c.collect.ensures.summaries g.program c.deref.result.now
+    (tables_full g ((goal.at.returns-in-Ok-clause-summaries g c).In_ok-read-in-Ok)) c.in_ok-read-in-Ok.ensures
 
 pub returns-in-Ok-clause-bad : goal.returns-in-Ok-clause-bad
-returns-in-Ok-clause-bad g c = c.in_ok-collect-in-Ok.ensures.bad g.program
-    (tables_full g ((goal.at.returns-in-Ok-clause-bad g c).In_ok-collect-in-Ok))
+returns-in-Ok-clause-bad g c = c.collect.ensures.bad g.program c.deref.result.now
+    (tables_full g ((goal.at.returns-in-Ok-clause-bad g c).In_ok-read-in-Ok)) c.in_ok-read-in-Ok.ensures
 
 pub returns-in-Ok-clause-few : goal.returns-in-Ok-clause-few
 returns-in-Ok-clause-few g c =
-    c.in_ok-collect-in-Ok.ensures.few g.program (most_of c.args.limit)
-    (tables_full g ((goal.at.returns-in-Ok-clause-few g c).In_ok-collect-in-Ok))
+    let full = tables_full g ((goal.at.returns-in-Ok-clause-few g c).In_ok-read-in-Ok) in
+    few g.S.PathSet.members g.program c.deref.result.now full.0 full.1 (most_of c.args.limit)
     (subst (HaveLimit (most_of c.args.limit)) (sym c.deref.ensures.value)
     (c.in-Ok.ensures.limits (most_of c.args.limit) c.in_ok-tables.ensures.limit))
