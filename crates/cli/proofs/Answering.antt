@@ -6,7 +6,7 @@ use Rattle.language.specs.Tree.{Procedure, Tree}
 use Rattle.language.specs.Resolve.{meaning_of}
 use Rattle.language.specs.Rounds as runs
 use Rattle.language.specs.Step.{Program}
-use Rattle.scopes.specs.Checked.{IsChecked}
+use Rattle.checked.specs.Checked.{IsChecked}
 use Rattle.round_rewrite.proofs.Widths.{few_procedures}
 use Rattle.post_ledger.specs.declared.event.Event.{Event}
 use Rattle.post_ledger.specs.History.{posts, takes}

@@ -4,9 +4,9 @@ use Rattle.std.proofs.Common.{ap, refl, sym, arith, codes, get_or}
 use Rattle.language.specs.Tree.{Tree}
 use Rattle.syntax.specs.Text.{Text}
 use Rattle.syntax.specs.declared.fault.ReadFault.TheVariants as read
-use Rattle.scopes.specs.Checked.{IsFirstFault}
-use Rattle.scopes.specs.declared.fault.ScopeFault.{ScopeFault}
-use Rattle.scopes.specs.declared.fault.ScopeFault.TheVariants as scope
+use Rattle.checked.specs.Checked.{IsFirstFault}
+use Rattle.checked.specs.declared.fault.ScopeFault.{ScopeFault}
+use Rattle.checked.specs.declared.fault.ScopeFault.TheVariants as scope
 use Rattle.refusals.specs.Lines.{NamesOffset, line_of, status_of}
 use Rattle.cli.specs.Refused.{HasPlace, HasRewriting, IsPast, IsPastAt, RefusalStands}
 use Rattle.cli.specs.Replies.{IsSequential, RefusesFor, TellsOrLacks}

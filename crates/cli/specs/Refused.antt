@@ -4,9 +4,9 @@ use Rattle.language.specs.Tree.{Procedure, Tree}
 use Rattle.syntax.specs.Text as text
 use Rattle.syntax.specs.Text.{Text}
 use Rattle.syntax.specs.declared.fault.ReadFault.TheVariants as read
-use Rattle.scopes.specs.Checked.{IsChecked, IsFirstFault}
-use Rattle.scopes.specs.declared.fault.ScopeFault.{ScopeFault}
-use Rattle.scopes.specs.declared.fault.ScopeFault.TheVariants as scope
+use Rattle.checked.specs.Checked.{IsChecked, IsFirstFault}
+use Rattle.checked.specs.declared.fault.ScopeFault.{ScopeFault}
+use Rattle.checked.specs.declared.fault.ScopeFault.TheVariants as scope
 use Rattle.round_rewrite.specs.Names.{sequential_for}
 use Rattle.round_rewrite.specs.Narrow.{IsFirstWideFor, IsNarrowFor}
 use Rattle.round_rewrite.specs.declared.width.Wide.{Wide}

@@ -1,10 +1,9 @@
 -- What a reply says about a text, by what was asked.
 use Rattle.std.specs.Prelude.{◌≡◌, ◌⊎◌, ℕ, List, Option, Some}
 use Rattle.language.specs.Tree.{Tree}
-use Rattle.syntax.specs.InGrammar.{WithinLimits, IsTextOf}
-use Rattle.syntax.specs.Text.{Text}
-use Rattle.syntax.specs.Printed.{printed}
-use Rattle.scopes.specs.Checked.{IsChecked}
+use Rattle.syntax.specs.Text.{WithinLimits, IsTextOf, Text}
+use Rattle.grammar.specs.Printed.{printed}
+use Rattle.checked.specs.Checked.{IsChecked}
 use Rattle.round_rewrite.specs.Names.{rewritten_for}
 use Rattle.path_sets.specs.EdgeLimits.{most_of}
 use Rattle.round_rewrite.specs.Programs.{count_of}

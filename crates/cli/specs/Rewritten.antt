@@ -1,9 +1,9 @@
 -- The sequential program of a text.
 use Rattle.std.specs.Prelude.{◌≡◌, ℕ, List}
 use Rattle.language.specs.Tree.{Tree}
-use Rattle.syntax.specs.InGrammar.{InGrammar}
+use Rattle.grammar.specs.InGrammar.{InGrammar}
 use Rattle.syntax.specs.Text.{Text}
-use Rattle.scopes.specs.Checked.{IsChecked}
+use Rattle.checked.specs.Checked.{IsChecked}
 use Rattle.round_rewrite.specs.Law.{KeepsTree}
 use Rattle.round_rewrite.specs.Names.{rewritten_for}
 use Rattle.round_rewrite.specs.Narrow.{IsNarrowFor}

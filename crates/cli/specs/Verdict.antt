@@ -4,7 +4,7 @@ use Rattle.language.specs.Tree.{Tree}
 use Rattle.language.specs.Resolve.{meaning_of}
 use Rattle.language.specs.Rounds.{Unsafe}
 use Rattle.syntax.specs.Text.{Text}
-use Rattle.scopes.specs.Checked.{IsChecked}
+use Rattle.checked.specs.Checked.{IsChecked}
 use Rattle.round_rewrite.specs.Names.{sequential_for}
 use Rattle.summaries.specs.Tabulated.{HasMoreEdges}
 use Rattle.cli.specs.Counts.{TellCounts}

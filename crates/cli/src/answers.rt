@@ -1,7 +1,7 @@
 //! From the bytes of a text to a reply.
 ghost use Rattle.std.specs.Prelude.{◌≡◌, ◌⊎◌, ◌≤◌, ◌++◌, IfOk, None, Some, codes, true};
 ghost use Rattle.std.specs.String.{string_bytes};
-ghost use Rattle.scopes.specs.Programs.{checked_tree};
+ghost use Rattle.checked.specs.Programs.{checked_tree};
 ghost use Rattle.path_sets.specs.EdgeLimits.{most_of};
 ghost use Rattle.round_rewrite.specs.Programs.{count_of};
 ghost use Rattle.refusals.specs.Lines.{memory_line};

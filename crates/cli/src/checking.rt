@@ -1,7 +1,7 @@
 //! The checked program of a text: what every order begins with.
 
 ghost use Rattle.std.specs.Prelude.{ℕ, Option, IfErr, IfOk};
-ghost use Rattle.scopes.specs.Programs.{checked_tree};
+ghost use Rattle.checked.specs.Programs.{checked_tree};
 ghost use Rattle.cli.specs.Refused.{RefusalStands};
 ghost use Rattle.cli.specs.Verdict.{IsProgramOf};
 

@@ -2,7 +2,7 @@
 
 ghost use Rattle.std.specs.Prelude.{◌≡◌, ℕ, List, Some, IfErr, IfOk};
 ghost use Rattle.syntax.specs.Text.{Text};
-ghost use Rattle.scopes.specs.Programs.{checked_tree};
+ghost use Rattle.checked.specs.Programs.{checked_tree};
 ghost use Rattle.round_rewrite.specs.Programs.{count_of};
 ghost use Rattle.path_sets.specs.EdgeLimits.{most_of};
 ghost use Rattle.cli.specs.Refused.{IsToldAs, RefusalStands, name_at};

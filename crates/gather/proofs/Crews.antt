@@ -25,9 +25,9 @@ use Rattle.procedure_worker.specs.Works.{Start, begun, IsPassOf, IsFresh, EndsSo
 use Rattle.procedure_worker.proofs.Works.{new_fresh}
 use Rattle.gather.specs.declared.lane.Lane.{Lane}
 use Rattle.gather.specs.Ends.{LaneEnds, HaveEnded, IsCrew}
-use Rattle.gather.specs.declared.jobs.Came.{Came}
-use Rattle.gather.specs.declared.jobs.Came.TheVariants.{Run, Declined}
-use Rattle.gather.specs.Jobs.{first_of, second_of, CameOf, HaveCome}
+use Rattle.jobs.specs.declared.jobs.Came.{Came}
+use Rattle.jobs.specs.declared.jobs.Came.TheVariants.{Run, Declined}
+use Rattle.jobs.specs.Jobs.{first_of, second_of, CameOf, HaveCome}
 use Rattle.gather.specs.Lanes.{start_of, MayWork, HasWorked, WasDeclined, AreOwn, AreLanes}
 use Rattle.gather.proofs.Full.{got_map}
 

@@ -1,5 +1,3 @@
-pub mod Coming
-pub mod Beginning
 pub mod Lists
 pub mod Tables
 pub mod Posts

@@ -9,9 +9,9 @@ use Rattle.summaries.specs.Effects.{Effect}
 use Rattle.summaries.specs.Together.{IsReadOff, AreReadOff}
 use Rattle.summaries.proofs.Steps.{get_map}
 use Rattle.gather.specs.declared.reading.Reading.{Reading}
-use Rattle.gather.specs.declared.jobs.Came.{Came}
-use Rattle.gather.specs.declared.jobs.Came.TheVariants.{Run, Declined}
-use Rattle.gather.specs.Jobs.{back_of, CameOf, HaveCome}
+use Rattle.jobs.specs.declared.jobs.Came.{Came}
+use Rattle.jobs.specs.declared.jobs.Came.TheVariants.{Run, Declined}
+use Rattle.jobs.specs.Jobs.{back_of, CameOf, HaveCome}
 use Rattle.gather.specs.Readings.{okay, table_of, IsReading}
 use Rattle.gather.proofs.Full.{got_map}
 

@@ -35,8 +35,8 @@ use Rattle.procedure_worker.specs.declared.outcome.End.{End}
 use Rattle.procedure_worker.specs.declared.outcome.End.TheVariants.{Closed, Failed}
 use Rattle.procedure_worker.specs.declared.outcome.Outcome.{Outcome}
 use Rattle.procedure_worker.specs.Works.{begun, EndsSo}
-use Rattle.gather.specs.declared.jobs.Came.{Came}
-use Rattle.gather.specs.Jobs.{first_of, second_of}
+use Rattle.jobs.specs.declared.jobs.Came.{Came}
+use Rattle.jobs.specs.Jobs.{first_of, second_of}
 use Rattle.gather.specs.Ends.{HaveEnded, AreOfBoard}
 use Rattle.gather.specs.Gathered.{verdict_for, ends_of, NoneFailed, AllClosed, IsCause, IsGathered}
 use Rattle.gather.specs.Reports.{AreDueOnce, IsFound, IsNoReport, IsTabulated}

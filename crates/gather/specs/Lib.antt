@@ -1,5 +1,4 @@
 pub mod Ends
-pub mod Jobs
 pub mod Lanes
 pub mod Readings
 pub mod Gathered

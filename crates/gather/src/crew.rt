@@ -1,14 +1,13 @@
 //! The crew of a board: a worker for each mailbox.
 ghost use Rattle.std.specs.Prelude.{◌≡◌, ◌≤◌, [], length, map, vec_capacity, IfOk};
 ghost use Rattle.gather.specs.Ends.{IsCrew, HaveEnded};
-ghost use Rattle.gather.specs.Jobs.{first_of, second_of};
+ghost use Rattle.jobs.specs.Jobs.{first_of, second_of};
 ghost use Rattle.gather.specs.Lanes.{AreLanes};
 
-use crate::hire::Hire;
-use crate::jobs::{Came, run_all};
 use crate::kinds::{CrewBoard, CrewSet, WorkBoard, WorkSet};
 use crate::lane::Lane;
 use flow_graph::Graphs;
+use jobs::{Came, Hire, run_all};
 use procedure_worker::{Gate, Outcome};
 use std::alloc::{AllocError, Allocator};
 use std::marker::PhantomData;

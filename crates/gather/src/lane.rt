@@ -1,7 +1,7 @@
 //! A lane: the pass of one mailbox, and what its worker needs.
-use crate::jobs::Job;
 use crate::kinds::{WorkBoard, WorkSet};
 use flow_graph::Graphs;
+use jobs::Job;
 use procedure_worker::{End, Gate, Outcome, work};
 use std::alloc::Allocator;
 use std::marker::PhantomData;

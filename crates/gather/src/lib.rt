@@ -3,18 +3,14 @@
 
 mod crew;
 mod gathering;
-mod hire;
-mod jobs;
 mod kinds;
 mod lane;
-mod no_thread;
 mod one_thread;
 mod reading;
 mod report;
-mod slot;
 
 pub use gathering::gather;
-pub use hire::{Always, Hire};
+pub use jobs::{Always, Hire};
 pub use kinds::{CrewBoard, CrewSet, WorkBoard, WorkSet};
 pub use one_thread::tabulate_rounds;
 pub use report::{Answer, Report, check_rounds, check_rounds_tried, check_rounds_with};

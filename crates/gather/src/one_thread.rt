@@ -5,16 +5,16 @@ ghost use Rattle.language.specs.Sequential.{SomeBad, sequential_of};
 ghost use Rattle.language.specs.Step.{Program};
 ghost use Rattle.resolved.specs.Programs.{sequential_tree};
 ghost use Rattle.round_rewrite.specs.Programs.{count_of};
-ghost use Rattle.scopes.specs.Programs.{checked_tree};
+ghost use Rattle.checked.specs.Programs.{checked_tree};
 ghost use Rattle.path_sets.specs.EdgeLimits.{most_of};
 ghost use Rattle.summaries.specs.Tabulated.{AreSummaries, HasMoreEdges, SomePairBad};
 ghost use Rattle.gather.specs.Reports.{IsNoReport, IsTabulated};
 
+use checked::Checked;
 use flow_graph::graphs;
 use path_sets::PathSet;
 use resolved::Sequential;
 use round_rewrite::{RewriteFault, Rounds, rewrite};
-use scopes::Checked;
 use std::alloc::Allocator;
 use summaries::{EdgeLimit, NoVerdict, Summaries, tabulate};
 

@@ -2,10 +2,9 @@
 ghost use Rattle.std.specs.Prelude.{◌≡◌, ◌≤◌, length, map, IfOk};
 ghost use Rattle.summaries.specs.Together.{AreReadOff};
 ghost use Rattle.gather.specs.Readings.{okay, table_of};
-ghost use Rattle.gather.specs.Jobs.{back_of};
+ghost use Rattle.jobs.specs.Jobs.{back_of};
 
-use crate::hire::Always;
-use crate::jobs::{Came, Job, run_all};
+use jobs::{Always, Came, Job, run_all};
 use path_sets::PathSet;
 use std::alloc::{AllocError, Allocator};
 use std::sync::Wait;

@@ -3,7 +3,7 @@ ghost use Rattle.std.specs.Prelude.{◌≡◌, ◌≢◌, ◌≤◌, ◌^◌, �
 ghost use Rattle.language.specs.Step.{Program};
 ghost use Rattle.language.specs.Sequential.{SomeBad};
 ghost use Rattle.round_rewrite.specs.Programs.{count_of};
-ghost use Rattle.scopes.specs.Programs.{checked_tree};
+ghost use Rattle.checked.specs.Programs.{checked_tree};
 ghost use Rattle.flow_graph.specs.Drawn.{bad_of, graphs_of};
 ghost use Rattle.flow_graph.specs.Graphs.{AreDrawnFrom};
 ghost use Rattle.path_sets.specs.EdgeLimits.{most_of};
@@ -12,14 +12,14 @@ ghost use Rattle.gather.specs.Reports.{IsFound, IsReport, IsNoReport};
 
 use crate::crew::{parted, work_all};
 use crate::gathering::gather;
-use crate::hire::{Always, Hire};
 use crate::kinds::{CrewBoard, CrewSet};
+use checked::Checked;
 use flow_graph::{Graphs, graphs};
+use jobs::{Always, Hire};
 use path_sets::DiagramEdges;
 use post_ledger::Ledger;
 use procedure_worker::Gate;
 use round_rewrite::{RewriteFault, Rounds, rewrite};
-use scopes::Checked;
 use std::alloc::Allocator;
 use std::sync::Wait;
 use std::thread::Threads;

@@ -62,6 +62,16 @@ by_four w P none first second both = elim (cases_eq (w % 4) 0) [
 pub on : (ns ms os : List Node) → KeepsNodes ns ms → KeepsNodes ms os → KeepsNodes ns os
 on ns ms os a b = keeps_on child (λ (x : Node). x.level) word_bits ns ms os a b
 
+-- a number below a level stays one when the nodes are kept
+pub stays_below : (ns ms : List Node) (n k : ℕ) → KeepsNodes ns ms → IsNumber ns n → k < level_of ns n
+    → IsNumber ms n × (k < level_of ms n)
+stays_below ns ms n k kept inside deep = (omega (arith, kept.longer, inside), omega (arith, kept.levels n inside, deep))
+
+-- and one that has what is asked for at the next level is below the two bits of this one
+pub next_below : (qs : List Quad) (bit : ℕ) (ns ms : List Node) (asked : Asked) (l n : ℕ) → asked.level ≡ l + 1
+    → HasAskedSet qs bit ns asked n → KeepsNodes ns ms → IsNumber ms n × (2 * l + 1 < level_of ms n)
+next_below qs bit ns ms asked l n next has kept = stays_below ns ms n (2 * l + 1) kept has.inside (omega (arith, next, has.deep))
+
 -- 0 and 1 have no node
 leaf_level : (ns : List Node) (n : ℕ) → n ≤ 1 → level_of ns n ≡ word_bits
 leaf_level ns zero h = refl

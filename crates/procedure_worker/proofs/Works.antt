@@ -54,9 +54,9 @@ use Rattle.procedure_worker.specs.declared.stop.Stop.TheVariants as stop
 use Rattle.procedure_worker.specs.declared.worker.Worker.{Worker}
 use Rattle.procedure_worker.specs.Own.{taken_in, posted_in}
 use Rattle.procedure_worker.specs.Stops.{cause_of, end_of, lack_of, end_at, RefusedFor, FailsFor, TakesOrFails}
-use Rattle.procedure_worker.specs.Works.{Start, IsPassOf, IsFresh, HasStood, HasFailed, Stands, HasSent, EndsSo, IsReady, IsTaking}
+use Rattle.procedure_worker.specs.Works.{Start, IsPassOf, IsFresh, HasStood, HasFailed, Stands, Goes, HasSent, EndsSo, IsReady, IsTaking}
 use Rattle.procedure_worker.specs.Works.{IsDealing, IsSending, IsStopped, HasStopped, Failed, Completes, StopsSo, StoppedFor, IsAtFault}
-use Rattle.procedure_worker.specs.Works.{IsFounded, MayGoOn, cause_for, took_by}
+use Rattle.procedure_worker.specs.Works.{IsFounded, MayGoOn, HasAnswered, HasDealt, HasTurned, cause_for, took_by}
 use Rattle.procedure_worker.proofs.Lists.{taken_post, taken_take, taken_done, posted_post, posted_take, posted_done}
 
 -- what is said of an error holds for an answer that is this error
@@ -336,6 +336,16 @@ module _ {G : Type 0} (b : Start G) where
     fault_stood fault.EdgeLimit s t x took sent k failed = λ p drawn.
         subst (HasMoreEdges p b.number) k.limit (over_limit members p b.number x (k.table p drawn) failed)
 
+    -- A table that keeps what it took keeps what goes on.
+    goes_keeps : (s : Sight Due (Graphs G)) (x y : Table G A S) (took : List Due) (sent : List (ℕ × Due))
+        → Goes b members s x took sent → KeepsTable members None x y → Goes b members s y took sent
+    goes_keeps s x y took sent g keeps = record {
+      stands = stands_keeps None s x y took sent g.stands keeps;
+      made = g.made;
+      whole = keeps.fault;
+      all = λ i h. same_taken x.found y.found keeps.taken i (g.all i h);
+    }
+
     -- The table has answered a message, which is due and is posted next.
     pub answered_sending : {P : Type 0} (job to : ℕ) (d : Due) (s : Sight Due (Graphs G)) (w : Worker P G A S) (y : Table G A S) →
         IsDealing b members job s w → KeepsTable members None w.table y → IsAnswer w.table y to d →
@@ -349,12 +359,7 @@ module _ {G : Type 0} (b : Start G) where
         record {
           took = deals.took;
           posts = deals.posts;
-          goes = record {
-            stands = stands;
-            made = g.made;
-            whole = keeps.fault;
-            all = λ i h. same_taken w.table.found y.found keeps.taken i (g.all i h);
-          };
+          goes = goes_keeps s w.table y deals.took deals.posts g keeps;
           but = ap (λ l. l ++ mail to d ∷ []) deals.sent.1 ∙ sym answer.behind;
           near = receiver_there s to d pass due;
           fits = subst (λ world. FitsIn world to d) (sym g.stands.pass.world)
@@ -387,6 +392,21 @@ module _ {G : Type 0} (b : Start G) where
         table_stops job fault.EdgeLimit reason.EdgeLimit s w y refl deals failed
     answered_fault job (reason.NoRoom witness) s w y deals failed =
         table_stops job fault.Memory (reason.NoRoom witness) s w y refl deals failed
+
+    -- The table owed no message: all that it answered is posted still.
+    pub answered_none : {P : Type 0} (job : ℕ) (s : Sight Due (Graphs G)) (w : Worker P G A S) (y : Table G A S) →
+        IsDealing b members job s w → KeepsTable members None w.table y → answers_of y ≡ answers_of w.table → IsQuiet members y →
+        HasAnswered b members job false s s (record w { table = y })
+    answered_none job s w y deals keeps same quiet = record {
+      dealing = record {
+        took = deals.took;
+        posts = deals.posts;
+        sent = (goes_keeps s w.table y deals.took deals.posts deals.sent.0 keeps, deals.sent.1 ∙ sym same);
+        has = deals.has;
+      };
+      none = quiet;
+      takes = refl;
+    }
 
     -- The message is posted.
     pub sent_dealing : {P : Type 0} (job to : ℕ) (d : Due) (s t : Sight Due (Graphs G)) (v w : Worker P G A S)
@@ -612,15 +632,28 @@ module _ {G : Type 0} where
   took_completed job (Some e) s t failed = tt
 
   -- a take takes one
-  pub took_more : (job : ℕ) (d : Due) (s t u : Sight Due (Graphs G)) (r : Option Finish) → promises.TookOldest FitsIn job d s t
-      → IfNone r (took_by u ≡ took_by t) → IfNone r (MayGoOn s u)
-  took_more job d s t u None m same =
+  took_more : (job : ℕ) (d : Due) (s t u : Sight Due (Graphs G)) → promises.TookOldest FitsIn job d s t → took_by u ≡ took_by t
+      → MayGoOn s u
+  took_more job d s t u m same =
       inl (
         d,
         same ∙ took_on s t (took_by s ++ d ∷ []) m.added.goes.number
             (taken_take (own s.number s.seen.order) (own s.number t.seen.order) s.number m.sender d m.added.own),
       )
-  took_more job d s t u (Some e) m same = tt
+
+-- A worker has dealt with a message if it is ready or has ended, and if it took none while it continues.
+module _ {G A S P : Type 0} (b : Start G) (members : S → List Triple) where
+  pub dealt : (r : Option Finish) (s t : Sight Due (Graphs G)) (w : Worker P G A S)
+      → MatchOption r (IsReady b members t w) (λ e. HasStopped b members e t w) → IfNone r (took_by t ≡ took_by s)
+      → HasDealt b members r s t w
+  dealt None s t w ready same = (ready, same)
+  dealt (Some e) s t w stopped same = stopped
+
+  -- the message that it dealt with was one that it took
+  pub turned : (job : ℕ) (d : Due) (r : Option Finish) (s t u : Sight Due (Graphs G)) (w : Worker P G A S)
+      → promises.TookOldest FitsIn job d s t → HasDealt b members r t u w → HasTurned b members r s u w
+  turned job d None s t u w took has = (has.0, took_more job d s t u took has.1)
+  turned job d (Some e) s t u w took has = has
 
 -- a pass that has seen the opening alone
 pub new_fresh : {G : Type 0} (graphs : Graphs G) (board : TableId) (budget boxes number : ℕ) (limit : EdgeLimit)

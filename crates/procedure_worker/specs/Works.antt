@@ -1,6 +1,7 @@
 -- What a worker knows while it works, and what it returns.
-use Rattle.std.specs.Prelude.{◌≡◌, ◌≢◌, ◌⊎◌, ◌↔◌, ◌<◌, ◌++◌, ◌∷◌, ℕ, true, false, IsSome, List, [], Option}
+use Rattle.std.specs.Prelude.{◌≡◌, ◌≢◌, ◌⊎◌, ◌↔◌, ◌<◌, ◌++◌, ◌∷◌, ℕ, Bool, true, false, IsSome, List, [], Option}
 use Rattle.std.specs.Prelude.{Some, None, length, map}
+use Rattle.std.specs.Bool.{OnFalse}
 use Rattle.atomic_table.specs.Seated.{TableId}
 use Rattle.post_ledger.specs.Orders.{own, HasJob, IsClosed}
 use Rattle.post_ledger.specs.declared.entry.Entry.{Entry}
@@ -256,3 +257,19 @@ module _ {G : Type 0} (b : Start G) where
       HasStopped e s w =
           ((took : List Due) × (sent : List (ℕ × Due)) × EndsSo (end_of e) s w.table took sent)
           × IsAtFault (end_of e) w.table
+
+      -- The worker has posted the next message that its table owed, if there was one, and has taken none.
+      pub record HasAnswered (job : ℕ) (more : Bool) (s t : Sight Due (Graphs G)) (w : Worker P G A S) : Type 0 where
+        pub dealing : IsDealing job t w
+        pub none : OnFalse more (IsQuiet members w.table)
+        pub takes : took_by t ≡ took_by s
+
+      -- The message is completed, with all posted that it implies, and no other was taken; or the worker has ended.
+      abbrev pub HasDealt : Option Finish → Sight Due (Graphs G) → Sight Due (Graphs G) → Worker P G A S → Type 0
+      HasDealt None s t w = IsReady t w × (took_by t ≡ took_by s)
+      HasDealt (Some e) s t w = HasStopped e t w
+
+      -- The worker has taken a message and dealt with it, or has found none yet; or it has ended.
+      abbrev pub HasTurned : Option Finish → Sight Due (Graphs G) → Sight Due (Graphs G) → Worker P G A S → Type 0
+      HasTurned None s t w = IsReady t w × MayGoOn s t
+      HasTurned (Some e) s t w = HasStopped e t w

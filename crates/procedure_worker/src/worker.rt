@@ -1,13 +1,11 @@
 //! What a worker does between two takes.
-ghost use Rattle.std.specs.Prelude.{◌≡◌, OnOk, IfOk, IfErr, IfNone, MatchResult, MatchOption};
-ghost use Rattle.std.specs.Bool.{OnFalse};
+ghost use Rattle.std.specs.Prelude.{◌≡◌, OnOk, MatchResult};
 ghost use Rattle.std.specs.Option.{ForSome};
 ghost use Rattle.post_ledger.specs.Orders.{HasJob};
 ghost use Rattle.summaries.specs.Fitting.{FitsIn};
-ghost use Rattle.summaries.specs.Tables.{IsQuiet};
 ghost use Rattle.procedure_worker.specs.Works.{start_of, IsReady, IsTaking, IsDealing, IsSending};
-ghost use Rattle.procedure_worker.specs.Works.{IsStopped, HasStopped, Failed, Completes};
-ghost use Rattle.procedure_worker.specs.Works.{StopsSo, MayGoOn, took_by};
+ghost use Rattle.procedure_worker.specs.Works.{IsStopped, Failed, Completes, StopsSo, took_by};
+ghost use Rattle.procedure_worker.specs.Works.{HasAnswered, HasDealt, HasTurned};
 
 use crate::desk::Desk;
 use crate::gate::Gate;
@@ -121,16 +119,13 @@ impl<'g, P, G: Allocator, A: Allocator + Copy, S: PathSet<A>> Worker<'g, P, G, A
     ) -> Result<bool, Stop>
         requires { IsDealing (start_of B.identity desk.now) S.members job.now
             (B.sight self.old.pass) self.old }
-        ensures dealing { OnOk result
-            (IsDealing (start_of B.identity desk.now) S.members job.now
-            (B.sight self.new.pass) self.new) }
-        ensures none { IfOk result (λ more. OnFalse more (IsQuiet S.members self.new.table)) }
-        ensures stopped { IfErr result
+        ensures { MatchResult result
+            (λ more.
+            HasAnswered (start_of B.identity desk.now) S.members job.now more
+            (B.sight self.old.pass) (B.sight self.new.pass) self.new)
             (λ why.
             IsStopped (start_of B.identity desk.now) S.members job.now why
             (B.sight self.new.pass) self.new) }
-        ensures takes { OnOk result
-            (took_by (B.sight self.new.pass) ≡ took_by (B.sight self.old.pass)) }
     {
         match next(&mut self.table) {
             Ok(Some((to, due))) => {
@@ -150,13 +145,8 @@ impl<'g, P, G: Allocator, A: Allocator + Copy, S: PathSet<A>> Worker<'g, P, G, A
     ) -> Option<Finish>
         requires { IsDealing (start_of B.identity desk.now) S.members job
             (B.sight self.old.pass) self.old }
-        ensures ends { MatchOption result
-            (IsReady (start_of B.identity desk.now) S.members (B.sight self.new.pass) self.new)
-            (λ e.
-            HasStopped (start_of B.identity desk.now) S.members e
-            (B.sight self.new.pass) self.new) }
-        ensures takes { IfNone result
-            (took_by (B.sight self.new.pass) ≡ took_by (B.sight self.old.pass)) }
+        ensures { HasDealt (start_of B.identity desk.now) S.members result
+            (B.sight self.old.pass) (B.sight self.new.pass) self.new }
     {
         for _ in desk.rt.forever() {
             match self.answer(desk, &job) {
@@ -177,13 +167,8 @@ impl<'g, P, G: Allocator, A: Allocator + Copy, S: PathSet<A>> Worker<'g, P, G, A
     ) -> Option<Finish>
         requires { IsTaking (start_of B.identity desk.now) S.members job due
             (B.sight self.old.pass) self.old }
-        ensures ends { MatchOption result
-            (IsReady (start_of B.identity desk.now) S.members (B.sight self.new.pass) self.new)
-            (λ e.
-            HasStopped (start_of B.identity desk.now) S.members e
-            (B.sight self.new.pass) self.new) }
-        ensures takes { IfNone result
-            (took_by (B.sight self.new.pass) ≡ took_by (B.sight self.old.pass)) }
+        ensures { HasDealt (start_of B.identity desk.now) S.members result
+            (B.sight self.old.pass) (B.sight self.new.pass) self.new }
     {
         match deliver(&mut self.table, due) {
             Ok(()) => self.deal(desk, job),
@@ -199,12 +184,8 @@ impl<'g, P, G: Allocator, A: Allocator + Copy, S: PathSet<A>> Worker<'g, P, G, A
     ) -> Option<Finish>
         requires { IsReady (start_of B.identity desk.now) S.members
             (B.sight self.old.pass) self.old }
-        ensures ends { MatchOption result
-            (IsReady (start_of B.identity desk.now) S.members (B.sight self.new.pass) self.new)
-            (λ e.
-            HasStopped (start_of B.identity desk.now) S.members e
-            (B.sight self.new.pass) self.new) }
-        ensures goes { IfNone result (MayGoOn (B.sight self.old.pass) (B.sight self.new.pass)) }
+        ensures { HasTurned (start_of B.identity desk.now) S.members result
+            (B.sight self.old.pass) (B.sight self.new.pass) self.new }
     {
         match desk.board.take(desk.rt, &mut self.pass) {
             Ok(Taken::Message(job, due)) => {

@@ -4,8 +4,8 @@ use Rattle.std.specs.Prelude.{bytes_eq, codes, drop, if◌then◌else◌, length
 use Rattle.std.specs.Fmt.{decimal}
 use Rattle.syntax.specs.declared.fault.ReadFault.{ReadFault}
 use Rattle.syntax.specs.declared.fault.ReadFault.TheVariants as read
-use Rattle.scopes.specs.declared.fault.ScopeFault.{ScopeFault}
-use Rattle.scopes.specs.declared.fault.ScopeFault.TheVariants as scope
+use Rattle.checked.specs.declared.fault.ScopeFault.{ScopeFault}
+use Rattle.checked.specs.declared.fault.ScopeFault.TheVariants as scope
 use Rattle.resolved.specs.Limits.{most_places}
 use Rattle.diagnostics.specs.Message.{Locates, LocatesForeign, exceeds, first_word, needs, of_name, unexpected}
 use Rattle.path_sets.specs.EdgeLimits.{most_of}

@@ -1,6 +1,6 @@
 -- One target of an assignment after the other.
 use mir.Val.{bool_byte}
-use Rattle.std.proofs.Common.{◌≡◌, ℕ, suc, ◌+◌, Bool, true, false, cond, length, refl, arith, List, [], ◌∷◌, ◌++◌}
+use Rattle.std.proofs.Common.{◌≡◌, ℕ, suc, ◌+◌, ◌≤◌, Bool, true, false, cond, length, refl, arith, List, [], ◌∷◌, ◌++◌}
 use Rattle.std.proofs.Common.{map, sym, ◌∙◌, ap, ap₂, append_assoc}
 use Rattle.language.specs.Tree.{Name, Expression, var, RightSide, any, value}
 use Rattle.round_rewrite.specs.Table.{Naming, numbers, rounds, targets, sides, side, expression, written}
@@ -89,3 +89,7 @@ empty (x ∷ l) e = cc
 pub counted : (b : Bool) (n m : ℕ) → m ≡ bool_byte b → n + m ≡ cond b (suc n) n
 counted true n m e = rw e (omega arith)
 counted false n m e = rw e (omega arith)
+
+pub one_at_most : (b : Bool) (m : ℕ) → m ≡ bool_byte b → m ≤ 1
+one_at_most true m e = rw e (omega arith)
+one_at_most false m e = rw e (omega arith)

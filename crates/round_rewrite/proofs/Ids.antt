@@ -9,8 +9,8 @@ use Rattle.language.specs.Tree.{Name}
 use Rattle.tokens.specs.declared.vocabulary.Kind.{Kind}
 use Rattle.tokens.specs.declared.vocabulary.Kind.TheVariants as kind
 use Rattle.tokens.specs.Spelling.{reserved_word, is_word_byte, AreWordBytes, BeginsName, IsNameWord}
-use Rattle.syntax.specs.InGrammar.{IsId}
-use Rattle.scopes.specs.Rewritable.{has_double}
+use Rattle.grammar.specs.InGrammar.{IsId}
+use Rattle.checked.specs.Rewritable.{has_double}
 use Rattle.round_rewrite.specs.Names.{named, bit_name, copy_name, save_name, drawn_name}
 use Rattle.round_rewrite.proofs.Spelling.{double_there}
 use Rattle.resolved.specs.Limits.{most_places}

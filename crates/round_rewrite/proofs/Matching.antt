@@ -8,7 +8,7 @@ use Rattle.language.specs.Resolve.{number_of, is_declared, Scope, place_of, reso
 use Rattle.round_rewrite.specs.Table.{Naming, numbers, plain, each, reset_targets, guess, guesses, starts, check, checks, main}
 use Rattle.round_rewrite.specs.Places.{places, copy_at, save_at, all_globals}
 use Rattle.round_rewrite.specs.Names.{copy_name, save_name, names}
-use Rattle.scopes.specs.Rewritable.{AreFree, AreDistinct, EachLine}
+use Rattle.checked.specs.Rewritable.{AreFree, AreDistinct, EachLine}
 use Rattle.round_rewrite.proofs.Spelling.{same_text_refl, same_text_false}
 use Rattle.round_rewrite.proofs.Numbering.{number_right}
 use Rattle.round_rewrite.proofs.Placing.{Vocabulary, wider, copy_place, save_place}

@@ -20,8 +20,8 @@ use Rattle.round_rewrite.specs.Names.{drawn_name, names, rewritten_procedure, ma
 use Rattle.resolved.specs.Scoped.{PlaceInScope, InScope, AreInScope, SideInScope, SidesInScope, PlacesInScope, SimpleInScope, Throughout}
 use Rattle.resolved.specs.Scoped.{EachRoutine, EachThread, RoutineInScope, FitsScopes}
 use Rattle.language.proofs.Names.{number_less}
-use Rattle.scopes.specs.Rewritable.{has_double, AreFree, Declared, AllDeclared, ExpressionDeclared, ExpressionsDeclared, SideDeclared}
-use Rattle.scopes.specs.Rewritable.{SidesDeclared, HasRoom, SimpleDeclared, BlockDeclared, ProcedureRewritable, EachLine, IsRewritable}
+use Rattle.checked.specs.Rewritable.{has_double, AreFree, Declared, AllDeclared, ExpressionDeclared, ExpressionsDeclared, SideDeclared}
+use Rattle.checked.specs.Rewritable.{SidesDeclared, HasRoom, SimpleDeclared, BlockDeclared, ProcedureRewritable, EachLine, IsRewritable}
 use Rattle.resolved.proofs.Parts.{parts_resolve}
 use Rattle.resolved.specs.Narrow.{EachProcedure, width}
 use Rattle.round_rewrite.specs.Narrow.{IsNarrow}

@@ -5,7 +5,7 @@ use Rattle.language.specs.Tree.{Name}
 use Rattle.language.specs.Rest.{same_text}
 use Rattle.language.specs.Resolve.{number_of, is_declared}
 use Rattle.round_rewrite.specs.Table.{Naming, numbers, copied}
-use Rattle.scopes.specs.Rewritable.{has_double, AreFree}
+use Rattle.checked.specs.Rewritable.{has_double, AreFree}
 use Rattle.language.proofs.Names.{declared_first, declared_second, number_first, number_second}
 use Rattle.round_rewrite.proofs.Spelling.{same_text_true, free_differs}
 use Rattle.round_rewrite.specs.Limits.{most_rounds}

@@ -10,7 +10,7 @@ use Rattle.language.specs.Resolve.{number_of, is_declared, Scope, place_of}
 use Rattle.round_rewrite.specs.Table.{numbers, copied, globals}
 use Rattle.round_rewrite.specs.Places.{copy_at, save_at, bits_at, bits_from, stop_at, bad_at, global_count}
 use Rattle.round_rewrite.specs.Names.{named, bit_name, bit_names, copy_name, save_name, drawn_name, names}
-use Rattle.scopes.specs.Rewritable.{has_double, AreFree}
+use Rattle.checked.specs.Rewritable.{has_double, AreFree}
 use Rattle.round_rewrite.proofs.Spelling.{same_text_refl, same_text_false, same_text-append, copies_differ, saves_differ, save_no_copy}
 use Rattle.round_rewrite.proofs.Spelling.{low_no_copy, low_no_save, drawn_differ, no_drawn, digit_is}
 use Rattle.round_rewrite.proofs.Numbering.{number_right, number_left, not_free, free_name, Spelled, length-rows, none_in_rows, in_rows}

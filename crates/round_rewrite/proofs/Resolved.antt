@@ -15,8 +15,8 @@ use Rattle.round_rewrite.specs.Table.{sides, draws, takes, temporaries, drawing,
 use Rattle.round_rewrite.specs.Table.{rewritten, draws_of}
 use Rattle.round_rewrite.specs.Places.{places, is_global, copy_at, stop_at, bad_at}
 use Rattle.round_rewrite.specs.Names.{named, copy_name, drawn_name, names}
-use Rattle.scopes.specs.Rewritable.{Declared, AllDeclared, ExpressionDeclared, ExpressionsDeclared, SideDeclared, SidesDeclared}
-use Rattle.scopes.specs.Rewritable.{SimpleDeclared, BlockDeclared}
+use Rattle.checked.specs.Rewritable.{Declared, AllDeclared, ExpressionDeclared, ExpressionsDeclared, SideDeclared, SidesDeclared}
+use Rattle.checked.specs.Rewritable.{SimpleDeclared, BlockDeclared}
 use Rattle.round_rewrite.proofs.Counting.{map-reversed}
 use Rattle.round_rewrite.proofs.Placing.{Vocabulary, scope, wider, copy_place, kept_place, drawn_place, bits_placed, stop_place, bad_place}
 use Rattle.language.specs.Parts as parts

@@ -7,7 +7,7 @@ use Rattle.std.proofs.lemmas.Fmt.{decimal_injective}
 use Rattle.std.specs.Prelude.{decimal}
 use Rattle.std.specs.Fmt.{digits}
 use Rattle.language.specs.Rest.{same_text}
-use Rattle.scopes.specs.Rewritable.{begins_low, has_double}
+use Rattle.checked.specs.Rewritable.{begins_low, has_double}
 use Rattle.resolved.specs.Limits.{most_places}
 use Rattle.round_rewrite.specs.Limits.{most_rounds}
 

@@ -9,8 +9,8 @@ use Rattle.language.specs.Step.{frame_size}
 use Rattle.language.specs.Resolve.{gives_value, routine_of}
 use Rattle.trees.specs.declared.tree.Proc.{Proc}
 use Rattle.trees.specs.Trees.{proc_of, procs_of}
-use Rattle.scopes.specs.declared.fault.ScopeFault.TheVariants as fault
-use Rattle.scopes.specs.Checked.{IsChecked}
+use Rattle.checked.specs.declared.fault.ScopeFault.TheVariants as fault
+use Rattle.checked.specs.Checked.{IsChecked}
 use Rattle.resolved.specs.There.{IsThere}
 use Rattle.round_rewrite.specs.Table.{numbers}
 use Rattle.round_rewrite.specs.Places.{global_count}

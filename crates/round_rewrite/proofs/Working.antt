@@ -11,17 +11,17 @@ use Rattle.language.specs.Tree.{call_for, Mark, Block, done, one, choose, loop, 
 use Rattle.language.specs.Rest.{same_text, join}
 use Rattle.language.specs.Resolve.{is_declared}
 use Rattle.language.proofs.Names.{declared_first}
-use Rattle.scopes.specs.Checked.{IsChecked}
-use Rattle.scopes.specs.Faults.{named, known}
+use Rattle.checked.specs.Checked.{IsChecked}
+use Rattle.checked.specs.Faults.{named, known}
 use Rattle.resolved.specs.There.{IsThere}
 use Rattle.language.specs.Parts.{Head, plain, tests}
 use Rattle.resolved.specs.Statements.{Statement, statements_of, variables_of_side, variables_of_sides, label_of, labels_of}
 use Rattle.resolved.specs.Resolves.{Each, Resolves}
-use Rattle.scopes.specs.Rewritable.{IsRewritable}
+use Rattle.checked.specs.Rewritable.{IsRewritable}
 use Rattle.resolved.proofs.Each.{each_left, each_right}
-use Rattle.scopes.proofs.Works.{in_either, named_declared, Works, IsGood, Starts, good, threads_start}
-use Rattle.scopes.proofs.Resolving.{labels_append, working_resolves}
-use Rattle.scopes.proofs.Rewriting.{checked_rewritable}
+use Rattle.checked.proofs.Works.{in_either, named_declared, Works, IsGood, Starts, good, threads_start}
+use Rattle.checked.proofs.Resolving.{labels_append, working_resolves}
+use Rattle.checked.proofs.Rewriting.{checked_rewritable}
 use Rattle.round_rewrite.specs.Table as table
 use Rattle.round_rewrite.specs.Table.{numbers, temporaries, raised, each, reset_targets, in_round, expression, side, targets, sides}
 use Rattle.round_rewrite.specs.Table.{draws, drawing, stop_test, prologue}

@@ -1,14 +1,14 @@
 //! The rewriting of a program.
 
 ghost use Rattle.std.specs.Prelude.{◌≡◌, [], ◌∷◌, IfOk, IfErr, codes};
-ghost use Rattle.syntax.specs.InGrammar.{InGrammar};
+ghost use Rattle.grammar.specs.InGrammar.{InGrammar};
 ghost use Rattle.trees.specs.Trees.{threads_of, tree_of};
 ghost use Rattle.round_rewrite.specs.Law.{KeepsTree};
 ghost use Rattle.round_rewrite.specs.Names.{named, rewritten_for};
 ghost use Rattle.round_rewrite.specs.Narrow.{IsNarrowFor};
 ghost use Rattle.round_rewrite.specs.Programs.{IsFaultOf, count_of};
 ghost use Rattle.resolved.specs.Programs.{sequential_tree};
-ghost use Rattle.scopes.specs.Programs.{checked_tree};
+ghost use Rattle.checked.specs.Programs.{checked_tree};
 
 use crate::fault::RewriteFault;
 use crate::globals::globals;
@@ -16,8 +16,8 @@ use crate::names::fixed;
 use crate::procedures::procedures;
 use crate::rounds::Rounds;
 use crate::width::is_narrow;
+use checked::Checked;
 use resolved::Sequential;
-use scopes::Checked;
 use std::alloc::{AllocError, Allocator};
 use trees::{Program, Thread};
 

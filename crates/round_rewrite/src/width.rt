@@ -1,7 +1,7 @@
 //! How wide a rewritten program is, before it is made: without memory.
 
 ghost use Rattle.std.specs.Prelude.{◌≡◌, ◌+◌, ◌-◌, ◌*◌, ◌^◌, ◌≤◌, ◌↔◌, IsTrue, length};
-ghost use Rattle.scopes.specs.Programs.{checked_tree};
+ghost use Rattle.checked.specs.Programs.{checked_tree};
 ghost use Rattle.trees.specs.Trees.{proc_of, tree_of};
 ghost use Rattle.round_rewrite.specs.Limits.{most_rounds};
 ghost use Rattle.round_rewrite.specs.Narrow.{IsFirstWideFor, IsNarrowFor};
@@ -11,8 +11,8 @@ ghost use Rattle.round_rewrite.specs.Places.{global_count};
 
 use crate::rounds::Rounds;
 use crate::writer::Writer;
+use checked::Checked;
 use resolved::MOST_PLACES;
-use scopes::Checked;
 use std::alloc::Allocator;
 use trees::{Proc, Program, give_value};
 

@@ -7,7 +7,8 @@ use Rattle.std.specs.Prelude.{Result, Ok, IfOk}
 use Rattle.std.specs.Fn.{FnReturnsAt}
 use denote.Param.Members.{Shared}
 use denote.Ref.{Bor}
-use Rattle.scopes.specs.Find.{AnyOf, Finds, earlier_of, Earliest, EarliestTo}
+use Rattle.checked.specs.Faults.{AnyOf}
+use Rattle.scopes.specs.Find.{Finds, earlier_of, Earliest, EarliestTo}
 use Rattle.scopes.proofs.Found.{either_way, none_after, none_before, both_of, moved, nowhere, same, any_append, any_left, any_right}
 
 -- a loop over a list: its begin, one more member, and the end

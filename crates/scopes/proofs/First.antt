@@ -3,11 +3,11 @@ use Rattle.std.proofs.Common.{◌≡◌, ℕ, suc, ◌<◌, ◌≤◌, nat_le, B
 use Rattle.std.proofs.Common.{subst, arith, rules}
 use Rattle.std.specs.Prelude.{option_map, MatchOption, IsSomeAnd}
 use Rattle.language.specs.Tree.{Tree}
-use Rattle.scopes.specs.declared.fault.ScopeFault.{ScopeFault}
-use Rattle.scopes.specs.declared.fault.ScopeFault.TheVariants as fault
+use Rattle.checked.specs.declared.fault.ScopeFault.{ScopeFault}
+use Rattle.checked.specs.declared.fault.ScopeFault.TheVariants as fault
 use Rattle.scopes.specs.Find.{Finds, lesser_by}
-use Rattle.scopes.specs.Faults.{Undeclared, DeclaredTwice, WrongCount, BadThread, BadLabel, Reserved, TooMany}
-use Rattle.scopes.specs.Checked.{FaultStands, number, offset, ComesFirst}
+use Rattle.checked.specs.Faults.{Undeclared, DeclaredTwice, WrongCount, BadThread, BadLabel, Reserved, TooMany}
+use Rattle.checked.specs.Checked.{FaultStands, number, offset, ComesFirst}
 use Rattle.scopes.specs.First.{IsFirst, FindsFirst, sooner_of}
 
 -- the fault is of one kind, and stands where P does

@@ -5,7 +5,7 @@ use Rattle.trees.specs.declared.tree.Name.{Name}
 use Rattle.trees.specs.declared.tree.Proc.{Proc}
 use Rattle.trees.specs.Trees.{name_of, names_of, procs_of}
 use Rattle.resolved.specs.There.{names}
-use Rattle.scopes.specs.Faults.{first_at}
+use Rattle.checked.specs.Faults.{first_at}
 
 pub first_there : {A : Type 0} (m : ℕ) (names : List (Name A)) (x : Name A) → Some x ≡ slice_get names 0
     → x.at ≡ first_at m (names_of names)

@@ -5,7 +5,8 @@ use Rattle.std.specs.Prelude.{Result, Ok, Err, IfOk}
 use Rattle.std.proofs.lemmas.Bool.Decides.{leb_tells}
 use Rattle.std.specs.Str.{bytes_eq}
 use Rattle.language.specs.Rest.{same_text}
-use Rattle.scopes.specs.Find.{AnyOf, Finds, lesser_by, earlier_of, FoundSoFar}
+use Rattle.checked.specs.Faults.{AnyOf}
+use Rattle.scopes.specs.Find.{Finds, lesser_by, earlier_of, FoundSoFar}
 
 lesser : {P Q : ℕ → Type 0} (m n : ℕ) (b : Bool) → nat_le m n ≡ b → Finds P (Some m) → Finds Q (Some n) → Finds
     (λ k. P k ⊎ Q k) (cond b (Some m) (Some n))

@@ -5,7 +5,7 @@ use Rattle.language.specs.Parts.{Head, plain, tests, targets_of, arguments_of}
 use Rattle.trees.specs.Trees.{name_of, Item, deed_of}
 use Rattle.trees.specs.Parts.{head_of, assigned_by, receiver_of, passed_by, given_by}
 use Rattle.scopes.specs.Find.{as_list}
-use Rattle.scopes.specs.Faults.{Repeated}
+use Rattle.checked.specs.Faults.{Repeated}
 use Rattle.trees.specs.declared.tree.Stmt.{Stmt}
 use Rattle.trees.proofs.Folds.{item_is}
 use Rattle.trees.proofs.ByKind.{listed, targets_by_kind, arguments_by_kind}

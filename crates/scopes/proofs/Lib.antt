@@ -5,8 +5,5 @@ pub mod Flat
 pub mod Seen
 pub mod Positions
 pub mod First
-pub mod Works
-pub mod Resolving
-pub mod Rewriting
 pub mod Pushed
 pub mod FirstNames

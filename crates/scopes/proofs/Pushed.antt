@@ -8,7 +8,7 @@ use Rattle.trees.specs.declared.tree.Proc.{Proc}
 use Rattle.trees.specs.declared.tree.Stmt.{Stmt}
 use Rattle.trees.specs.Trees.{name_of, proc_of, procs_of}
 use Rattle.resolved.specs.Statements.{lent_statements, label_of, labels_of}
-use Rattle.scopes.specs.Faults.{named}
+use Rattle.checked.specs.Faults.{named}
 use Rattle.scopes.proofs.Heads.{label_is}
 use denote.Ref.{Bor}
 

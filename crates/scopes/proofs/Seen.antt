@@ -11,8 +11,8 @@ use Rattle.indexmap.specs.IndexSet.{IndexSet, insert_key}
 use Rattle.language.specs.Tree.{Name}
 use Rattle.language.specs.Rest.{same_text}
 use Rattle.language.specs.Resolve.{is_declared}
-use Rattle.scopes.specs.Find.{AnyOf, Finds, earlier_of, FoundSoFar}
-use Rattle.scopes.specs.Faults.{Repeated}
+use Rattle.checked.specs.Faults.{AnyOf, Repeated}
+use Rattle.scopes.specs.Find.{Finds, earlier_of, FoundSoFar}
 use Rattle.scopes.specs.Known.{AreTexts, IsAgain}
 use Rattle.scopes.proofs.Found.{begin, step, weaker, finish}
 use denote.Ref.{Bor}

@@ -1,11 +1,6 @@
 -- What it is to find the least offset with a property.
 use Rattle.std.specs.Prelude.{◌≡◌, ℕ, ◌≤◌, nat_le, List, [], ◌∷◌, Option, Some, None, cond, drop, ◌⊎◌}
 
--- some member of the list has the property
-abbrev pub AnyOf : {X : Type 0} → (X → Type 0) → List X → Type 0
-AnyOf P [] = ⊥
-AnyOf P (x ∷ xs) = P x ⊎ AnyOf P xs
-
 -- an optional thing, as a list of one or none
 abbrev pub as_list : {X : Type 0} → Option X → List X
 as_list None = []

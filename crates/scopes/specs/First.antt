@@ -1,8 +1,8 @@
 -- Which of several faults is returned.
 use Rattle.std.specs.Prelude.{Option, Some, None}
-use Rattle.scopes.specs.declared.fault.ScopeFault.{ScopeFault}
+use Rattle.checked.specs.declared.fault.ScopeFault.{ScopeFault}
 use Rattle.scopes.specs.Find.{lesser_by}
-use Rattle.scopes.specs.Checked.{offset, ComesFirst}
+use Rattle.checked.specs.Checked.{offset, ComesFirst}
 
 -- nothing, if no fault has the property; else one that has it, before all that do
 abbrev pub IsFirst : (ScopeFault → Type 0) → Option ScopeFault → Type 0

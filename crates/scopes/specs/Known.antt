@@ -4,8 +4,7 @@ use Rattle.std.specs.Str.{bytes_eq}
 use Rattle.indexmap.specs.IndexSet.{IndexSet, contains_by}
 use Rattle.language.specs.Tree.{Name}
 use Rattle.language.specs.Resolve.{is_declared}
-use Rattle.scopes.specs.Find.{AnyOf}
-use Rattle.scopes.specs.Faults.{Repeated}
+use Rattle.checked.specs.Faults.{AnyOf, Repeated}
 use denote.Ref.{Bor}
 
 -- the texts of the set are those of the names

@@ -2,14 +2,12 @@
 
 ghost use Rattle.std.specs.Prelude.{◌≡◌, ◌⊎◌, IfOk, IfErr};
 ghost use Rattle.trees.specs.Trees.{tree_of};
-ghost use Rattle.scopes.specs.Checked.{IsChecked, IsFirstFault, FaultStands};
-ghost use Rattle.scopes.specs.declared.fault.ScopeFault.TheVariants.{Memory};
+ghost use Rattle.checked.specs.Checked.{IsChecked, IsFirstFault, FaultStands};
+ghost use Rattle.checked.specs.declared.fault.ScopeFault.TheVariants.{Memory};
 ghost use Rattle.scopes.specs.First.{FindsFirst};
-ghost use Rattle.scopes.specs.Programs.{checked_program};
+ghost use Rattle.checked.specs.Programs.{checked_program};
 
-use crate::checked::Checked;
 use crate::counts::first_wrong_count;
-use crate::fault::ScopeFault;
 use crate::labels::first_bad_label;
 use crate::limits::first_too_many;
 use crate::reserved::first_reserved;
@@ -17,6 +15,7 @@ use crate::sooner::sooner;
 use crate::threads::first_bad_thread;
 use crate::twice::first_twice;
 use crate::undeclared::first_undeclared;
+use checked::{Checked, ScopeFault};
 use std::alloc::{AllocError, Allocator};
 use trees::Program;
 
@@ -54,7 +53,7 @@ pub fn check<A: Allocator + Copy>(alloc: A, program: Program<A>) -> Result<Check
     ensures fault { IfErr result (λ f. (f ≡ Memory) ⊎ IsFirstFault (tree_of program) f) }
 {
     match first_fault(&alloc, &program)? {
-        None => Ok(Checked { program }),
+        None => Ok(Checked::new(program)),
         Some(fault) => Err(fault),
     }
 }

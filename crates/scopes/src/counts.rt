@@ -4,8 +4,7 @@ ghost use Rattle.std.specs.Prelude.{◌≡◌, ◌≢◌, IfOk, length};
 ghost use Rattle.trees.specs.Trees.{names_of, proc_of, procs_of, tree_of};
 ghost use Rattle.scopes.specs.Find.{Finds};
 ghost use Rattle.resolved.specs.Statements.{statement_of};
-ghost use Rattle.scopes.specs.Faults.{first_at, MiscountsSides, MiscountsArguments, Miscounts};
-ghost use Rattle.scopes.specs.Faults.{MiscountsIn, WrongCount};
+ghost use Rattle.checked.specs.Faults.{first_at, MiscountsSides, MiscountsArguments, Miscounts, MiscountsIn, WrongCount};
 
 use crate::names::earlier;
 use crate::search::{Answer, earliest, try_earliest};

@@ -6,7 +6,7 @@ ghost use Rattle.language.specs.Resolve.{is_declared};
 ghost use Rattle.trees.specs.Trees.{name_of};
 ghost use Rattle.scopes.specs.Find.{Finds};
 ghost use Rattle.resolved.specs.Statements.{lent};
-ghost use Rattle.scopes.specs.Faults.{IsUnknown, Repeated};
+ghost use Rattle.checked.specs.Faults.{IsUnknown, Repeated};
 ghost use Rattle.scopes.specs.Known.{AreTexts};
 
 use crate::names::earlier;

@@ -4,7 +4,7 @@ ghost use Rattle.std.specs.Prelude.{◌≡◌, ◌++◌, ◌⊎◌, IfOk};
 ghost use Rattle.trees.specs.Trees.{proc_of, tree_of};
 ghost use Rattle.scopes.specs.Find.{Finds};
 ghost use Rattle.resolved.specs.Statements.{lent, lent_statements, statement_of, labels_of};
-ghost use Rattle.scopes.specs.Faults.{GoesNowhere, MislabelledIn, BadLabel};
+ghost use Rattle.checked.specs.Faults.{GoesNowhere, MislabelledIn, BadLabel};
 
 use crate::known::{Known, repeated};
 use crate::names::earlier;

@@ -5,8 +5,8 @@ ghost use Rattle.trees.specs.Trees.{procs_of, threads_of, tree_of};
 ghost use Rattle.scopes.specs.Find.{Finds};
 ghost use Rattle.resolved.specs.Statements.{lent_statements, statements_of_all};
 ghost use Rattle.resolved.specs.There.{IsThere};
-ghost use Rattle.scopes.specs.Faults.{TooMany};
-ghost use Rattle.scopes.specs.Limits.{most_procedures, most_statements, most_threads};
+ghost use Rattle.checked.specs.Faults.{TooMany};
+ghost use Rattle.checked.specs.Limits.{most_procedures, most_statements, most_threads};
 
 use crate::names::earlier;
 use crate::search::Answer;

@@ -5,7 +5,7 @@ ghost use Rattle.language.specs.Rest.{same_text};
 ghost use Rattle.trees.specs.Trees.{name_of, names_of, proc_of};
 ghost use Rattle.scopes.specs.Find.{Finds, earlier_of};
 ghost use Rattle.resolved.specs.Statements.{lent};
-ghost use Rattle.scopes.specs.Faults.{IsReserved, HasTwoUnderscores};
+ghost use Rattle.checked.specs.Faults.{IsReserved, HasTwoUnderscores};
 
 use crate::search::earliest;
 use std::alloc::{AllocError, Allocator};

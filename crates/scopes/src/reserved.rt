@@ -3,7 +3,7 @@
 ghost use Rattle.std.specs.Prelude.{◌≡◌, IfOk};
 ghost use Rattle.trees.specs.Trees.{proc_of, procs_of, tree_of};
 ghost use Rattle.scopes.specs.Find.{Finds};
-ghost use Rattle.scopes.specs.Faults.{ReservedIn, Reserved};
+ghost use Rattle.checked.specs.Faults.{ReservedIn, Reserved};
 
 use crate::labels::labels;
 use crate::names::{earlier, lend, own_names, reserved};

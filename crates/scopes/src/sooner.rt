@@ -3,7 +3,7 @@
 ghost use Rattle.std.specs.Prelude.{◌≡◌};
 ghost use Rattle.scopes.specs.First.{sooner_of};
 
-use crate::fault::ScopeFault;
+use checked::ScopeFault;
 
 /// The fault with the lesser offset of two optional faults; if the offsets are equal, the first.
 #[tactic(auto, using(crate::proofs::Found::lesser_steps))]

@@ -3,7 +3,7 @@
 ghost use Rattle.std.specs.Prelude.{◌≡◌};
 ghost use Rattle.trees.specs.Trees.{proc_of, procs_of, thread_of, tree_of};
 ghost use Rattle.scopes.specs.Find.{Finds};
-ghost use Rattle.scopes.specs.Faults.{no_formals, StartsNowhere, BadThread};
+ghost use Rattle.checked.specs.Faults.{no_formals, StartsNowhere, BadThread};
 
 use crate::search::earliest;
 use crate::undeclared::find;

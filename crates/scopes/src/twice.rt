@@ -5,7 +5,7 @@ ghost use Rattle.language.specs.Parts.{targets_of};
 ghost use Rattle.trees.specs.Trees.{proc_of, procs_of, tree_of};
 ghost use Rattle.scopes.specs.Find.{Finds};
 ghost use Rattle.resolved.specs.Statements.{lent, statement_of};
-ghost use Rattle.scopes.specs.Faults.{Repeated, IsTwiceIn, DeclaredTwice};
+ghost use Rattle.checked.specs.Faults.{Repeated, IsTwiceIn, DeclaredTwice};
 ghost use Rattle.resolved.specs.There.{names};
 
 use crate::known::repeated;

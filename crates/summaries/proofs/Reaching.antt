@@ -1,11 +1,12 @@
 -- What is reached from a frontier, step by step.
-use Rattle.std.proofs.Common.{◌≤◌, List, Result, length, sym, subst, ◌∙◌}
+use Rattle.std.proofs.Common.{◌≤◌, List, Result, Ok, inl, inr, refl, length, sym, subst, ◌∙◌, arith}
 use Rattle.path_sets.specs.Triples.{Triple}
 use Rattle.path_sets.specs.EdgeLimits.{most_of}
 use Rattle.summaries.specs.declared.frontier.Frontier.{Frontier}
 use Rattle.summaries.specs.declared.table_fault.TableFault.{TableFault}
 use Rattle.summaries.specs.Frontiers.{Reaches, IsWithin, StaysFrontier}
 use Rattle.summaries.specs.Grows.{Adds}
+use Rattle.summaries.proofs.Growing.{ok_err}
 
 -- what stays the same in two steps does in both
 pub stays_on : {A S : Type 0} {old mid new : Frontier A S} → StaysFrontier old mid → StaysFrontier mid new → StaysFrontier old new
@@ -29,3 +30,25 @@ module _ {A S : Type 0} (members : S → List Triple) {W : Triple → Type 0} {T
         new.pending.now.items) first.limit adds;
     stays = stays_on first second;
   }
+
+-- nothing is reached where there is nowhere to go
+pub nowhere : {A S : Type 0} (members : S → List Triple) (W : Triple → Type 0) (f : Frontier A S) → ((t : Triple) → W t → ⊥)
+    → IsWithin members f → Reaches members W (Ok (tt {0})) f f
+nowhere members W f none within = record {
+  adds = record {
+    ok = record {
+      all = λ t w. absurd (none t w);
+      kept = λ t m. m;
+      only = λ t m. inr m;
+      stays = λ x m. m;
+      pending = λ t m. inl m;
+      edges = λ x m. inl m;
+      more = refl;
+      longer = omega arith;
+    };
+    only = λ t m. inr m;
+    within = within;
+    limit = λ is. absurd (ok_err is);
+  };
+  stays = record { edges = refl; pending = refl; limit = refl };
+}

@@ -6,10 +6,10 @@ use Rattle.tokens.specs.declared.vocabulary.Kind.{Kind}
 use Rattle.tokens.specs.declared.vocabulary.Kind.TheVariants as kind
 use Rattle.tokens.specs.Token.{Tok, same_kind}
 use Rattle.syntax.specs.Parser.{Parser, give, ◌>>=◌, begins, take}
-use Rattle.syntax.specs.Grammar.{Takes, takes, name_at, IsName, is_name, behind, InParens, in_parens, no_more, one_more, Listed, listed}
-use Rattle.syntax.specs.Grammar.{Perhaps, IsExpression, IsRight, is_any, is_value, IsMarked, bare, labelled, IsSimple, is_skip, is_return}
-use Rattle.syntax.specs.Grammar.{is_give, is_goto, is_assert, is_assume, is_assign, is_call, is_call_for, IsSome, Statements, nothing_more}
-use Rattle.syntax.specs.Grammar.{statement, if_statement, while_statement}
+use Rattle.grammar.specs.Grammar.{Takes, takes, name_at, IsName, is_name, behind, InParens, in_parens, no_more, one_more, Listed, listed}
+use Rattle.grammar.specs.Grammar.{Perhaps, IsExpression, IsRight, is_any, is_value, IsMarked, bare, labelled, IsSimple, is_skip, is_return}
+use Rattle.grammar.specs.Grammar.{is_give, is_goto, is_assert, is_assume, is_assign, is_call, is_call_for, IsSome, Statements, nothing_more}
+use Rattle.grammar.specs.Grammar.{statement, if_statement, while_statement}
 use Rattle.trees.specs.Trees.{Deed, simple, branch, repeat, before, marked_before}
 use Rattle.syntax.specs.Exact.{name, names, expression, rights, arguments, condition, marked, assignment, calling, asking, names_call}
 use Rattle.syntax.specs.Exact.{asks_behind, named, giving, returning, branching, repeating, deed_by, deed_step, starts, starts_here}

@@ -5,8 +5,8 @@ use Rattle.tokens.specs.declared.vocabulary.Kind.{Kind}
 use Rattle.tokens.specs.declared.vocabulary.Kind.TheVariants as kind
 use Rattle.tokens.specs.Token.{Tok, same_kind}
 use Rattle.syntax.specs.Parser.{Parser, Strict, give, ◌>>=◌, begins, take, fix, many_step, many}
-use Rattle.syntax.specs.Grammar.{Takes, takes, Behind, behind, InParens, in_parens, Many, no_more, one_more}
-use Rattle.syntax.specs.Grammar.{Listed, listed, Several, several, Perhaps, nothing, something}
+use Rattle.grammar.specs.Grammar.{Takes, takes, Behind, behind, InParens, in_parens, Many, no_more, one_more}
+use Rattle.grammar.specs.Grammar.{Listed, listed, Several, several, Perhaps, nothing, something}
 use Rattle.syntax.specs.Exact.{more, list, repeated, parens, perhaps}
 use Rattle.syntax.proofs.KindTests.{same_kind-true, same_kind-is}
 use Rattle.syntax.proofs.Fixes.{both, carried, between, bind_is, Shrinks, Agree, Strict-Shrinks, Shrinks-give, Strict-take, Shrinks-bind}

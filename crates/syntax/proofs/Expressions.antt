@@ -9,8 +9,8 @@ use Rattle.tokens.specs.declared.vocabulary.Kind.TheVariants as kind
 use Rattle.tokens.specs.declared.vocabulary.Token.{Token}
 use Rattle.tokens.specs.Token.{Tok, same_kind, tok_of, toks_of}
 use Rattle.syntax.specs.Parser.{Parser, Strict, give, refuse, ◌>>=◌, take}
-use Rattle.syntax.specs.Grammar.{Takes, takes, name_at, operator_at, level, left_level, right_level, Reads, reads_zero, reads_one}
-use Rattle.syntax.specs.Grammar.{reads_name, reads_not, reads_paren, reads_two}
+use Rattle.grammar.specs.Grammar.{Takes, takes, name_at, operator_at, level, left_level, right_level, Reads, reads_zero, reads_one}
+use Rattle.grammar.specs.Grammar.{reads_name, reads_not, reads_paren, reads_two}
 use Rattle.syntax.specs.Exact.{Goal, from, after, binds, operand_step, go_on, expression_step, reading, operand}
 use Rattle.syntax.proofs.KindTests.{same_kind-true, same_kind-is}
 use Rattle.syntax.proofs.Fixes.{both, between, bind_is, Shrinks, Agree, Strict-Shrinks, Shrinks-give, Shrinks-refuse, Strict-take}

@@ -8,9 +8,10 @@ use Rattle.tokens.specs.declared.vocabulary.Token.{Token}
 use Rattle.tokens.specs.Token.{Tok, toks_of, same_kind}
 use Rattle.syntax.specs.Parser.{Parser, give, ◌>>=◌, begins, take}
 use Rattle.trees.specs.Trees.{Deed, simple, branch, repeat, Item, before, all_before}
-use Rattle.syntax.specs.Exact.{item_step, rest_step, starts_here, section, section_behind, item, going_on, put_before, marked, condition}
-use Rattle.syntax.specs.Exact.{calling, asking, assignment, asks_behind, named, ended, giving, returning, deed_step, deed_by, deed, if_deed}
+use Rattle.syntax.specs.Exact.{item_step, rest_step, starts_here, section, closing, item, going_on, put_before, marked, condition}
+use Rattle.syntax.specs.Exact.{calling, asking, assignment, asks_behind, named, ended, giving, deed_step, deed_by, deed, if_deed}
 use Rattle.syntax.specs.Exact.{while_deed}
+use Rattle.syntax.proofs.Closings.{behind_closing}
 use Rattle.syntax.proofs.Fixes.{bind_is}
 use Rattle.syntax.proofs.Sections.{section_is}
 
@@ -59,77 +60,64 @@ sections_end is ts e = rw e refl
 -- what the loop over statements does
 pub ruleset section_steps = (sections_start, sections_no_start, sections_go_on, sections_refused, sections_end)
 
--- a keyword and the statements after it, before their result
-behind : {Y : Type 0} (k : Kind) (f : Block Name Name Name → Parser Y) (ts : List Tok)
-    → (take k >>= λ _. (section >>= f)) ts ≡ (section_behind k >>= f) ts
-unfolding section_behind
-behind k f ts = by_option (take k ts)
-  where
-    by_option : (r : Option (Tok × List Tok))
-        → option_and_then (λ (q : Tok × List Tok). (section >>= f) q.1) r
-        ≡ option_and_then (λ (q : Block Name Name Name × List Tok). f q.0 q.1) (option_and_then (λ (q : Tok × List Tok). section q.1) r)
-    by_option None = refl
-    by_option (Some q) = refl
+-- a test, and statements, with a token of this kind after them
+abbrev pub test_before : Kind → Parser (RightSide Name)
+test_before k = condition >>= λ r. closing k r
 
-behind_none : {Y : Type 0} (k : Kind) (f : Block Name Name Name → Parser Y) (ts : List Tok) → section_behind k ts ≡ None
-    → (take k >>= λ _. (section >>= f)) ts ≡ None
-behind_none k f ts e = behind k f ts ∙ rw e refl
-
-behind_some : {Y : Type 0} (k : Kind) (f : Block Name Name Name → Parser Y) (ts : List Tok) (a : Block Name Name Name) (us : List Tok)
-    → section_behind k ts ≡ Some (a, us) → (take k >>= λ _. (section >>= f)) ts ≡ f a us
-behind_some k f ts a us e = behind k f ts ∙ bind_is (section_behind k) f ts a us e
-
--- a test, and the statements after it
-abbrev headed : Kind → (RightSide Name → Block Name Name Name → Parser Deed) → Parser Deed
-headed k f = condition >>= λ r. take k >>= λ _. (section >>= f r)
-
-module _ (k : Kind) (f : RightSide Name → Block Name Name Name → Parser Deed) (ts : List Tok) {r : RightSide Name}
-    {t1 : List Tok} (e1 : condition ts ≡ Some (r, t1)) where
-  headed_none : section_behind k t1 ≡ None → headed k f ts ≡ None
-  headed_none e = bind_is condition (λ r. take k >>= λ _. (section >>= f r)) ts r t1 e1 ∙ behind_none k (f r) t1 e
-
-  headed_some : {t2 : List Tok} {a : Block Name Name Name} → section_behind k t1 ≡ Some (a, t2) → headed k f ts
-      ≡ f r a t2
-  headed_some {t2} {a} e = bind_is condition (λ r. take k >>= λ _. (section >>= f r)) ts r t1 e1
-      ∙ behind_some k (f r) t1 a t2 e
+abbrev pub section_before : Kind → Parser (Block Name Name Name)
+section_before k = section >>= λ b. closing k b
 
 -- the steps of an `if`
-abbrev after_no : RightSide Name → Block Name Name Name → Block Name Name Name → Parser Deed
-after_no r a b = take kind.Fi >>= λ _. give (branch r a b)
-
 abbrev after_yes : RightSide Name → Block Name Name Name → Parser Deed
-after_yes r a = take kind.Else >>= λ _. (section >>= λ b. after_no r a b)
+after_yes r a = section >>= λ b. take kind.Fi >>= λ _. give (branch r a b)
 
-module _ (ts : List Tok) {r : RightSide Name} {t1 : List Tok} (e1 : condition ts ≡ Some (r, t1)) where
-  pub if_no_yes : section_behind kind.Then t1 ≡ None → if_deed ts ≡ None
+abbrev after_if : RightSide Name → Parser Deed
+after_if r = section >>= λ a. take kind.Else >>= λ _. after_yes r a
+
+module _ (ts : List Tok) where
+  pub if_refused : test_before kind.Then ts ≡ None → if_deed ts ≡ None
   unfolding if_deed
-  if_no_yes = headed_none kind.Then after_yes ts e1
+  if_refused e = behind_closing condition kind.Then after_if ts ∙ rw e refl
 
-  module _ {t2 : List Tok} {a : Block Name Name Name} (e2 : section_behind kind.Then t1 ≡ Some (a, t2)) where
-    if_yes : if_deed ts ≡ after_yes r a t2
+  module _ {r : RightSide Name} {t1 : List Tok} (e1 : test_before kind.Then ts ≡ Some (r, t1)) where
+    if_tested : if_deed ts ≡ after_if r t1
     unfolding if_deed
-    if_yes = headed_some kind.Then after_yes ts e1 e2
+    if_tested = behind_closing condition kind.Then after_if ts ∙ rw e1 refl
 
-    pub if_no_no : section_behind kind.Else t2 ≡ None → if_deed ts ≡ None
-    if_no_no e = if_yes ∙ behind_none kind.Else (after_no r a) t2 e
+    pub if_no_yes : section_before kind.Else t1 ≡ None → if_deed ts ≡ None
+    if_no_yes e = if_tested ∙ behind_closing section kind.Else (after_yes r) t1 ∙ rw e refl
 
-    module _ {t3 : List Tok} {b : Block Name Name Name} (e3 : section_behind kind.Else t2 ≡ Some (b, t3)) where
-      pub if_no : if_deed ts ≡ after_no r a b t3
-      if_no = if_yes ∙ behind_some kind.Else (after_no r a) t2 b t3 e3
+    module _ {t2 : List Tok} {a : Block Name Name Name} (e2 : section_before kind.Else t1 ≡ Some (a, t2)) where
+      if_yes : if_deed ts ≡ after_yes r a t2
+      if_yes = if_tested ∙ behind_closing section kind.Else (after_yes r) t1 ∙ rw e2 refl
+
+      pub if_no_no : section_before kind.Fi t2 ≡ None → if_deed ts ≡ None
+      if_no_no e = if_yes ∙ behind_closing section kind.Fi (λ b. give (branch r a b)) t2 ∙ rw e refl
+
+      pub if_whole : {t3 : List Tok} {b : Block Name Name Name} → section_before kind.Fi t2 ≡ Some (b, t3)
+          → if_deed ts ≡ Some (branch r a b, t3)
+      if_whole e = if_yes ∙ behind_closing section kind.Fi (λ b. give (branch r a b)) t2 ∙ rw e refl
 
 -- the steps of a `while`
-abbrev after_body : RightSide Name → Block Name Name Name → Parser Deed
-after_body r a = take kind.Od >>= λ _. give (repeat r a)
+abbrev after_while : RightSide Name → Parser Deed
+after_while r = section >>= λ a. take kind.Od >>= λ _. give (repeat r a)
 
-module _ (ts : List Tok) {r : RightSide Name} {t1 : List Tok} (e1 : condition ts ≡ Some (r, t1)) where
-  pub while_no_body : section_behind kind.Do t1 ≡ None → while_deed ts ≡ None
+module _ (ts : List Tok) where
+  pub while_refused : test_before kind.Do ts ≡ None → while_deed ts ≡ None
   unfolding while_deed
-  while_no_body = headed_none kind.Do after_body ts e1
+  while_refused e = behind_closing condition kind.Do after_while ts ∙ rw e refl
 
-  module _ {t2 : List Tok} {a : Block Name Name Name} (e2 : section_behind kind.Do t1 ≡ Some (a, t2)) where
-    pub while_body : while_deed ts ≡ after_body r a t2
+  module _ {r : RightSide Name} {t1 : List Tok} (e1 : test_before kind.Do ts ≡ Some (r, t1)) where
+    while_tested : while_deed ts ≡ after_while r t1
     unfolding while_deed
-    while_body = headed_some kind.Do after_body ts e1 e2
+    while_tested = behind_closing condition kind.Do after_while ts ∙ rw e1 refl
+
+    pub while_no_body : section_before kind.Od t1 ≡ None → while_deed ts ≡ None
+    while_no_body e = while_tested ∙ behind_closing section kind.Od (λ a. give (repeat r a)) t1 ∙ rw e refl
+
+    pub while_whole : {t2 : List Tok} {a : Block Name Name Name} → section_before kind.Od t1 ≡ Some (a, t2)
+        → while_deed ts ≡ Some (repeat r a, t2)
+    while_whole e = while_tested ∙ behind_closing section kind.Od (λ a. give (repeat r a)) t1 ∙ rw e refl
 
 -- what a statement does is read as its first word says
 pub deed_begins : (k : Kind) (ts us : List Token) (t : Token) → ts ≡ t ∷ us → t.kind ≡ k → deed (toks_of ts)

@@ -7,7 +7,7 @@ use Rattle.tokens.specs.declared.vocabulary.Kind.TheVariants as kind
 use Rattle.tokens.specs.Token.{Tok}
 use Rattle.syntax.specs.Parser.{Parser, Strict, give, ◌>>=◌, begins, many}
 use Rattle.syntax.specs.Exact.{prepend, declaration, all_declarations}
-use Rattle.syntax.specs.Grammar.{joined}
+use Rattle.grammar.specs.Grammar.{joined}
 use Rattle.syntax.proofs.Fixes.{bind_is}
 use Rattle.syntax.proofs.Exactly.{many_is, many_ends}
 use Rattle.syntax.proofs.Programs.{strict_declaration}

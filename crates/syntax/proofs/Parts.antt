@@ -5,8 +5,8 @@ use Rattle.tokens.specs.declared.vocabulary.Kind.{Kind}
 use Rattle.tokens.specs.declared.vocabulary.Kind.TheVariants as kind
 use Rattle.tokens.specs.Token.{Tok, same_kind}
 use Rattle.syntax.specs.Parser.{Strict, give, ◌>>=◌, begins, take}
-use Rattle.syntax.specs.Grammar.{Takes, takes, name_at, operator_at, Reads, reads_zero, reads_one, reads_name, reads_not, reads_paren}
-use Rattle.syntax.specs.Grammar.{reads_two, IsName, is_name, InParens, Listed, Perhaps, IsExpression, IsRight, is_any, is_value}
+use Rattle.grammar.specs.Grammar.{Takes, takes, name_at, operator_at, Reads, reads_zero, reads_one, reads_name, reads_not, reads_paren}
+use Rattle.grammar.specs.Grammar.{reads_two, IsName, is_name, InParens, Listed, Perhaps, IsExpression, IsRight, is_any, is_value}
 use Rattle.syntax.specs.Exact.{binds, name, names, expression, right, rights, formals, arguments, enclosed, condition, names_call}
 use Rattle.syntax.proofs.KindTests.{same_kind-true, same_kind-is}
 use Rattle.syntax.proofs.Fixes.{carried, between, bind_is, Strict-Shrinks, Shrinks-give, Strict-take, Strict-bind}

@@ -8,7 +8,7 @@ use Rattle.tokens.proofs.PartsCut.{text_of-append}
 use Rattle.trees.specs.declared.tree.Stmt.{Stmt}
 use Rattle.trees.specs.Trees.{name_of, Deed, simple, branch, repeat, Item, deed_of, marked_before, before, block_of}
 use Rattle.trees.proofs.Folds.{item_is}
-use Rattle.syntax.specs.Printed.{label_parts, margin, block_parts}
+use Rattle.grammar.specs.Printed.{label_parts, margin, block_parts}
 use Rattle.syntax.specs.PrintedDeed.{deed_parts}
 
 -- one more level

@@ -14,7 +14,7 @@ use Rattle.trees.specs.declared.tree.Stmt.{Stmt}
 use Rattle.trees.specs.declared.tree.Core.{Core}
 use Rattle.trees.specs.declared.tree.Core.TheVariants as core
 use Rattle.trees.specs.Trees.{name_of, names_of, expr_of, exprs_of, rhs_of, rhss_of, Deed, simple, branch, repeat, deed_of, block_of}
-use Rattle.syntax.specs.Printed.{name_parts, separated, expression_parts, side_parts, ended, margin, block_parts}
+use Rattle.grammar.specs.Printed.{name_parts, separated, expression_parts, side_parts, ended, margin, block_parts}
 use Rattle.syntax.specs.PrintedDeed.{deed_parts}
 use Rattle.trees.proofs.Folds.{deed_of-Skip, deed_of-Return, deed_of-Goto, deed_of-Assign, deed_of-Assert, deed_of-Assume}
 use Rattle.trees.proofs.Folds.{deed_of-Call, deed_of-Give, deed_of-CallTo, deed_of-If, deed_of-While}

@@ -8,9 +8,9 @@ use Rattle.tokens.proofs.PartsCut.{text_of-append}
 use Rattle.trees.specs.declared.tree.Name.{Name}
 use Rattle.trees.specs.declared.tree.Proc.{Proc}
 use Rattle.trees.specs.declared.tree.Program.{Program}
-use Rattle.syntax.specs.Grammar.{joined}
+use Rattle.grammar.specs.Grammar.{joined}
 use Rattle.trees.specs.Trees.{name_of, names_of, proc_of, procs_of, threads_of, tree_of, block_of}
-use Rattle.syntax.specs.Printed.{name_parts, separated, margin, block_parts, declaration_parts, procedure_parts, thread_parts, printed}
+use Rattle.grammar.specs.Printed.{name_parts, separated, margin, block_parts, declaration_parts, procedure_parts, thread_parts, printed}
 use Rattle.syntax.proofs.Appended.{four_behind, seven_behind}
 use Rattle.syntax.proofs.Prints.{pushed_last}
 

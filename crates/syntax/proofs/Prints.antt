@@ -16,7 +16,7 @@ use Rattle.trees.specs.declared.tree.Expr.TheVariants.{Const, Var, Not, Two}
 use Rattle.trees.specs.Trees.{name_of, operator_of, expr_of}
 use Rattle.trees.proofs.Folds.{expr_of-Const, expr_of-Var, expr_of-Not, expr_of-Two}
 use Rattle.syntax.proofs.Appended.{five_behind}
-use Rattle.syntax.specs.Printed.{name_parts, kind_of, operation, operand_parts, expression_parts, separated, after_commas}
+use Rattle.grammar.specs.Printed.{name_parts, kind_of, operation, operand_parts, expression_parts, separated, after_commas}
 
 -- The text at the end of a function whose last call pushes s.
 pub pushed_last : {E : Type 0} {X : Type 0} (r : Result X E) (new before s w : List ℕ) → new ≡ cond (is_ok r) (before ++ s) before

@@ -9,13 +9,13 @@ use Rattle.tokens.specs.declared.vocabulary.Kind.{Kind}
 use Rattle.tokens.specs.declared.vocabulary.Kind.TheVariants as kind
 use Rattle.tokens.specs.Spelling.{reserved, name}
 use Rattle.tokens.specs.Parts.{Part, shown, space, line, spelling, fixed, joins, IsSpelled, IsApart, AreApart}
-use Rattle.syntax.specs.Grammar.{joined}
-use Rattle.syntax.specs.InGrammar.{IsId, AreIds, ExpressionInGrammar, SideInGrammar, SimpleInGrammar, LabelInGrammar, BlockInGrammar}
-use Rattle.syntax.specs.InGrammar.{ProcedureInGrammar, ThreadInGrammar, InGrammar}
-use Rattle.syntax.specs.Printed as printed
-use Rattle.syntax.specs.Printed.{name_parts, after_commas, separated, kind_of, operation, operand_parts, expression_parts, side_parts}
-use Rattle.syntax.specs.Printed.{ended, simple_parts, label_parts, margin, line_of, test_parts, block_parts, declaration_parts}
-use Rattle.syntax.specs.Printed.{procedure_parts, thread_parts, program_parts}
+use Rattle.grammar.specs.Grammar.{joined}
+use Rattle.grammar.specs.InGrammar.{IsId, AreIds, ExpressionInGrammar, SideInGrammar, SimpleInGrammar, LabelInGrammar, BlockInGrammar}
+use Rattle.grammar.specs.InGrammar.{ProcedureInGrammar, ThreadInGrammar, InGrammar}
+use Rattle.grammar.specs.Printed as printed
+use Rattle.grammar.specs.Printed.{name_parts, after_commas, separated, kind_of, operation, operand_parts, expression_parts, side_parts}
+use Rattle.grammar.specs.Printed.{ended, simple_parts, label_parts, margin, line_of, test_parts, block_parts, declaration_parts}
+use Rattle.grammar.specs.Printed.{procedure_parts, thread_parts, program_parts}
 use Rattle.syntax.proofs.Appended.{four, five, six}
 
 -- No word comes next, and the parts stand apart.

@@ -5,12 +5,12 @@ use Rattle.language.specs.Tree.{any, value}
 use Rattle.tokens.specs.declared.vocabulary.Kind.TheVariants as kind
 use Rattle.tokens.specs.Token.{Tok}
 use Rattle.tokens.specs.Parts.{Part, space, spelling, fixed, tokens_of}
-use Rattle.syntax.specs.Grammar.{takes, operator_at, level, left_level, right_level, Reads, reads_zero, reads_one, reads_name, reads_not}
-use Rattle.syntax.specs.Grammar.{reads_paren, reads_two, IsName, is_name, Behind, behind, InParens, in_parens, Many, no_more, one_more}
-use Rattle.syntax.specs.Grammar.{Listed, listed, Perhaps, nothing, something, IsRight, is_any, is_value}
+use Rattle.grammar.specs.Grammar.{takes, operator_at, level, left_level, right_level, Reads, reads_zero, reads_one, reads_name, reads_not}
+use Rattle.grammar.specs.Grammar.{reads_paren, reads_two, IsName, is_name, Behind, behind, InParens, in_parens, Many, no_more, one_more}
+use Rattle.grammar.specs.Grammar.{Listed, listed, Perhaps, nothing, something, IsRight, is_any, is_value}
 use Rattle.syntax.specs.Offsets.{unplaced, unplaced_expression, unplaced_side}
-use Rattle.syntax.specs.Printed as printed
-use Rattle.syntax.specs.Printed.{name_parts, after_commas, separated, kind_of, operation, operand_parts, expression_parts, side_parts}
+use Rattle.grammar.specs.Printed as printed
+use Rattle.grammar.specs.Printed.{name_parts, after_commas, separated, kind_of, operation, operand_parts, expression_parts, side_parts}
 
 -- By P, tokens begin with something that is x except for its offsets, and the tokens of more parts follow.
 pub record Read {X : Type 0} (P : List Tok → X → List Tok → Type 0) (bare : X → X) (x : X) (ts : List Tok) (more : List Part) : Type 0 where

@@ -7,14 +7,14 @@ use Rattle.tokens.specs.declared.vocabulary.Kind.{Kind}
 use Rattle.tokens.specs.declared.vocabulary.Kind.TheVariants as kind
 use Rattle.tokens.specs.Token.{Tok}
 use Rattle.tokens.specs.Parts.{Part, shown, space, line, spelling, fixed, tokens_of}
-use Rattle.syntax.specs.Grammar.{Takes, takes, IsName, is_name, InParens, Perhaps, IsExpression, IsRight, IsMarked, bare, labelled}
-use Rattle.syntax.specs.Grammar.{IsSimple, is_skip, is_return, is_give, is_goto, is_assert, is_assume, is_assign, is_call, is_call_for}
-use Rattle.syntax.specs.Grammar.{IsSome, Statements, nothing_more, statement, if_statement, while_statement}
+use Rattle.grammar.specs.Grammar.{Takes, takes, IsName, is_name, InParens, Perhaps, IsExpression, IsRight, IsMarked, bare, labelled}
+use Rattle.grammar.specs.Grammar.{IsSimple, is_skip, is_return, is_give, is_goto, is_assert, is_assume, is_assign, is_call, is_call_for}
+use Rattle.grammar.specs.Grammar.{IsSome, Statements, nothing_more, statement, if_statement, while_statement}
 use Rattle.syntax.specs.Offsets.{unplaced, unplaced_expression, unplaced_side, unplaced_simple, unplaced_mark, unplaced_block}
-use Rattle.syntax.specs.InGrammar.{SimpleInGrammar, BlockInGrammar}
-use Rattle.syntax.specs.Printed as printed
-use Rattle.syntax.specs.Printed.{name_parts, separated, expression_parts, side_parts, ended, simple_parts, label_parts, margin, line_of}
-use Rattle.syntax.specs.Printed.{test_parts, block_parts}
+use Rattle.grammar.specs.InGrammar.{SimpleInGrammar, BlockInGrammar}
+use Rattle.grammar.specs.Printed as printed
+use Rattle.grammar.specs.Printed.{name_parts, separated, expression_parts, side_parts, ended, simple_parts, label_parts, margin, line_of}
+use Rattle.grammar.specs.Printed.{test_parts, block_parts}
 use Rattle.syntax.proofs.Appended.{four, six}
 use Rattle.syntax.proofs.PrintsBack.{Read, Shows, put, expression_shows, side_shows, name_shows, list_shows, perhaps_shows, parens_show}
 

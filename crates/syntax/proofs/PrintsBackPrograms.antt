@@ -5,13 +5,13 @@ use Rattle.language.specs.Tree.{Name, Procedure, ThreadLine, Tree}
 use Rattle.tokens.specs.declared.vocabulary.Kind.TheVariants as kind
 use Rattle.tokens.specs.Token.{Tok}
 use Rattle.tokens.specs.Parts.{Part, space, line, fixed, tokens_of}
-use Rattle.syntax.specs.Grammar.{takes, IsName, is_name, Many, no_more, one_more, Several, several, Perhaps, joined, is_declaration}
-use Rattle.syntax.specs.Grammar.{Declarations, declarations, IsProcedure, is_procedure, IsThread, is_thread, IsProgram, is_program}
+use Rattle.grammar.specs.Grammar.{takes, IsName, is_name, Many, no_more, one_more, Several, several, Perhaps, joined, is_declaration}
+use Rattle.grammar.specs.Grammar.{Declarations, declarations, IsProcedure, is_procedure, IsThread, is_thread, IsProgram, is_program}
 use Rattle.syntax.specs.Offsets.{unplaced, unplaced_procedure, unplaced_thread, unplaced_tree}
-use Rattle.syntax.specs.InGrammar.{ProcedureInGrammar, ThreadInGrammar, InGrammar}
-use Rattle.syntax.specs.Printed as printed
-use Rattle.syntax.specs.Printed.{name_parts, separated, ended, line_of, block_parts, declaration_parts, procedure_parts, thread_parts}
-use Rattle.syntax.specs.Printed.{program_parts}
+use Rattle.grammar.specs.InGrammar.{ProcedureInGrammar, ThreadInGrammar, InGrammar}
+use Rattle.grammar.specs.Printed as printed
+use Rattle.grammar.specs.Printed.{name_parts, separated, ended, line_of, block_parts, declaration_parts, procedure_parts, thread_parts}
+use Rattle.grammar.specs.Printed.{program_parts}
 use Rattle.syntax.proofs.Appended.{five}
 use Rattle.syntax.proofs.PrintsBack.{Shows, put, name_shows, list_shows, perhaps_shows, parens_show}
 use Rattle.syntax.proofs.PrintsBackBlocks.{put_tokens, line_at, word_at, some_too, block_shows}

@@ -5,9 +5,9 @@ use Rattle.tokens.specs.declared.vocabulary.Kind.{Kind}
 use Rattle.tokens.specs.declared.vocabulary.Kind.TheVariants as kind
 use Rattle.tokens.specs.Token.{Tok, same_kind}
 use Rattle.syntax.specs.Parser.{Parser, Strict, give, ◌>>=◌, begins, take, many}
-use Rattle.syntax.specs.Grammar.{Takes, takes, IsName, is_name, InParens, Several, several, Perhaps, IsSome, Statements, joined}
-use Rattle.syntax.specs.Grammar.{IsDeclaration, is_declaration, Declarations, declarations, IsProcedure, is_procedure, IsThread, is_thread}
-use Rattle.syntax.specs.Grammar.{IsProgram, is_program}
+use Rattle.grammar.specs.Grammar.{Takes, takes, IsName, is_name, InParens, Several, several, Perhaps, IsSome, Statements, joined}
+use Rattle.grammar.specs.Grammar.{IsDeclaration, is_declaration, Declarations, declarations, IsProcedure, is_procedure, IsThread, is_thread}
+use Rattle.grammar.specs.Grammar.{IsProgram, is_program}
 use Rattle.syntax.specs.Exact.{name, names, formals, starts, starts_here, section, declaration, all_declarations, insides, procedure}
 use Rattle.syntax.specs.Exact.{procedures, thread_line, any_left, thread_lines, program}
 use Rattle.syntax.proofs.KindTests.{same_kind-is}

@@ -3,8 +3,9 @@ use Rattle.std.proofs.Common.{◌≡◌, ℕ, List, sym, subst}
 use Rattle.language.specs.Tree.{Tree}
 use Rattle.tokens.specs.Parts.{tokens_of}
 use Rattle.tokens.proofs.PartsCut.{parts_cut, parts_ascii}
-use Rattle.syntax.specs.InGrammar.{InGrammar, WithinLimits, IsTextOf}
-use Rattle.syntax.specs.Printed.{program_parts, printed}
+use Rattle.grammar.specs.InGrammar.{InGrammar}
+use Rattle.syntax.specs.Text.{WithinLimits, IsTextOf}
+use Rattle.grammar.specs.Printed.{program_parts, printed}
 use Rattle.syntax.proofs.PrintsApart.{program_apart}
 use Rattle.syntax.proofs.PrintsBackPrograms.{program_shows}
 

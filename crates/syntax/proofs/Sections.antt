@@ -1,17 +1,15 @@
 -- The function that reads statements, and the grammar of statements: that it reads no more than it is given.
 use Rattle.std.proofs.Common.{◌≡◌, ℕ, suc, ◌<◌, ◌≤◌, Bool, true, false, cond, ◌&&◌, List, [], ◌∷◌, length, Option, Some, None, refl, arith}
-use Rattle.std.proofs.Common.{◌⊎◌, inl, inr}
 use Rattle.language.specs.Tree.{Name, assign, leave, leave_with, call, call_for, Mark, Block, done}
 use Rattle.tokens.specs.declared.vocabulary.Kind.TheVariants as kind
 use Rattle.tokens.specs.Token.{Tok, same_kind}
 use Rattle.syntax.specs.Parser.{Parser, Strict, give, refuse, ◌>>=◌, begins, take}
-use Rattle.syntax.specs.Grammar.{name_at}
+use Rattle.grammar.specs.Grammar.{name_at}
 use Rattle.trees.specs.Trees.{Deed, simple, branch, repeat, before}
 use Rattle.syntax.specs.Exact.{condition, marked, assignment, calling, asking, asks_behind, named, giving, returning, branching, repeating}
 use Rattle.syntax.specs.Exact.{deed_by, deed_step, starts_here, item_step, rest_step, section_step, section}
 use Rattle.syntax.proofs.Fixes.{both, Shrinks, Agree, Strict-Shrinks, Shrinks-give, Shrinks-refuse, Strict-take, Shrinks-bind, Strict-bind}
 use Rattle.syntax.proofs.Fixes.{Shrinks-Strict-bind, Agree-same, Agree-bind, Agree-Strict-bind, Shrinks-cond, IsStep, fix_shrinks, fix_is}
-use Rattle.syntax.proofs.Exactly.{chosen}
 use Rattle.syntax.proofs.Parts.{strict_name, strict_names, strict_rights, strict_arguments, strict_expression, strict_test}
 
 -- what is read last, and a semicolon after it

@@ -8,15 +8,15 @@ use Rattle.tokens.specs.Token.{Tok}
 use Rattle.tokens.specs.Spelling as spelling
 use Rattle.tokens.specs.Spelling.{reserved_word, sign, IsWord, reserved, name}
 use Rattle.tokens.specs.Cuts.{IsToken, word, sign_of, Cuts, nothing, gap, token}
-use Rattle.syntax.specs.Grammar as grammar
-use Rattle.syntax.specs.Grammar.{Takes, takes, Reads, reads_zero, reads_one, reads_name, reads_not, reads_paren, reads_two, IsName, is_name}
-use Rattle.syntax.specs.Grammar.{Behind, behind, InParens, in_parens, Many, no_more, one_more, Several, several, Listed, listed, Perhaps}
-use Rattle.syntax.specs.Grammar.{something, IsExpression, IsRight, is_any, is_value, IsMarked, bare, labelled, IsSimple, is_skip, is_return}
-use Rattle.syntax.specs.Grammar.{is_give, is_goto, is_assert, is_assume, is_assign, is_call, is_call_for, Statements, nothing_more}
-use Rattle.syntax.specs.Grammar.{statement, if_statement, while_statement, joined, IsDeclaration, is_declaration, Declarations}
-use Rattle.syntax.specs.Grammar.{declarations, IsProcedure, is_procedure, IsThread, is_thread, IsProgram, is_program}
-use Rattle.syntax.specs.InGrammar.{IsId, AreIds, ExpressionInGrammar, SideInGrammar, SimpleInGrammar, LabelInGrammar, BlockInGrammar}
-use Rattle.syntax.specs.InGrammar.{ProcedureInGrammar, ThreadInGrammar, InGrammar}
+use Rattle.grammar.specs.Grammar as grammar
+use Rattle.grammar.specs.Grammar.{Takes, takes, Reads, reads_zero, reads_one, reads_name, reads_not, reads_paren, reads_two, IsName, is_name}
+use Rattle.grammar.specs.Grammar.{Behind, behind, InParens, in_parens, Many, no_more, one_more, Several, several, Listed, listed, Perhaps}
+use Rattle.grammar.specs.Grammar.{something, IsExpression, IsRight, is_any, is_value, IsMarked, bare, labelled, IsSimple, is_skip, is_return}
+use Rattle.grammar.specs.Grammar.{is_give, is_goto, is_assert, is_assume, is_assign, is_call, is_call_for, Statements, nothing_more}
+use Rattle.grammar.specs.Grammar.{statement, if_statement, while_statement, joined, IsDeclaration, is_declaration, Declarations}
+use Rattle.grammar.specs.Grammar.{declarations, IsProcedure, is_procedure, IsThread, is_thread, IsProgram, is_program}
+use Rattle.grammar.specs.InGrammar.{IsId, AreIds, ExpressionInGrammar, SideInGrammar, SimpleInGrammar, LabelInGrammar, BlockInGrammar}
+use Rattle.grammar.specs.InGrammar.{ProcedureInGrammar, ThreadInGrammar, InGrammar}
 use Rattle.syntax.specs.Text.{Text}
 
 -- A token that is a name is spelled as one.

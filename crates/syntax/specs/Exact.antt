@@ -6,7 +6,7 @@ use Rattle.tokens.specs.declared.vocabulary.Kind.{Kind}
 use Rattle.tokens.specs.declared.vocabulary.Kind.TheVariants as kind
 use Rattle.tokens.specs.Token.{Tok, same_kind}
 use Rattle.syntax.specs.Parser.{Parser, give, refuse, ◌>>=◌, begins, take, fix, many}
-use Rattle.syntax.specs.Grammar.{name_at, operator_at, level, right_level, joined}
+use Rattle.grammar.specs.Grammar.{name_at, operator_at, level, right_level, joined}
 use Rattle.trees.specs.Trees.{Deed, simple, branch, repeat, Item, before, all_before}
 
 -- What is read: an expression of this level, or what follows the expression read so far.
@@ -225,10 +225,6 @@ section_step rec u = item_step (rec tt) >>= λ i. rest_step (rec tt) >>= λ k. g
 
 unfoldable pub section : Parser (Block Name Name Name)
 section = fix section_step tt
-
--- a keyword, and the statements after it
-unfoldable pub section_behind : Kind → Parser (Block Name Name Name)
-section_behind token_kind = take token_kind >>= λ _. section
 
 unfoldable pub deed : Parser Deed
 deed = deed_step section

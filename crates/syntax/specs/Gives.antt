@@ -1,9 +1,11 @@
 -- What a reader returns, and what the grammar's function gives.
-use Rattle.std.specs.Prelude.{◌≡◌, ◌<◌, List, length, Option, None, Some, Result, Ok, Err, IfOk}
+use Rattle.std.specs.Prelude.{◌≡◌, ◌<◌, List, length, Option, None, Some, Result, Ok, Err, IfOk, IsErrAnd}
 use denote.Ref.{Bor}
+use Rattle.tokens.specs.declared.vocabulary.Kind.{Kind}
 use Rattle.tokens.specs.declared.vocabulary.Token.{Token}
 use Rattle.tokens.specs.Token.{toks_of}
 use Rattle.syntax.specs.Parser.{Parser}
+use Rattle.syntax.specs.Exact.{closing}
 use Rattle.syntax.specs.declared.fault.ReadFault.{ReadFault}
 use Rattle.syntax.specs.declared.fault.ReadFault.TheVariants as fault
 
@@ -27,3 +29,8 @@ Parses view result parser tokens = Gives (λ p. (view p.0, toks_of p.1.now)) res
 -- Some token is read.
 abbrev pub Shorter : {X : Type 0} → Result (X × Bor (List Token)) ReadFault → List Token → Type 0
 Shorter result tokens = IfOk result (λ p. length p.1.now < length tokens)
+
+-- After what was read, a token of this kind is read too; a fault stays as it was.
+abbrev pub Closes : {X : Type 0} → Kind → Result (X × Bor (List Token)) ReadFault → Result (X × Bor (List Token)) ReadFault → Type 0
+Closes token_kind (Ok p) result = Parses (λ v. v) result (closing token_kind p.0) p.1.now × Shorter result p.1.now
+Closes token_kind (Err before) result = IsErrAnd result (λ fault. fault ≡ before)

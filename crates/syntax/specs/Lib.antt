@@ -1,11 +1,7 @@
 pub mod Parser
-pub mod Grammar
 pub mod Exact
 pub mod Gives
-pub mod Text
 pub mod Cutting
-pub mod Printed
 pub mod PrintedDeed
 pub mod Offsets
-pub mod InGrammar
-pub mod PrintedExample
+pub mod Text

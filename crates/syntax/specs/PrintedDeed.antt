@@ -3,7 +3,7 @@ use Rattle.std.specs.Prelude.{ℕ, suc, List, [], ◌∷◌, ◌++◌}
 use Rattle.tokens.specs.declared.vocabulary.Kind.TheVariants as kind
 use Rattle.tokens.specs.Parts.{Part, line, fixed}
 use Rattle.trees.specs.Trees.{Deed, simple, branch, repeat}
-use Rattle.syntax.specs.Printed.{simple_parts, test_parts, block_parts, line_of}
+use Rattle.grammar.specs.Printed.{simple_parts, test_parts, block_parts, line_of}
 
 -- What a statement prints after its margin and its label.
 abbrev pub deed_parts : ℕ → Deed → List Part

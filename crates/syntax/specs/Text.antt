@@ -8,7 +8,8 @@ use Rattle.tokens.specs.Cuts.{Cuts, BadAt}
 use Rattle.tokens.specs.Depth.{TooDeep}
 use Rattle.syntax.specs.declared.fault.ReadFault.{ReadFault}
 use Rattle.syntax.specs.declared.fault.ReadFault.TheVariants as fault
-use Rattle.syntax.specs.Grammar.{IsProgram}
+use Rattle.grammar.specs.Grammar.{IsProgram}
+use Rattle.syntax.specs.Offsets.{SameButOffsets}
 
 -- The bytes are the text of a program with this tree: they are at most 65,536 and ASCII, they are cut into tokens
 -- that are not too deep, and the tokens are a program with this tree by the grammar.
@@ -45,3 +46,12 @@ number fault.NotAscii = 2
 number (fault.Syntax at) = 3
 number fault.TooDeep = 4
 number fault.Memory = 5
+
+-- The bytes are within the limits of texts: at most 65,536 (`most_bytes`), and not cut into tokens that are too deep.
+pub record WithinLimits (bytes : List ℕ) : Type 0 where
+  pub few : length bytes ≤ most_bytes
+  pub shallow : DeepTokens bytes → ⊥
+
+-- The bytes are the text of a program with this tree, offsets aside.
+abbrev pub IsTextOf : List ℕ → Tree → Type 0
+IsTextOf bytes tree = (read : Tree) × Text bytes read × SameButOffsets read tree

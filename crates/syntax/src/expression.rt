@@ -2,7 +2,7 @@
 
 ghost use Rattle.std.specs.Prelude.{◌≡◌, option_map};
 ghost use Rattle.syntax.specs.Gives.{Parses, Shorter};
-ghost use Rattle.syntax.specs.Grammar.{level, right_level};
+ghost use Rattle.grammar.specs.Grammar.{level, right_level};
 ghost use Rattle.syntax.specs.Exact.{binds, operand, reading, from};
 ghost use Rattle.trees.specs.Trees.{operator_of, expr_of};
 ghost use Rattle.tokens.specs.Token.{toks_of};
@@ -95,10 +95,7 @@ impl<'a, A: Allocator + Clone> Reader<'a, A> {
                 let (inner, after) = self.expression(5, rest)?;
                 Ok((Expr::Not(self.in_box(inner)?), after))
             }
-            Kind::Open => {
-                let (inner, after) = self.expression(0, rest)?;
-                self.closed(inner, Kind::Close, after)
-            }
+            Kind::Open => self.closed(self.expression(0, rest), Kind::Close),
             _ => Err(ReadFault::Syntax(first.at)),
         }
     }

@@ -19,7 +19,7 @@ mod written;
 
 pub use fault::ReadFault;
 pub use laws::texts_have_one_tree;
-pub use printed_laws::{a_loop_is_printed_over_lines, printed_texts_are_read_back};
+pub use printed_laws::printed_texts_are_read_back;
 pub use printing::print;
 pub use reading::read;
 pub use trees::{Core, Expr, Name, Op, Proc, Program, Rhs, Stmt, Thread};

@@ -40,18 +40,16 @@ impl<A: Allocator + Clone> Item<A> for Expr<A> {
 
 impl<'a, A: Allocator + Clone> Reader<'a, A> {
     /// Reads items with commas between them, and a token of this kind after them.
-    #[tactic(auto, using(crate::proofs::Closings::closed_seen))]
     pub fn listed<'t, T: Item<A>>(&self, kind: Kind, tokens: &'t [Token<'t>]) -> Read<'t, Vec<T, A>>
         requires { Strict T.grammar }
         ensures gives { Parses (λ v. map T.tree v.items) result (listed T.grammar kind) tokens.now }
         ensures shorter { Shorter result tokens.now }
     {
-        let (list, rest) = self.list(tokens)?;
-        self.closed(list, kind, rest)
+        self.closed(self.list(tokens), kind)
     }
 
     /// Reads items in parentheses, with commas between them, of which there may be none.
-    #[tactic(auto, using(crate::proofs::Closings::closed_seen), unfolding(crate::specs::Exact::enclosed))]
+    #[tactic(auto, unfolding(crate::specs::Exact::enclosed))]
     pub fn enclosed<'t, T: Item<A>>(&self, tokens: &'t [Token<'t>]) -> Read<'t, Vec<T, A>>
         requires { Strict T.grammar }
         ensures gives { Parses (λ v. map T.tree v.items) result (enclosed T.grammar) tokens.now }
@@ -59,19 +57,18 @@ impl<'a, A: Allocator + Clone> Reader<'a, A> {
     {
         let (_, inside) = self.take(Kind::Open, tokens)?;
         if begins(Kind::Close, inside) {
-            return self.closed(Vec::new(self.alloc.clone()?), Kind::Close, inside);
+            return self.closed(self.none(inside), Kind::Close);
         }
         self.listed(Kind::Close, inside)
     }
 
     /// Reads a right side in parentheses.
-    #[tactic(auto, using(crate::proofs::Closings::closed_seen), unfolding(crate::specs::Exact::condition))]
+    #[tactic(auto, unfolding(crate::specs::Exact::condition))]
     pub fn test<'t>(&self, tokens: &'t [Token<'t>]) -> Read<'t, Rhs<A>>
         ensures gives { Parses rhs_of result condition tokens.now }
         ensures shorter { Shorter result tokens.now }
     {
         let (_, inside) = self.take(Kind::Open, tokens)?;
-        let (value, rest) = Rhs::read(self, inside)?;
-        self.closed(value, Kind::Close, rest)
+        self.closed(Rhs::read(self, inside), Kind::Close)
     }
 }

@@ -3,7 +3,7 @@
 ghost use Rattle.std.specs.Prelude.{◌≡◌, ◌∷◌, []};
 ghost use Rattle.tokens.specs.Parts.{space, fixed, text_of};
 ghost use Rattle.trees.specs.Trees.{operator_of, expr_of};
-ghost use Rattle.syntax.specs.Printed.{Prints, kind_of, operand_parts};
+ghost use Rattle.grammar.specs.Printed.{Prints, kind_of, operand_parts};
 
 use crate::show::Show;
 use std::alloc::{AllocError, Allocator};

@@ -6,7 +6,7 @@ ghost use Rattle.tokens.specs.Parts.{text_of};
 ghost use Rattle.language.specs.Tree.{assign, goto, leave_with, call, call_for};
 ghost use Rattle.trees.specs.Trees.{name_of, names_of, expr_of, exprs_of, rhs_of, rhss_of, simple};
 ghost use Rattle.trees.specs.Trees.{branch, repeat, deed_of, block_of};
-ghost use Rattle.syntax.specs.Printed.{Prints, side_parts, label_parts, margin, block_parts};
+ghost use Rattle.grammar.specs.Printed.{Prints, side_parts, label_parts, margin, block_parts};
 ghost use Rattle.syntax.specs.PrintedDeed.{deed_parts};
 
 use crate::show::{Show, print_list};

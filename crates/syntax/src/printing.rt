@@ -3,8 +3,9 @@
 ghost use Rattle.std.specs.Prelude.{◌≡◌, IfOk};
 ghost use Rattle.std.specs.String.{string_bytes};
 ghost use Rattle.trees.specs.Trees.{names_of, tree_of};
-ghost use Rattle.syntax.specs.InGrammar.{InGrammar, WithinLimits, IsTextOf};
-ghost use Rattle.syntax.specs.Printed.{Prints, declaration_parts, printed};
+ghost use Rattle.grammar.specs.InGrammar.{InGrammar};
+ghost use Rattle.syntax.specs.Text.{WithinLimits, IsTextOf};
+ghost use Rattle.grammar.specs.Printed.{Prints, declaration_parts, printed};
 
 use crate::print_statements::{print_block, print_margin};
 use crate::show::{Show, print_all, print_list};

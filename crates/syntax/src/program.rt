@@ -1,6 +1,6 @@
 //! Reading declarations, procedures, thread lines and whole programs.
 
-ghost use Rattle.std.specs.Prelude.{◌≡◌, ◌≤◌, [], length, IfOk, IsOkUnless};
+ghost use Rattle.std.specs.Prelude.{◌≡◌, ◌≤◌, [], length, IfOk};
 ghost use Rattle.syntax.specs.Gives.{Gives, Parses, Shorter};
 ghost use Rattle.syntax.specs.Exact.{declaration, all_declarations, insides, program};
 ghost use Rattle.trees.specs.Trees.{names_of, block_of, tree_of};
@@ -24,21 +24,13 @@ impl<'a, A: Allocator + Clone> Reader<'a, A> {
         self.listed(Kind::Semicolon, inside)
     }
 
-    // No names yet, and all tokens.
-    fn no_names<'t>(&self, tokens: &'t [Token<'t>]) -> Read<'t, Vec<Name<A>, A>>
-        ensures ok { IfOk result (λ p. (p.0.items ≡ []) × (p.1.now ≡ tokens.now)) }
-        ensures err { IsOkUnless result ReadFault.Memory }
-    {
-        Ok((Vec::new(self.alloc.clone()?), tokens))
-    }
-
     /// Reads declarations, as long as there are any, into one list.
     #[tactic(auto, using(crate::proofs::Loops::declaration_steps))]
     fn declarations<'t>(&self, tokens: &'t [Token<'t>]) -> Read<'t, Vec<Name<A>, A>>
         ensures gives { Parses (λ v. names_of v.items) result all_declarations tokens.now }
         ensures no_longer { IfOk result (λ p. length p.1.now ≤ length tokens.now) }
     {
-        let (mut list, mut rest) = self.no_names(tokens)?;
+        let (mut list, mut rest) = self.none(tokens)?;
         while begins(Kind::Decl, rest) {
             let (mut next, after) = self.declaration(rest)?;
             list.append(&mut next)?;
@@ -48,7 +40,7 @@ impl<'a, A: Allocator + Clone> Reader<'a, A> {
     }
 
     /// Reads `begin`, the locals, the statements and `end`.
-    #[tactic(auto, using(crate::proofs::Closings::closed_seen), unfolding(crate::specs::Exact::insides))]
+    #[tactic(auto, unfolding(crate::specs::Exact::insides))]
     fn insides<'t>(&self, tokens: &'t [Token<'t>]) -> Read<'t, (Vec<Name<A>, A>, Vec<Stmt<A>, A>)>
         ensures gives { Parses
             (λ b. (names_of b.0.items, block_of b.1.items)) result insides tokens.now }
@@ -56,8 +48,8 @@ impl<'a, A: Allocator + Clone> Reader<'a, A> {
     {
         let (_, inside) = self.take(Kind::Begin, tokens)?;
         let (locals, others) = self.declarations(inside)?;
-        let (body, ended) = self.statements(others)?;
-        self.closed((locals, body), Kind::End, ended)
+        let (body, rest) = self.closed(self.statements(others), Kind::End)?;
+        Ok(((locals, body), rest))
     }
 
     /// Reads a whole program.
@@ -107,11 +99,11 @@ impl<A: Allocator + Clone> Repeated<A> for Proc<A> {
 }
 
 impl<A: Allocator + Clone> Item<A> for Thread<A> {
-    #[tactic(auto, using(crate::proofs::Closings::closed_seen), unfolding(crate::specs::Exact::thread_line))]
+    #[tactic(auto, unfolding(crate::specs::Exact::thread_line))]
     fn read<'t>(reader: &Reader<'_, A>, tokens: &'t [Token<'t>]) -> Read<'t, Thread<A>> {
         let (word, others) = reader.take(Kind::Thread, tokens)?;
-        let (name, rest) = Name::read(reader, others)?;
-        reader.closed(Thread { at: word.at, name }, Kind::Semicolon, rest)
+        let (name, rest) = reader.closed(Name::read(reader, others), Kind::Semicolon)?;
+        Ok((Thread { at: word.at, name }, rest))
     }
 }
 

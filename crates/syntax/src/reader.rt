@@ -1,10 +1,9 @@
 //! What each reader of tokens needs, and the readers of single tokens.
 
 ghost use Rattle.std.specs.Prelude.{◌≡◌, ◌++◌, ◌∷◌, [], IfOk, IsOkUnless};
-ghost use Rattle.syntax.specs.Gives.{Parses, Shorter};
+ghost use Rattle.syntax.specs.Gives.{Parses, Shorter, Closes};
 ghost use Rattle.syntax.specs.Parser.{begins, take};
-ghost use Rattle.syntax.specs.Exact.{closing};
-ghost use Rattle.syntax.specs.Grammar.{name_at};
+ghost use Rattle.grammar.specs.Grammar.{name_at};
 ghost use Rattle.trees.specs.Trees.{name_of};
 ghost use Rattle.tokens.specs.Token.{tok_of, toks_of};
 
@@ -89,12 +88,20 @@ impl<'a, A: Allocator + Clone> Reader<'a, A> {
     }
 
     /// Reads a token of this kind after what was read before it.
-    pub fn closed<'t, T: Drop>(&self, value: T, kind: Kind, tokens: &'t [Token<'t>]) -> Read<'t, T>
-        ensures gives { Parses (λ v. v) result (closing kind value) tokens.now }
-        ensures shorter { Shorter result tokens.now }
+    pub fn closed<'t, T: Drop>(&self, read: Read<'t, T>, kind: Kind) -> Read<'t, T>
+        ensures { Closes kind read.entry result }
     {
-        let (_, rest) = self.take(kind, tokens)?;
-        Ok((value, rest))
+        let (value, rest) = read?;
+        let (_, behind) = self.take(kind, rest)?;
+        Ok((value, behind))
+    }
+
+    /// No values, and all tokens.
+    pub fn none<'t, T: Drop>(&self, tokens: &'t [Token<'t>]) -> Read<'t, Vec<T, A>>
+        ensures ok { IfOk result (λ p. (p.0.items ≡ []) × (p.1.now ≡ tokens.now)) }
+        ensures err { IsOkUnless result ReadFault.Memory }
+    {
+        Ok((Vec::new(self.alloc.clone()?), tokens))
     }
 
     /// The name that a token is.

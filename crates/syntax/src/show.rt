@@ -1,8 +1,8 @@
 //! What is printed one after the other, and the loops that print it.
 
 ghost use Rattle.std.specs.Prelude.{map};
-ghost use Rattle.syntax.specs.Grammar.{joined};
-ghost use Rattle.syntax.specs.Printed.{Prints, separated};
+ghost use Rattle.grammar.specs.Grammar.{joined};
+ghost use Rattle.grammar.specs.Printed.{Prints, separated};
 
 use crate::written::Written;
 use std::alloc::{AllocError, Allocator};

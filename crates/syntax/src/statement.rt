@@ -16,7 +16,6 @@ ghost use Rattle.syntax.specs.Exact.{
   ended,
   starts_here,
   section,
-  section_behind,
   item,
   deed,
   if_deed,
@@ -94,12 +93,11 @@ impl<'a, A: Allocator + Clone> Reader<'a, A> {
     }
 
     /// Reads a semicolon, after what a statement does.
-    #[tactic(auto, using(crate::proofs::Closings::closed_seen))]
     fn ended<'t>(&self, core: Core<A>, tokens: &'t [Token<'t>]) -> Read<'t, Core<A>>
         ensures gives { Parses deed_of result (ended (deed_of core)) tokens.now }
         ensures shorter { Shorter result tokens.now }
     {
-        self.closed(core, Kind::Semicolon, tokens)
+        self.closed(Ok((core, tokens)), Kind::Semicolon)
     }
 
     /// Reads an assignment.
@@ -130,8 +128,7 @@ impl<'a, A: Allocator + Clone> Reader<'a, A> {
         ensures gives { Parses deed_of result asking tokens.now }
         ensures shorter { Shorter result tokens.now }
     {
-        let (target, others) = Name::read(self, tokens)?;
-        let (_, behind) = self.take(Kind::Assign, others)?;
+        let (target, behind) = self.closed(Name::read(self, tokens), Kind::Assign)?;
         let (name, opened) = Name::read(self, behind)?;
         let (arguments, rest) = self.enclosed(opened)?;
         self.ended(Core::CallTo(target, name, arguments), rest)
@@ -229,17 +226,6 @@ impl<'a, A: Allocator + Clone> Reader<'a, A> {
         }
     }
 
-    /// Reads a keyword, and the statements after it.
-    #[cycle(statements)]
-    #[tactic(auto, unfolding(crate::specs::Exact::section_behind))]
-    fn block<'t>(&self, word: Kind, tokens: &'t [Token<'t>]) -> Read<'t, Vec<Stmt<A>, A>>
-        ensures gives { Parses (λ v. block_of v.items) result (section_behind word) tokens.now }
-        ensures shorter { Shorter result tokens.now }
-    {
-        let (_, inside) = self.take(word, tokens)?;
-        self.statements(inside)
-    }
-
     /// Reads an `if`, after that word.
     #[cycle(statements)]
     #[tactic(auto, unfolding(crate::specs::Exact::if_deed))]
@@ -247,10 +233,10 @@ impl<'a, A: Allocator + Clone> Reader<'a, A> {
         ensures gives { Parses deed_of result if_deed tokens.now }
         ensures shorter { Shorter result tokens.now }
     {
-        let (side, opened) = self.test(tokens)?;
-        let (yes, between) = self.block(Kind::Then, opened)?;
-        let (no, ended) = self.block(Kind::Else, between)?;
-        self.closed(Core::If(side, yes, no), Kind::Fi, ended)
+        let (side, opened) = self.closed(self.test(tokens), Kind::Then)?;
+        let (yes, between) = self.closed(self.statements(opened), Kind::Else)?;
+        let (no, rest) = self.closed(self.statements(between), Kind::Fi)?;
+        Ok((Core::If(side, yes, no), rest))
     }
 
     /// Reads a `while`, after that word.
@@ -260,8 +246,8 @@ impl<'a, A: Allocator + Clone> Reader<'a, A> {
         ensures gives { Parses deed_of result while_deed tokens.now }
         ensures shorter { Shorter result tokens.now }
     {
-        let (side, opened) = self.test(tokens)?;
-        let (body, ended) = self.block(Kind::Do, opened)?;
-        self.closed(Core::While(side, body), Kind::Od, ended)
+        let (side, opened) = self.closed(self.test(tokens), Kind::Do)?;
+        let (body, rest) = self.closed(self.statements(opened), Kind::Od)?;
+        Ok((Core::While(side, body), rest))
     }
 }

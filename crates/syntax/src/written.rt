@@ -4,7 +4,7 @@ ghost use Rattle.std.specs.Prelude.{List};
 ghost use Rattle.language.specs.Tree as tree;
 ghost use Rattle.syntax.specs.Exact as exact;
 ghost use Rattle.syntax.specs.Parser.{Parser};
-ghost use Rattle.syntax.specs.Printed as printed;
+ghost use Rattle.grammar.specs.Printed as printed;
 ghost use Rattle.tokens.specs.Parts.{Part};
 ghost use Rattle.trees.specs.Trees.{name_of, rhs_of, expr_of, proc_of, thread_of};
 

@@ -3,7 +3,7 @@ use Rattle.language.specs.Tree.{Tree}
 use Rattle.round_rewrite.specs.Law.{KeepsTree}
 use Rattle.round_rewrite.specs.Limits.{most_rounds}
 use Rattle.round_rewrite.specs.Narrow.{IsNarrowFor}
-use Rattle.scopes.specs.Rewritable.{IsRewritable}
+use Rattle.checked.specs.Rewritable.{IsRewritable}
 use Rattle.round_rewrite.proofs.Meaning.{keeps_tree}
 use Rattle.round_rewrite.proofs.rewriting_keeps_failures.Goals as goal
 

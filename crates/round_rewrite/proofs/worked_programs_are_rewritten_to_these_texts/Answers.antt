@@ -1,6 +1,6 @@
 use Rattle.std.proofs.Common.{refl}
 use Rattle.std.specs.Fmt.{digits}
-use Rattle.syntax.specs.Printed.{printed}
+use Rattle.grammar.specs.Printed.{printed}
 use Rattle.round_rewrite.specs.WorkedTexts.{text}
 use Rattle.round_rewrite.proofs.worked_programs_are_rewritten_to_these_texts.Goals as goal
 

@@ -1,6 +1,6 @@
 -- The counts come after the word, those of the program and of the report.
 use Rattle.std.proofs.Common.{◌≤◌, ◌++◌, length, sym, ◌∙◌, ap, subst}
-use Rattle.scopes.specs.Programs.{checked_tree}
+use Rattle.checked.specs.Programs.{checked_tree}
 use Rattle.trees.specs.Trees.{tree_of}
 use Rattle.cli.specs.Counts.{names_of, counts_lines}
 use Rattle.cli.specs.Counted.{counted_each}

@@ -2,8 +2,8 @@
 use Rattle.std.proofs.Common.{ℕ, List, Some, inl, refl, subst, sym}
 use Rattle.language.specs.Tree.{Tree}
 use Rattle.syntax.specs.Text.{Text}
-use Rattle.scopes.specs.Checked.{IsChecked}
-use Rattle.scopes.specs.Programs.{checked_tree}
+use Rattle.checked.specs.Checked.{IsChecked}
+use Rattle.checked.specs.Programs.{checked_tree}
 use Rattle.round_rewrite.specs.Programs.{count_of}
 use Rattle.path_sets.specs.EdgeLimits.{most_of}
 use Rattle.gather.specs.Reports.{IsNoReport}

@@ -7,7 +7,7 @@ use Rattle.round_rewrite.specs.declared.fault.RewriteFault.TheVariants.{Memory, 
 use Rattle.language.specs.Tree.{Tree}
 use Rattle.syntax.proofs.TextsInGrammar.{text_in_grammar}
 use Rattle.round_rewrite.specs.Programs.{IsFaultOf, count_of}
-use Rattle.scopes.specs.Programs.{checked_tree}
+use Rattle.checked.specs.Programs.{checked_tree}
 use Rattle.cli.proofs.rewriting.rewritten.Goals as goal
 
 pub returns-in_err-checked-clause-stands : goal.returns-in_err-checked-clause-stands

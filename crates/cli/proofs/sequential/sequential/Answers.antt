@@ -2,9 +2,10 @@
 use Rattle.std.proofs.Common.{◌≡◌, ◌∙◌, sym, ap, subst}
 use Rattle.std.specs.String.{string_bytes}
 use Rattle.language.specs.Tree.{Tree}
-use Rattle.syntax.specs.InGrammar.{InGrammar, IsTextOf}
+use Rattle.grammar.specs.InGrammar.{InGrammar}
+use Rattle.syntax.specs.Text.{IsTextOf}
 use Rattle.trees.specs.Trees.{tree_of}
-use Rattle.syntax.specs.Printed.{printed}
+use Rattle.grammar.specs.Printed.{printed}
 use Rattle.cli.proofs.sequential.sequential.Goals as goal
 
 pub returns-clause-printed : goal.returns-clause-printed

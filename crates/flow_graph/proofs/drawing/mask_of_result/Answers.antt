@@ -44,3 +44,27 @@ returns-then-give_value g c =
     ) in
     one_bit _ (omega (arith, overflow_shl-result g c)) ∙ ap {B = ℕ} (λ n. 2 ^ n) same
     ∙ ap {B = ℕ} (λ b. cond b (2 ^ bit) 0) (sym gives)
+
+pub overflow_add-result : goal.overflow_add-result
+overflow_add-result g c =
+    let t = c.args.program.now in
+    let p = c.args.proc.now in
+    omega (
+      arith,
+      c.requires.0,
+      width_counted t p,
+      c.len.ensures,
+      c.len-then-give_value.ensures,
+      c.len-then-give_value-2.ensures,
+      t.globals.ok.0,
+      p.formals.ok.0,
+      p.locals.ok.0,
+    )
+
+pub returns-else-give_value : goal.returns-else-give_value
+returns-else-give_value g c =
+    let t = c.args.program.now in
+    let p = c.args.proc.now in
+    let gives = sym (ap (λ l. gives_value (block_of l)) c.deref.ensures.value) ∙ sym c.give_value.ensures ∙ c.if-give_value.false in
+    let bit = length (names_of t.globals.items) + length (names_of p.formals.items ++ names_of p.locals.items) in
+    ap {B = ℕ} (λ b. cond b (2 ^ bit) 0) (sym gives)

@@ -6,7 +6,7 @@ use Rattle.std.proofs.lemmas.List.{length-map}
 use Rattle.std.specs.Vec.Iter.{into_iter_items}
 use Rattle.flow_graph.specs.Drawn.{graphs_of}
 use Rattle.summaries.proofs.Steps.{get_map}
-use Rattle.gather.proofs.Coming.{come, came_at, came_near, come_all}
+use Rattle.jobs.proofs.Coming.{come, came_at, came_near, come_all}
 use Rattle.gather.proofs.Crews.{own_push}
 use Rattle.gather.proofs.crew.lanes_of.Given.{Over}
 use Rattle.gather.proofs.crew.lanes_of.Goals as goal

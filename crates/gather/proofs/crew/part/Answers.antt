@@ -2,8 +2,8 @@
 use Rattle.std.proofs.Common.{◌++◌, ◌∷◌, [], map, sym, ap, ◌∙◌, arith}
 use Rattle.std.proofs.lemmas.List.{map-append}
 use Rattle.std.specs.Vec.Iter.{into_iter_items}
-use Rattle.gather.specs.Jobs.{first_of, second_of}
-use Rattle.gather.proofs.Coming.{come}
+use Rattle.jobs.specs.Jobs.{first_of, second_of}
+use Rattle.jobs.proofs.Coming.{come}
 use Rattle.gather.proofs.crew.part.Goals as goal
 
 pub loop-came-preserved : goal.loop-came-preserved

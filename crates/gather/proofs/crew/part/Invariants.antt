@@ -1,7 +1,7 @@
 -- The pairs so far are split, and there is room for all.
 use Rattle.std.proofs.Common.{◌≡◌, ◌≤◌, ◌++◌, length, map, vec_capacity}
 use Rattle.std.specs.Vec.Iter.{into_iter_items}
-use Rattle.gather.specs.Jobs.{first_of, second_of}
+use Rattle.jobs.specs.Jobs.{first_of, second_of}
 use Rattle.gather.proofs.crew.part.Given as goal
 
 abbrev pub invariant-loop-came : goal.invariant-loop-came

@@ -5,7 +5,7 @@ use Rattle.std.proofs.lemmas.List.{length-map, map-append}
 use Rattle.post_ledger.proofs.Histories.{split_at_element}
 use Rattle.gather.specs.Gathered.{ends_of, IsLeastOf}
 use Rattle.gather.proofs.Causes.{none_least}
-use Rattle.gather.proofs.Coming.{take_whole}
+use Rattle.jobs.proofs.Coming.{take_whole}
 use Rattle.gather.proofs.gathering.least.Goals as goal
 
 pub loop-procedure-init : goal.loop-procedure-init

@@ -3,7 +3,7 @@ use Rattle.std.proofs.Common.{Some, None, sym, ap, ◌∙◌, arith}
 use Rattle.std.proofs.lemmas.List.{append-nil}
 use Rattle.std.specs.Vec.Iter.{into_iter_items}
 use Rattle.gather.specs.Gathered.{tables_in}
-use Rattle.gather.proofs.Coming.{come, come_same}
+use Rattle.jobs.proofs.Coming.{come, come_same}
 use Rattle.gather.proofs.Tables.{tables_push}
 use Rattle.gather.proofs.gathering.tables_of.Goals as goal
 

@@ -3,7 +3,7 @@ use Rattle.std.proofs.Common.{subst}
 use Rattle.resolved.specs.Narrow.{AllNarrow}
 use Rattle.resolved.specs.Programs.{sequential_tree}
 use Rattle.round_rewrite.specs.Programs.{count_of}
-use Rattle.scopes.specs.Programs.{checked_tree}
+use Rattle.checked.specs.Programs.{checked_tree}
 use Rattle.path_sets.specs.EdgeLimits.{most_of}
 use Rattle.gather.proofs.Reporting.{tabulated, not_tabulated}
 use Rattle.gather.proofs.one_thread.tabulate_rounds.Goals as goal

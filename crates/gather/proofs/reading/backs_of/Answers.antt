@@ -2,9 +2,9 @@
 use Rattle.std.proofs.Common.{◌∷◌, [], ◌++◌, map, sym, ap, ◌∙◌, arith}
 use Rattle.std.proofs.lemmas.List.{map-append}
 use Rattle.std.specs.Vec.Iter.{into_iter_items}
-use Rattle.gather.specs.Jobs.{back_of}
+use Rattle.jobs.specs.Jobs.{back_of}
 use Rattle.gather.specs.Readings.{okay}
-use Rattle.gather.proofs.Coming.{come, come_same}
+use Rattle.jobs.proofs.Coming.{come, come_same}
 use Rattle.gather.proofs.reading.backs_of.Goals as goal
 
 pub loop-came-preserved : goal.loop-came-preserved

@@ -1,7 +1,7 @@
 -- what the jobs so far returned
 use Rattle.std.proofs.Common.{◌≡◌, ◌++◌, map}
 use Rattle.std.specs.Vec.Iter.{into_iter_items}
-use Rattle.gather.specs.Jobs.{back_of}
+use Rattle.jobs.specs.Jobs.{back_of}
 use Rattle.gather.specs.Readings.{okay}
 use Rattle.gather.proofs.reading.backs_of.Given as goal
 

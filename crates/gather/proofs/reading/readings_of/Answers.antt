@@ -3,7 +3,7 @@ use Rattle.std.proofs.Common.{◌∷◌, [], ◌++◌, map, ap, ◌∙◌, arith
 use Rattle.std.proofs.lemmas.List.{map-append}
 use Rattle.std.specs.Vec.Iter.{into_iter_items}
 use Rattle.gather.specs.Readings.{table_of}
-use Rattle.gather.proofs.Coming.{come, come_same}
+use Rattle.jobs.proofs.Coming.{come, come_same}
 use Rattle.gather.proofs.reading.readings_of.Goals as goal
 
 pub loop-table-preserved : goal.loop-table-preserved

@@ -9,7 +9,7 @@ use Rattle.resolved.specs.Narrow.{AllNarrow}
 use Rattle.round_rewrite.specs.Names.{sequential_for}
 use Rattle.round_rewrite.specs.Programs.{count_of}
 use Rattle.resolved.specs.Programs.{sequential_tree}
-use Rattle.scopes.specs.Programs.{checked_tree}
+use Rattle.checked.specs.Programs.{checked_tree}
 use Rattle.path_sets.specs.EdgeLimits.{most_of}
 use Rattle.summaries.specs.Tabulated.{SomePairBad}
 use Rattle.gather.proofs.Reporting.{keeps_answer, no_report}

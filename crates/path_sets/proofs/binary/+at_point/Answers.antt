@@ -1,8 +1,8 @@
-use Rattle.std.proofs.Common.{List, arith, sym, subst}
+use Rattle.std.proofs.Common.{◌*◌, List, arith, refl, sym, subst}
 use Rattle.path_sets.specs.declared.node.Node.{Node}
 use Rattle.path_sets.specs.Diagrams.{KeepsNodes}
 use Rattle.path_sets.specs.Binary.{AreFound}
-use Rattle.path_sets.proofs.OnePoint.{found_more, found_on, last_answers, none_answers, on, parted_answers}
+use Rattle.path_sets.proofs.OnePoint.{found_more, found_on, last_answers, next_below, none_answers, on, parted_answers, stays_below}
 use Rattle.path_sets.proofs.binary.+at_point.Goals as goal
 
 pub at_point-returns-then-asked-clause-answers : goal.at_point-returns-then-asked-clause-answers
@@ -66,6 +66,42 @@ parted-returns-in_err-high-clause-found g t c =
     let n6 = c.make-2.new.self.kept.keys in
     found_on c.args.quads.now.kept.keys c.args.bit n4 n6 (on n4 n5 n6 c.make.ensures.keeps c.make-2.ensures.keeps)
     c.at_point-4.new.found.entries c.in_ok-both.ensures.found
+
+pub parted-make-requires : goal.parted-make-requires
+parted-make-requires g t c =
+    let n1 = c.at_point.new.nodes.kept.keys in
+    let n2 = c.at_point-2.new.nodes.kept.keys in
+    let n3 = c.at_point-3.new.nodes.kept.keys in
+    let n4 = c.at_point-4.new.nodes.kept.keys in
+    let none = next_below c.args.quads.now.kept.keys c.args.bit n1 n4 _ c.args.asked.level c.in_ok-none.none refl
+    c.in_ok-none.ensures.answers
+    (on n1 n3 n4 (on n1 n2 n3 c.in_ok-first.ensures.keeps c.in_ok-second.ensures.keeps) c.in_ok-both.ensures.keeps) in
+    let second = next_below c.args.quads.now.kept.keys c.args.bit n3 n4 c.begin-second.result c.args.asked.level c.in_ok-second.second
+    c.begin-second.ensures.level c.in_ok-second.ensures.answers c.in_ok-both.ensures.keeps in
+    record { level = omega arith; inside = (none.0, second.0); deep = (none.1, second.1) }
+
+pub parted-make-requires-2 : goal.parted-make-requires-2
+parted-make-requires-2 g t c =
+    let n2 = c.at_point-2.new.nodes.kept.keys in
+    let n3 = c.at_point-3.new.nodes.kept.keys in
+    let n4 = c.at_point-4.new.nodes.kept.keys in
+    let n5 = c.make.new.self.kept.keys in
+    let first = next_below c.args.quads.now.kept.keys c.args.bit n2 n5 c.begin-first.result c.args.asked.level c.in_ok-first.first
+    c.begin-first.ensures.level c.in_ok-first.ensures.answers
+    (on n2 n4 n5 (on n2 n3 n4 c.in_ok-second.ensures.keeps c.in_ok-both.ensures.keeps) c.make.ensures.keeps) in
+    let both = next_below c.args.quads.now.kept.keys c.args.bit n4 n5 c.begin-both.result c.args.asked.level c.in_ok-both.both
+    c.begin-both.ensures.level c.in_ok-both.ensures.answers c.make.ensures.keeps in
+    record { level = omega arith; inside = (first.0, both.0); deep = (first.1, both.1) }
+
+pub parted-make-requires-3 : goal.parted-make-requires-3
+parted-make-requires-3 g t c =
+    let low = stays_below c.make.new.self.kept.keys c.make-2.new.self.kept.keys c.in_ok-low.low (2 * c.args.asked.level)
+    c.make-2.ensures.keeps c.in_ok-low.ensures.inside (omega (arith, c.in_ok-low.ensures.deep)) in
+    record {
+      level = omega arith;
+      inside = (low.0, c.in_ok-high.ensures.inside);
+      deep = (low.1, omega (arith, c.in_ok-high.ensures.deep));
+    }
 
 pub parted-returns-clause-keeps : goal.parted-returns-clause-keeps
 parted-returns-clause-keeps g t c =

@@ -19,7 +19,7 @@ returns-in-Some-turn g c =
     let b = begun c.args.graphs.now c.args.procedure c.args.limit (g.B.Board.identity c.args.board.now) in
     let e = c.in-Some-turn.finish in
     let w = c.turn.new.self in
-    let stopped = c.in-Some-turn.ensures.ends in (
+    let stopped = c.in-Some-turn.ensures in (
       w.table,
       refl,
       (

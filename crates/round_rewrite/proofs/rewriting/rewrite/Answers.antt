@@ -1,10 +1,10 @@
 use Rattle.std.proofs.Common.{suc, sym, subst, ap, arith}
 use Rattle.language.specs.Tree.{Tree}
-use Rattle.syntax.specs.InGrammar.{InGrammar}
+use Rattle.grammar.specs.InGrammar.{InGrammar}
 use Rattle.trees.specs.Trees.{tree_of}
 use Rattle.round_rewrite.specs.Law.{KeepsTree}
 use Rattle.resolved.specs.Resolves.{Resolves}
-use Rattle.scopes.proofs.Rewriting.{checked_rewritable}
+use Rattle.checked.proofs.Rewriting.{checked_rewritable}
 use Rattle.resolved.specs.Narrow.{AllNarrow}
 use Rattle.round_rewrite.proofs.Widths.{few_procedures, count_rewritten}
 use Rattle.round_rewrite.proofs.Working.{rewritten_resolves}

@@ -1,7 +1,7 @@
 use Rattle.std.proofs.Common.{refl}
 use Rattle.trees.specs.Trees.{tree_of}
-use Rattle.scopes.specs.declared.fault.ScopeFault.TheVariants as fault
-use Rattle.scopes.specs.Faults.{Undeclared, DeclaredTwice, WrongCount, BadThread, BadLabel, Reserved, TooMany}
+use Rattle.checked.specs.declared.fault.ScopeFault.TheVariants as fault
+use Rattle.checked.specs.Faults.{Undeclared, DeclaredTwice, WrongCount, BadThread, BadLabel, Reserved, TooMany}
 use Rattle.scopes.proofs.First.{start, next, first_of_all, mapped}
 use Rattle.scopes.proofs.checking.first_fault.Goals as goal
 

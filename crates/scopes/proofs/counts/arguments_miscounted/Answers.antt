@@ -6,7 +6,7 @@ use Rattle.trees.specs.Trees.{name_of, expr_of, procs_of, proc_of}
 use Rattle.trees.specs.Parts.{passed_by}
 use Rattle.resolved.specs.There.{IsThere}
 use Rattle.resolved.specs.Statements.{statement_of}
-use Rattle.scopes.specs.Faults.{named}
+use Rattle.checked.specs.Faults.{named}
 use Rattle.trees.proofs.ByKind.{arguments_passed}
 use Rattle.scopes.proofs.Heads.{head_is}
 use Rattle.scopes.proofs.Found.{moved, compared}

@@ -1,8 +1,8 @@
 use Rattle.std.proofs.Common.{subst, rules}
 use Rattle.std.specs.Prelude.{IfOk}
 use Rattle.trees.specs.Trees.{proc_of, procs_of}
-use Rattle.scopes.specs.Find.{AnyOf, Finds}
-use Rattle.scopes.specs.Faults.{MiscountsIn}
+use Rattle.checked.specs.Faults.{AnyOf, MiscountsIn}
+use Rattle.scopes.specs.Find.{Finds}
 use Rattle.scopes.proofs.Earliest.{found_in_ok}
 use Rattle.scopes.proofs.counts.first_wrong_count.Goals as goal
 

@@ -1,8 +1,7 @@
 use Rattle.std.proofs.Common.{List, sym}
 use Rattle.trees.specs.Trees.{procs_of}
-use Rattle.scopes.specs.Find.{AnyOf}
+use Rattle.checked.specs.Faults.{AnyOf, Miscounts}
 use Rattle.resolved.specs.Statements.{Statement, lent_statements, statement_of}
-use Rattle.scopes.specs.Faults.{Miscounts}
 use Rattle.scopes.proofs.Found.{moved}
 use Rattle.scopes.proofs.Earliest.{as_found, found_in}
 use Rattle.scopes.proofs.counts.miscounted_in.Goals as goal

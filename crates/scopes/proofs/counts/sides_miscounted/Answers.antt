@@ -4,7 +4,7 @@ use Rattle.language.specs.Parts.{assigns, targets_of, sides_of}
 use Rattle.trees.specs.Trees.{name_of, rhs_of}
 use Rattle.trees.specs.Parts.{assigned_by}
 use Rattle.resolved.specs.Statements.{statement_of}
-use Rattle.scopes.specs.Faults.{first_at}
+use Rattle.checked.specs.Faults.{first_at}
 use Rattle.trees.proofs.ByKind.{targets_assigned}
 use Rattle.scopes.proofs.Heads.{head_is, at_is}
 use Rattle.scopes.proofs.Found.{same, nowhere, compared}

@@ -1,6 +1,6 @@
 use Rattle.std.proofs.Common.{drop, take}
 use Rattle.scopes.specs.Find.{FoundSoFar}
-use Rattle.scopes.specs.Faults.{Repeated}
+use Rattle.checked.specs.Faults.{Repeated}
 use Rattle.scopes.specs.Known.{AreTexts, IsAgain}
 use Rattle.resolved.specs.Statements.{lent}
 use Rattle.scopes.proofs.known.repeated.Given as goal

@@ -1,6 +1,6 @@
 use Rattle.std.proofs.Common.{rules}
 use Rattle.trees.specs.Trees.{proc_of}
-use Rattle.scopes.specs.Faults.{MislabelledIn}
+use Rattle.checked.specs.Faults.{MislabelledIn}
 use Rattle.scopes.proofs.Earliest.{found_in_ok}
 use Rattle.scopes.proofs.labels.first_bad_label.Goals as goal
 

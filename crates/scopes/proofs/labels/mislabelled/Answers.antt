@@ -1,9 +1,8 @@
 use Rattle.std.proofs.Common.{◌≡◌, List, sym, ◌∙◌, ap}
 use Rattle.language.specs.Tree.{Name}
 use Rattle.trees.specs.Trees.{proc_of}
-use Rattle.scopes.specs.Find.{AnyOf}
+use Rattle.checked.specs.Faults.{AnyOf, GoesNowhere, Repeated}
 use Rattle.resolved.specs.Statements.{Statement, lent, lent_statements, statement_of, statements_of, labels_of}
-use Rattle.scopes.specs.Faults.{GoesNowhere, Repeated}
 use Rattle.scopes.proofs.Found.{moved, both_of}
 use Rattle.scopes.proofs.Earliest.{as_found, found_in}
 use Rattle.scopes.proofs.labels.mislabelled.Goals as goal

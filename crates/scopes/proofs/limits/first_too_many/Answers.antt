@@ -3,7 +3,7 @@ use Rattle.std.specs.Prelude.{slice_get}
 use Rattle.trees.specs.Trees.{procs_of}
 use Rattle.resolved.specs.Statements.{Statement, lent_statements, statements_of_all}
 use Rattle.resolved.specs.There.{IsThere}
-use Rattle.scopes.specs.Limits.{most_statements}
+use Rattle.checked.specs.Limits.{most_statements}
 use Rattle.scopes.proofs.Found.{moved, in_three}
 use Rattle.scopes.proofs.limits.first_too_many.Goals as goal
 

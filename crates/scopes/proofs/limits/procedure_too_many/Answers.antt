@@ -1,6 +1,6 @@
 use Rattle.std.proofs.Common.{refl}
 use Rattle.trees.specs.Trees.{proc_of}
-use Rattle.scopes.specs.Limits.{most_procedures}
+use Rattle.checked.specs.Limits.{most_procedures}
 use Rattle.scopes.proofs.Positions.{placed, unplaced}
 use Rattle.scopes.proofs.limits.procedure_too_many.Goals as goal
 

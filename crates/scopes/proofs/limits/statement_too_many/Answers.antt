@@ -1,5 +1,5 @@
 use Rattle.resolved.specs.Statements.{statement_of}
-use Rattle.scopes.specs.Limits.{most_statements}
+use Rattle.checked.specs.Limits.{most_statements}
 use Rattle.scopes.proofs.Heads.{at_is}
 use Rattle.scopes.proofs.Positions.{placed, unplaced}
 use Rattle.scopes.proofs.limits.statement_too_many.Goals as goal

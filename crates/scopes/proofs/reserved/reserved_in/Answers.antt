@@ -1,7 +1,7 @@
 use Rattle.std.proofs.Common.{List, sym, ◌∙◌, ap}
 use Rattle.language.specs.Tree.{Name}
 use Rattle.resolved.specs.Statements.{lent, lent_statements, labels_of}
-use Rattle.scopes.specs.Faults.{IsReserved}
+use Rattle.checked.specs.Faults.{IsReserved}
 use Rattle.scopes.proofs.Found.{moved, both_of}
 use Rattle.scopes.proofs.reserved.reserved_in.Goals as goal
 

@@ -1,5 +1,5 @@
 use Rattle.std.proofs.Common.{◌∙◌, subst, sym}
-use Rattle.scopes.specs.Faults.{CanStart}
+use Rattle.checked.specs.Faults.{CanStart}
 use Rattle.scopes.proofs.Found.{here, not_here}
 use Rattle.scopes.proofs.threads.cannot_start.Goals as goal
 

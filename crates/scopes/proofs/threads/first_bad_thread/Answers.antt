@@ -1,7 +1,7 @@
 use Rattle.std.proofs.Common.{subst}
 use Rattle.trees.specs.Trees.{thread_of, threads_of, procs_of}
-use Rattle.scopes.specs.Find.{AnyOf, Finds}
-use Rattle.scopes.specs.Faults.{StartsNowhere}
+use Rattle.checked.specs.Faults.{AnyOf, StartsNowhere}
+use Rattle.scopes.specs.Find.{Finds}
 use Rattle.scopes.proofs.Earliest.{as_found, found_in}
 use Rattle.scopes.proofs.threads.first_bad_thread.Goals as goal
 

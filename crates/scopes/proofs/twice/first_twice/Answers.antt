@@ -1,6 +1,6 @@
 use Rattle.std.proofs.Common.{rules, sym, ◌∙◌, ap}
 use Rattle.trees.specs.Trees.{names_of, proc_of, procs_of}
-use Rattle.scopes.specs.Faults.{Repeated, IsTwiceIn}
+use Rattle.checked.specs.Faults.{Repeated, IsTwiceIn}
 use Rattle.resolved.specs.There.{names}
 use Rattle.scopes.proofs.Earliest.{found_at_ok}
 use Rattle.scopes.proofs.Found.{moved, in_three}

@@ -7,7 +7,7 @@ use Rattle.resolved.specs.Statements.{lent, statement_of}
 use Rattle.scopes.proofs.Heads.{head_is, repeated_assigned}
 use Rattle.scopes.proofs.Found.{same, moved, on_ok}
 use Rattle.scopes.proofs.Pushed.{behind_none}
-use Rattle.scopes.specs.Faults.{Repeated}
+use Rattle.checked.specs.Faults.{Repeated}
 use Rattle.scopes.proofs.twice.target_again.Goals as goal
 
 pub returns : goal.returns

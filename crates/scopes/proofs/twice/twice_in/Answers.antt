@@ -1,9 +1,8 @@
 use Rattle.std.proofs.Common.{rules, List, sym}
 use Rattle.language.specs.Tree.{Name}
-use Rattle.scopes.specs.Find.{AnyOf}
+use Rattle.checked.specs.Faults.{AnyOf, Repeated}
 use Rattle.resolved.specs.Statements.{Statement, lent, lent_statements, statement_of}
 use Rattle.language.specs.Parts.{targets_of}
-use Rattle.scopes.specs.Faults.{Repeated}
 use Rattle.scopes.proofs.Earliest.{found_at_ok}
 use Rattle.scopes.proofs.Found.{moved, both_of}
 use Rattle.scopes.proofs.twice.twice_in.Goals as goal

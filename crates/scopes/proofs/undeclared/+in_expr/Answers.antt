@@ -1,9 +1,8 @@
 use Rattle.std.proofs.Common.{◌++◌, ◌∙◌, ap, sym}
-use Rattle.scopes.specs.Find.{AnyOf}
+use Rattle.checked.specs.Faults.{AnyOf, IsUnknown}
 use Rattle.resolved.specs.Statements.{lent, variables_of}
 use Rattle.scopes.proofs.Found.{moved, in_both_of}
 use Rattle.trees.specs.Trees.{expr_of}
-use Rattle.scopes.specs.Faults.{IsUnknown}
 use Rattle.trees.proofs.Folds.{expr_of-Not, expr_of-Two}
 use Rattle.scopes.proofs.undeclared.+in_expr.Goals as goal
 

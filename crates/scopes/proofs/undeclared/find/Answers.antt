@@ -1,7 +1,7 @@
 use Rattle.std.proofs.Common.{sym, ◌∙◌, ap}
 use Rattle.std.proofs.lemmas.List.{drop_all}
 use Rattle.trees.specs.Trees.{name_of, procs_of}
-use Rattle.scopes.specs.Faults.{named}
+use Rattle.checked.specs.Faults.{named}
 use Rattle.scopes.proofs.Pushed.{named_here, named_later}
 use Rattle.scopes.proofs.undeclared.find.Goals as goal
 

@@ -1,6 +1,6 @@
 use Rattle.std.proofs.Common.{◌≡◌, drop}
 use Rattle.trees.specs.Trees.{name_of, procs_of}
-use Rattle.scopes.specs.Faults.{named}
+use Rattle.checked.specs.Faults.{named}
 use Rattle.scopes.proofs.undeclared.find.Given as goal
 
 abbrev pub invariant-loop-proc : goal.invariant-loop-proc

@@ -1,6 +1,6 @@
 use Rattle.std.proofs.Common.{rules}
 use Rattle.trees.specs.Trees.{proc_of, tree_of}
-use Rattle.scopes.specs.Faults.{UndeclaredInProcedure}
+use Rattle.checked.specs.Faults.{UndeclaredInProcedure}
 use Rattle.scopes.proofs.Earliest.{found_in_ok}
 use Rattle.scopes.proofs.undeclared.first_undeclared.Goals as goal
 

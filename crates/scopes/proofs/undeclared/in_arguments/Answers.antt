@@ -4,8 +4,8 @@ use Rattle.language.specs.Parts.{arguments_of}
 use Rattle.trees.specs.Trees.{expr_of, deed_of}
 use Rattle.trees.specs.Parts.{head_of, passed_by, given_by}
 use Rattle.resolved.specs.Statements.{lent, variables_of}
-use Rattle.scopes.specs.Find.{AnyOf, as_list}
-use Rattle.scopes.specs.Faults.{AnyUnknown}
+use Rattle.checked.specs.Faults.{AnyOf, AnyUnknown}
+use Rattle.scopes.specs.Find.{as_list}
 use Rattle.scopes.proofs.Heads.{head_is, arguments_are}
 use Rattle.scopes.proofs.Earliest.{as_found, found_in}
 use Rattle.scopes.proofs.Found.{moved, in_both_of}

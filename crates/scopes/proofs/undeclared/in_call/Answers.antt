@@ -4,7 +4,7 @@ use Rattle.language.specs.Parts.{callee_of}
 use Rattle.trees.specs.Trees.{name_of, procs_of}
 use Rattle.resolved.specs.There.{IsThere}
 use Rattle.std.specs.Prelude.{◌≡◌, None}
-use Rattle.scopes.specs.Faults.{named}
+use Rattle.checked.specs.Faults.{named}
 use Rattle.scopes.proofs.Heads.{head_is}
 use Rattle.scopes.proofs.Found.{moved, nowhere, only}
 use Rattle.scopes.proofs.undeclared.in_call.Goals as goal

@@ -2,8 +2,8 @@ use Rattle.std.proofs.Common.{ℕ, Option, Some, inl, inr, ap, option_map, ◌�
 use Rattle.language.specs.Tree.{Name, Expression}
 use Rattle.trees.specs.Trees.{expr_of}
 use Rattle.resolved.specs.Statements.{lent, variables_of}
-use Rattle.scopes.specs.Find.{AnyOf, as_list}
-use Rattle.scopes.specs.Faults.{AnyUnknown}
+use Rattle.checked.specs.Faults.{AnyOf, AnyUnknown}
+use Rattle.scopes.specs.Find.{as_list}
 use Rattle.scopes.proofs.Found.{same, moved}
 use Rattle.scopes.proofs.undeclared.in_given.Goals as goal
 

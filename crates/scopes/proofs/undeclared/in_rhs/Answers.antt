@@ -1,7 +1,6 @@
 use Rattle.trees.specs.Trees.{rhs_of}
-use Rattle.scopes.specs.Find.{AnyOf}
+use Rattle.checked.specs.Faults.{AnyOf, IsUnknown}
 use Rattle.resolved.specs.Statements.{lent, variables_of_side}
-use Rattle.scopes.specs.Faults.{IsUnknown}
 use Rattle.scopes.proofs.Found.{moved}
 use Rattle.scopes.proofs.undeclared.in_rhs.Goals as goal
 

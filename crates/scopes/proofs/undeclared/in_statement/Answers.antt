@@ -5,8 +5,7 @@ use Rattle.language.specs.Tree.{Name}
 use Rattle.language.specs.Parts.{targets_of, sides_of, test_of, arguments_of}
 use Rattle.resolved.specs.Statements.{lent, used_by, variables_of, variables_of_all, variables_of_side}
 use Rattle.resolved.specs.Statements.{variables_of_sides, variables_of_test}
-use Rattle.scopes.specs.Find.{AnyOf}
-use Rattle.scopes.specs.Faults.{IsUnknown, AnyUnknown}
+use Rattle.checked.specs.Faults.{AnyOf, IsUnknown, AnyUnknown}
 use Rattle.scopes.proofs.Heads.{head_is}
 use Rattle.scopes.proofs.Earliest.{as_found, found_in, flat}
 use Rattle.scopes.proofs.Found.{moved, in_both_of}

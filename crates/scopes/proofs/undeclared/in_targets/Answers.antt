@@ -5,7 +5,7 @@ use Rattle.trees.specs.Trees.{name_of, deed_of}
 use Rattle.trees.specs.Parts.{head_of, assigned_by, receiver_of}
 use Rattle.resolved.specs.Statements.{lent}
 use Rattle.scopes.specs.Find.{as_list}
-use Rattle.scopes.specs.Faults.{IsUnknown, AnyUnknown}
+use Rattle.checked.specs.Faults.{IsUnknown, AnyUnknown}
 use Rattle.scopes.proofs.Heads.{head_is, targets_are}
 use Rattle.scopes.proofs.Earliest.{as_found, found_in}
 use Rattle.scopes.proofs.Found.{moved, in_both_of}

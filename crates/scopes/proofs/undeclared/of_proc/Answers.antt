@@ -1,9 +1,9 @@
 use Rattle.std.proofs.Common.{subst, ◌++◌, List, sym, ◌∙◌, ap}
 use Rattle.language.specs.Tree.{Name}
 use Rattle.trees.specs.Trees.{names_of, proc_of, procs_of}
-use Rattle.scopes.specs.Find.{AnyOf, Finds}
+use Rattle.checked.specs.Faults.{AnyOf, IsUndeclaredIn}
+use Rattle.scopes.specs.Find.{Finds}
 use Rattle.resolved.specs.Statements.{Statement, lent, lent_statements, statement_of, statements_of}
-use Rattle.scopes.specs.Faults.{IsUndeclaredIn}
 use Rattle.scopes.proofs.Found.{moved}
 use Rattle.scopes.proofs.Earliest.{as_found, found_in}
 use Rattle.scopes.proofs.undeclared.of_proc.Goals as goal

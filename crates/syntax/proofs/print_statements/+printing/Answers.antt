@@ -1,12 +1,42 @@
-use Rattle.std.proofs.Common.{◌+◌, ◌<◌, ◌≤◌, ◌*◌, arith}
+use Rattle.std.proofs.Common.{◌≡◌, ◌∙◌, ap, ℕ, ◌+◌, ◌<◌, ◌≤◌, ◌*◌, arith, List}
+use Rattle.std.specs.declared.vec.Vec.{Vec}
 use Rattle.std.specs.String.{string_bytes}
 use Rattle.trees.specs.Trees.{deed_of, block_of}
 use Rattle.language.specs.Sequential.{statements}
+use Rattle.trees.specs.declared.tree.Rhs.{Rhs}
+use Rattle.trees.specs.declared.tree.Stmt.{Stmt}
+use Rattle.trees.specs.declared.tree.Core.{Core}
+use Rattle.trees.specs.declared.tree.Core.TheVariants.{If, While}
+use Rattle.trees.proofs.Folds.{deed_of-If, deed_of-While}
 use Rattle.trees.proofs.Held.{held, smaller}
 use Rattle.syntax.proofs.PrintedBlocks.{one_printed, none_left}
 use Rattle.syntax.proofs.PrintedDeeds.{skipped, left, given, jumped, assigned, called, asked, asserted, assumed, branched, repeated}
 use Rattle.syntax.proofs.PrintedDeeds.{branch_pushed, loop_pushed}
 use Rattle.syntax.proofs.print_statements.+printing.Goals as goal
+
+-- what an `if` or a `while` holds is printed at a smaller measure
+inside_if : {A : Type 0} (k : Core A) (r : Rhs A) (a b : Vec (Stmt A) A) (xs ys : List (Stmt A)) → k ≡ If r a b
+    → xs ≡ a.items → ys ≡ b.items
+    → 3 * (statements (block_of xs) + statements (block_of ys)) + 1 < 3 * held (deed_of k) + 2
+inside_if k r a b xs ys is e f =
+    let h : held (deed_of k) ≡ statements (block_of a.items) + statements (block_of b.items) =
+    ap (λ c. held (deed_of c)) is ∙ ap held (deed_of-If r a b) in
+    rw (e, f) (omega (arith, h))
+
+inside_while : {A : Type 0} (k : Core A) (r : Rhs A) (a : Vec (Stmt A) A) (xs : List (Stmt A)) → k ≡ While r a
+    → xs ≡ a.items → 3 * statements (block_of xs) + 1 < 3 * held (deed_of k) + 2
+inside_while k r a xs is e =
+    let h : held (deed_of k) ≡ statements (block_of a.items) + 0 = ap (λ c. held (deed_of c)) is ∙ ap held (deed_of-While r a) in
+    rw e (omega (arith, h))
+
+first_less : (a b : ℕ) → 3 * a < 3 * (a + b) + 1
+first_less a b = omega arith
+
+second_less : (a b : ℕ) → 3 * b < 3 * (a + b) + 1
+second_less a b = omega arith
+
+body_less : (a : ℕ) → 3 * a < 3 * a + 1
+body_less a = omega arith
 
 pub print_block-print_core-requires : goal.print_block-print_core-requires
 print_block-print_core-requires g t c κs within =
@@ -102,3 +132,24 @@ pub print_core-returns-in-Goto : goal.print_core-returns-in-Goto
 print_core-returns-in-Goto g t c =
     jumped c.args.level c.print_jump.result c.args.core.now (string_bytes c.args.out.now)
     (string_bytes c.print_jump.new.out) c.in-Goto.label c.in-Goto.is c.print_jump.ensures
+
+pub print_core-print_branch-requires : goal.print_core-print_branch-requires
+print_core-print_branch-requires g t c κs within =
+    let inside = inside_if c.args.core.now c.in-If.side c.in-If.then c.in-If.otherwise c.deref-in-If.result.now c.deref-in-If-2.result.now
+    c.in-If.is c.deref-in-If.ensures.value c.deref-in-If-2.ensures.value in
+    (rw (← c.decreases) inside, within)
+
+pub print_core-print_loop-requires : goal.print_core-print_loop-requires
+print_core-print_loop-requires g t c κs within =
+    let inside = inside_while c.args.core.now c.in-While.side c.in-While.body c.deref-in-While.result.now
+    c.in-While.is c.deref-in-While.ensures.value in
+    (rw (← c.decreases) inside, within)
+
+pub print_branch-print_block-requires : goal.print_branch-print_block-requires
+print_branch-print_block-requires g t c κs within = (rw (← c.decreases) (first_less _ _), within)
+
+pub print_branch-print_block-requires-2 : goal.print_branch-print_block-requires-2
+print_branch-print_block-requires-2 g t c κs within = (rw (← c.decreases) (second_less _ _), within)
+
+pub print_loop-print_block-requires : goal.print_loop-print_block-requires
+print_loop-print_block-requires g t c κs within = (rw (← c.decreases) (body_less _), within)

@@ -2,7 +2,7 @@ use Rattle.std.proofs.Common.{◌≡◌, ◌++◌, ◌+◌, ◌*◌, drop}
 use Rattle.std.specs.String.{string_bytes}
 use Rattle.tokens.specs.Parts.{text_of}
 use Rattle.trees.specs.Trees.{deed_of, block_of}
-use Rattle.syntax.specs.Printed.{block_parts}
+use Rattle.grammar.specs.Printed.{block_parts}
 use Rattle.language.specs.Sequential.{statements}
 use Rattle.trees.proofs.Held.{held}
 use Rattle.syntax.proofs.print_statements.+printing.Given as goal

@@ -1,7 +1,7 @@
 use Rattle.std.proofs.Common.{◌≡◌, ◌++◌}
 use Rattle.std.specs.String.{string_bytes}
 use Rattle.tokens.specs.Parts.{text_of}
-use Rattle.syntax.specs.Printed.{margin}
+use Rattle.grammar.specs.Printed.{margin}
 use Rattle.syntax.proofs.print_statements.print_margin.Given as goal
 
 -- two spaces are printed for each level so far

@@ -1,7 +1,7 @@
 use Rattle.std.proofs.Common.{◌≡◌}
 use Rattle.std.specs.String.{string_bytes}
 use Rattle.trees.specs.Trees.{tree_of}
-use Rattle.syntax.specs.Printed.{printed}
+use Rattle.grammar.specs.Printed.{printed}
 use Rattle.syntax.proofs.PrintedPrograms.{program_printed}
 use Rattle.syntax.proofs.ReadsBack.{bytes_read_back}
 use Rattle.syntax.proofs.printing.print.Goals as goal

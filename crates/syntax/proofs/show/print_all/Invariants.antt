@@ -1,7 +1,7 @@
 use Rattle.std.proofs.Common.{◌≡◌, ◌++◌, map, drop}
 use Rattle.std.specs.String.{string_bytes}
 use Rattle.tokens.specs.Parts.{text_of}
-use Rattle.syntax.specs.Grammar.{joined}
+use Rattle.grammar.specs.Grammar.{joined}
 use Rattle.syntax.proofs.show.print_all.Given as goal
 
 -- the text so far, with what is left, is the whole

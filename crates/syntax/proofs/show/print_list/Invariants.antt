@@ -1,7 +1,7 @@
 use Rattle.std.proofs.Common.{◌≡◌, ◌++◌, map, drop}
 use Rattle.std.specs.String.{string_bytes}
 use Rattle.tokens.specs.Parts.{text_of}
-use Rattle.syntax.specs.Printed.{after_commas}
+use Rattle.grammar.specs.Printed.{after_commas}
 use Rattle.syntax.proofs.show.print_list.Given as goal
 
 -- the text so far, with what is left, is the whole

@@ -7,7 +7,7 @@ use Rattle.trees.proofs.Folds.{expr_of-Var, expr_of-Not, expr_of-Two}
 use Rattle.flow_graph.specs.Located.{located, read_of}
 use Rattle.flow_graph.specs.Tables.{Tabulates}
 use Rattle.flow_graph.specs.Views.{scope_seen}
-use Rattle.flow_graph.proofs.Rows.{constant, complemented, operated, decided_left}
+use Rattle.flow_graph.proofs.Rows.{constant, complemented, operated, decided_left, widens_more}
 use Rattle.flow_graph.proofs.scope.Scope.+outputs.Goals as goal
 
 pub returns-in_ok-of-in-Not-clause-outputs : goal.returns-in_ok-of-in-Not-clause-outputs
@@ -60,3 +60,13 @@ returns-in-None-value-clause-outputs g t c =
     subst (λ e. IfSome c.read.result (λ w. Tabulates known.bits.now known.row c.read.new.inputs.items w e))
     (ap read_of (sym c.in-Some.is ∙ c.bit.ensures.bit) ∙ sym (ap (located s) (ap expr_of c.in-Var.is ∙ expr_of-Var c.in-Var.x)))
     (IfSome_then c.read.result c.read.ensures.outputs (λ w reads f j less k h. reads f j less h))
+
+pub returns-in_err-right-in-Two-clause-widens : goal.returns-in_err-right-in-Two-clause-widens
+returns-in_err-right-in-Two-clause-widens g t c =
+    widens_more c.args.inputs.now.items c.outputs-in-Two.new.inputs.items c.outputs-in-Two-2.new.inputs.items
+    c.in_ok-left-in-Two.ensures.widens c.outputs-in-Two-2.ensures.widens
+
+pub returns-in_ok-right-in-Two-clause-widens : goal.returns-in_ok-right-in-Two-clause-widens
+returns-in_ok-right-in-Two-clause-widens g t c =
+    widens_more c.args.inputs.now.items c.outputs-in-Two.new.inputs.items c.outputs-in-Two-2.new.inputs.items
+    c.in_ok-left-in-Two.ensures.widens c.in_ok-right-in-Two.ensures.widens

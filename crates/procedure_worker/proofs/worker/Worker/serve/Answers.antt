@@ -3,8 +3,8 @@ use Rattle.procedure_worker.specs.Works.{start_of}
 use Rattle.procedure_worker.proofs.Works.{given_fault, given_dealing}
 use Rattle.procedure_worker.proofs.worker.Worker.serve.Goals as goal
 
-pub returns-in-Err-clause-ends : goal.returns-in-Err-clause-ends
-returns-in-Err-clause-ends g c =
+pub returns-in-Err : goal.returns-in-Err
+returns-in-Err g c =
     given_fault (start_of g.B.Board.identity c.args.desk.now) g.S.PathSet.members c.args.due _ c.in-Err.why c.args.job
     c.fail.result (g.B.Board.sight c.args.self.now.pass) (g.B.Board.sight c.fail.new.pass) c.args.self.now c.deliver.new.table
     c.requires c.in-Err.ensures c.fail.ensures

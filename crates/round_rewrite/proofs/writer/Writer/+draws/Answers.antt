@@ -1,5 +1,5 @@
-use Rattle.std.proofs.Common.{suc, cond, ◌∙◌, refl}
-use Rattle.round_rewrite.proofs.Assigning.{empty, counted}
+use Rattle.std.proofs.Common.{suc, cond, ◌∙◌, refl, ap, arith, length}
+use Rattle.round_rewrite.proofs.Assigning.{empty, counted, one_at_most}
 use Rattle.round_rewrite.proofs.writer.Writer.+draws.Goals as goal
 
 pub returns-in_default-clause-count : goal.returns-in_default-clause-count
@@ -18,3 +18,7 @@ returns-in-Any-clause-count g t c =
 pub returns-in-Value-clause-count : goal.returns-in-Value-clause-count
 returns-in-Value-clause-count g t c =
     rw (c.in-Some.ensures.cases.0, c.in-Some-split_first.ensures.cases.0, c.in-Value.is) c.draws-number.ensures.count
+
+pub returns-in-Any-clause-few : goal.returns-in-Any-clause-few
+returns-in-Any-clause-few g t c =
+    omega (arith, ap length c.in-Some.ensures.cases.0, c.draws-number.ensures.few, one_at_most c.is_shared.result c.from.result c.from.ensures)

@@ -1,13 +1,16 @@
-use Rattle.std.proofs.Common.{◌≡◌, ℕ, Some, inl, inr, refl, sym, ap, ◌∙◌}
-use Rattle.std.proofs.lemmas.Option.{same_Some}
+use Rattle.std.proofs.Common.{◌≡◌, ℕ, Some, inl, inr, refl, sym, ap, ◌∙◌, arith}
+use Rattle.std.proofs.lemmas.Option.{same_Some, slice_get_within}
 use Rattle.std.proofs.lemmas.Result.{IfOk-weaker}
 use Rattle.path_sets.specs.Triples.{Triple, triple}
-use Rattle.flow_graph.specs.Drawn.{entered_from}
+use Rattle.flow_graph.specs.Drawn.{entered_from, flows_of}
 use Rattle.flow_graph.specs.Flows.{entered_by}
 use Rattle.flow_graph.specs.Returns.{behind, resumed_at}
-use Rattle.flow_graph.specs.declared.flow.Flow.TheVariants.{Call}
+use Rattle.flow_graph.specs.declared.call.Call as call
+use Rattle.flow_graph.specs.declared.flow.Flow.{Flow}
+use Rattle.flow_graph.specs.declared.flow.Flow.TheVariants.{Assign, Test, Assume, Call, Return}
 use Rattle.summaries.specs.Grows.{IsBehind}
 use Rattle.summaries.proofs.Growing.{grows_as}
+use Rattle.summaries.proofs.Reaching.{nowhere}
 use Rattle.summaries.proofs.frontier.Frontier.reach_behind.Goals as goal
 
 pub returns : goal.returns
@@ -39,3 +42,26 @@ returns g c =
       };
       stays = c.reach.ensures.stays;
     }
+
+-- a flow that is no call enters nothing
+no_call : {G : Type 0} (flow : Flow G) (v : ℕ) (k : ℕ × ℕ × ℕ) → ((x : call.Call G) → flow ≡ Call x → ⊥) → entered_by flow v ≡ Some k → ⊥
+no_call (Assign a to) v k not enters = cc
+no_call (Test side one other) v k not enters = cc
+no_call (Assume side to) v k not enters = cc
+no_call (Call x) v k not enters = not x refl
+no_call Return v k not enters = cc
+
+pub returns-then-site-points : goal.returns-then-site-points
+returns-then-site-points g c =
+    nowhere g.S.PathSet.members (IsBehind c.args.graph.now c.args.site c.args.left) c.args.self.now
+    (λ t (s, e, back, (flow, at, enters), is).
+    let inside = slice_get_within (flows_of c.args.graph.now) c.args.site.point flow at in
+    omega (arith, inside, c.points.ensures, c.if-site-points.true))
+    c.requires
+
+pub returns-in_default : goal.returns-in_default
+returns-in_default g c =
+    nowhere g.S.PathSet.members (IsBehind c.args.graph.now c.args.site c.args.left) c.args.self.now
+    (λ t (s, e, back, (flow, at, enters), is).
+    no_call flow c.args.site.values _ (λ x call. c.in_default.not-Call x (same_Some _ _ (sym c.flow.ensures ∙ at) ∙ call)) enters)
+    c.requires

@@ -1,4 +1,4 @@
-use Rattle.std.proofs.Common.{◌≡◌, ℕ, Bool, true, false, cond, List, Some, Result, Ok, Err, slice_get}
+use Rattle.std.proofs.Common.{◌≡◌, ℕ, Bool, true, false, cond, List, [], ◌∷◌, ◌++◌, Some, Result, Ok, Err, slice_get}
 use Rattle.std.proofs.Common.{refl, sym, ap, ◌∙◌, rules}
 use Rattle.std.specs.Cmp.{IsEquivalence}
 use Rattle.std.specs.List.{position_or_len}
@@ -9,7 +9,8 @@ use Rattle.indexmap.specs.IndexMap.{insert_entry}
 use Rattle.indexmap.specs.IndexSet.{insert_key}
 use Rattle.indexmap.proofs.SetLemmas.{keys_insert_entry, inserted_at}
 use Rattle.summaries.specs.declared.values.Values.{Values}
-use Rattle.summaries.specs.Under.{values_in, items_of}
+use Rattle.summaries.specs.Under.{values_in, items_of, under}
+use Rattle.summaries.proofs.groups.Groups.add.Given.{Over}
 use Rattle.summaries.proofs.groups.Groups.add.Goals as goal
 
 module _ {K V : Type 0} (eq : K → K → Bool) (es fs : List (K × V)) (k : K) (v : V)
@@ -40,6 +41,22 @@ module _ {K V A : Type 0} (eq : K → K → Bool) (laws : IsEquivalence eq) (es 
       by j true e = same ∙ ap items_of (sym had ∙ (λ n. lookup (λ x. laws.congr k j x e n) es))
       by j false e = refl
 
+module _ {K V A : Type 0} (eq : K → K → Bool) (es fs : List (K × Values V A)) (k : K) (new : Values V A)
+    (is : (j : K) → lookup (eq j) fs ≡ cond (eq k j) (Some new) (lookup (eq j) es)) where
+  -- the key that was written has the new items
+  added_after : eq k k ≡ true → (items : List V) → values_in new ≡ items → items_of (lookup (eq k) fs) ≡ items
+  added_after same items grown = ap items_of (is k) ∙ (λ j. items_of (cond (same j) (Some new) (lookup (eq k) es))) ∙ grown
+
+  -- and each other key what it had
+  others_after : (j : K) → eq k j ≡ false → items_of (lookup (eq j) fs) ≡ items_of (lookup (eq j) es)
+  others_after j apart = ap items_of (is j) ∙ (λ n. items_of (cond (apart n) (Some new) (lookup (eq j) es)))
+
+-- the values that the key has
+had : (g : Over) (c : goal.In_ok-add-in-Occupied g) →
+    values_in c.into_mut-values.result.now ≡ under g.K.PartialEq.eq c.args.self.now.by_key c.args.key
+had g c = ap items_of
+    (sym (sym c.in_ok-entry.ensures.value ∙ ap entry_value c.in-Occupied.is ∙ c.into_mut-values.ensures.value))
+
 pub returns-in_ok-add-in-Occupied-clause-keys : goal.returns-in_ok-add-in-Occupied-clause-keys
 returns-in_ok-add-in-Occupied-clause-keys g c =
     keys_after g.K.PartialEq.eq c.args.self.now.by_key.entries _ c.args.key c.add.new.self (search rules)
@@ -64,3 +81,31 @@ returns-in_err-add-in-Occupied-clause-err g c =
     c.into_mut-values.result.now c.add.new.self
     (sym c.in_ok-entry.ensures.value ∙ ap entry_value c.in-Occupied.is ∙ c.into_mut-values.ensures.value)
     c.in_err-add-in-Occupied.ensures.err c.from_residual-in_err-add-in-Occupied.result _ (search rules)
+
+pub returns-in_ok-add-in-Occupied-clause-others : goal.returns-in_ok-add-in-Occupied-clause-others
+returns-in_ok-add-in-Occupied-clause-others g c =
+    others_after g.K.PartialEq.eq c.args.self.now.by_key.entries _ c.args.key c.add.new.self (search rules)
+
+pub returns-in-Vacant-clause-others : goal.returns-in-Vacant-clause-others
+returns-in-Vacant-clause-others g c =
+    others_after g.K.PartialEq.eq c.args.self.now.by_key.entries _ c.args.key c.insert.result.now (search rules)
+
+pub returns-in_ok-add-in-Occupied-clause-added : goal.returns-in_ok-add-in-Occupied-clause-added
+returns-in_ok-add-in-Occupied-clause-added g c =
+    added_after g.K.PartialEq.eq c.args.self.now.by_key.entries _ c.args.key c.add.new.self (search rules)
+    (g.met.K.Eq.laws.refl c.args.key) _
+    (c.in_ok-add-in-Occupied.ensures.ok ∙ ap (λ vs. vs ++ c.args.value ∷ []) (had g c))
+
+-- a key that has no entry has no values
+none : (g : Over) (c : goal.After-self-in-Vacant-2-1 g) → under g.K.PartialEq.eq c.args.self.now.by_key c.args.key ≡ []
+unfolding entry_value
+none g c = ap items_of (sym c.in_ok-entry.ensures.value ∙ ap entry_value c.in-Vacant.is)
+
+pub returns-in-Vacant-clause-none : goal.returns-in-Vacant-clause-none
+returns-in-Vacant-clause-none g c = none g c
+
+pub returns-in-Vacant-clause-added : goal.returns-in-Vacant-clause-added
+returns-in-Vacant-clause-added g c =
+    added_after g.K.PartialEq.eq c.args.self.now.by_key.entries _ c.args.key c.insert.result.now (search rules)
+    (g.met.K.Eq.laws.refl c.args.key) _
+    (ap values_in c.insert.ensures.value ∙ c.one.ensures ∙ (λ j. sym (none g c) j ++ c.args.value ∷ []))

@@ -1,17 +1,42 @@
-use Rattle.std.proofs.Common.{rules, ◌≡◌, true, false, refl, List, ◌∙◌, sym, ap, Some}
+use Rattle.std.proofs.Common.{rules, arith, ◌≡◌, ◌+◌, ◌*◌, ◌<◌, ℕ, length, true, false, refl, List, ◌∷◌, ◌∙◌, sym, ap, Some}
 use Rattle.language.specs.Tree.{Name, Expression, two}
-use Rattle.syntax.specs.Grammar.{right_level}
+use Rattle.grammar.specs.Grammar.{right_level}
 use Rattle.syntax.specs.Exact.{reading, from, after}
 use Rattle.trees.specs.Trees.{operator_of, expr_of}
 use Rattle.tokens.specs.declared.vocabulary.Token.{Token}
 use Rattle.tokens.specs.Token.{tok_of, toks_of, same_kind}
 use Rattle.tokens.specs.declared.vocabulary.Kind.TheVariants as kind
-use Rattle.syntax.proofs.Closings.{closed_seen}
+use Rattle.syntax.proofs.Closings.{closed_read, closed_shorter, shorter_after_one}
 use Rattle.syntax.proofs.Exits.{refused}
 use Rattle.syntax.proofs.Expressions.{operand_begins, goes_on, ends_before, ends_empty}
 use Rattle.trees.proofs.Folds.{expr_of-Const, expr_of-Var, expr_of-Not, expr_of-Two}
 use Rattle.syntax.proofs.reader.Reader.+expressions.Goals as goal
 use Rattle.syntax.proofs.reader.Reader.+expressions.Goals.{expression-in-Some+in_default-operator_of_kind, expression-in_default}
+
+-- The measures of calls: fewer tokens, or as many and a function further down.
+same_less : (n : ℕ) → 2 * n < 2 * n + 1
+same_less n = omega arith
+
+operand_less : {A : Type 0} {x : A} {xs ys : List A} → ys ≡ x ∷ xs → 2 * length xs + 1 < 2 * length ys
+operand_less {A} {x} {xs} {ys} is = rw is (omega arith)
+
+right_less : {A : Type 0} {x : A} {xs ys : List A} {n : ℕ} → ys ≡ x ∷ xs → length ys < n → 2 * length xs + 1 < 2 * n + 1
+right_less {A} {x} {xs} {ys} {n} is less =
+    let h : length ys ≡ length xs + 1 = rw is (omega arith) in
+    omega (arith, h, less)
+
+pub expression-operand-requires : goal.expression-operand-requires
+expression-operand-requires g t c κs within = (rw (← c.decreases) (same_less _), within)
+
+pub expression-expression-requires : goal.expression-expression-requires
+expression-expression-requires g t c κs within =
+    (rw (← c.decreases) (right_less c.in-Some.ensures.cases.0 c.loop-first.invariant.shorter), within)
+
+pub operand-expression-requires : goal.operand-expression-requires
+operand-expression-requires g t c κs within = (rw (← c.decreases) (operand_less c.in-Some.ensures.cases.0), within)
+
+pub operand-expression-requires-in-Open : goal.operand-expression-requires-in-Open
+operand-expression-requires-in-Open g t c κs within = (rw (← c.decreases) (operand_less c.in-Some.ensures.cases.0), within)
 
 pub expression-loop-first-preserved : goal.expression-loop-first-preserved
 expression-loop-first-preserved g t c = record {
@@ -67,12 +92,18 @@ operand-returns-in_ok-in_box-in-Not-clause-gives g t c =
     rw (operand_begins kind.Not c.args.tokens.now c.in-Some.rest.now c.in-Some.first.now c.in-Some.ensures.cases.0
     c.in-Not.is) (rw (c.in_ok-inner-in-Not.ensures.gives, expr_of-Not c.in_ok-in_box-in-Not.field-0, c.in_ok-in_box-in-Not.ensures.ok) refl)
 
-pub operand-returns-in_ok-inner-in-Open-clause-gives : goal.operand-returns-in_ok-inner-in-Open-clause-gives
+pub operand-returns-in-Open-clause-gives : goal.operand-returns-in-Open-clause-gives
 unfolding same_kind
-operand-returns-in_ok-inner-in-Open-clause-gives g t c =
+operand-returns-in-Open-clause-gives g t c =
     rw (operand_begins kind.Open c.args.tokens.now c.in-Some.rest.now c.in-Some.first.now c.in-Some.ensures.cases.0
-    c.in-Open.is) (rw c.in_ok-inner-in-Open.ensures.gives (closed_seen expr_of c.in_ok-inner-in-Open.inner kind.Close
-    c.closed.result c.in_ok-inner-in-Open.after.now _ refl c.closed.ensures.gives))
+    c.in-Open.is) (closed_read expr_of (reading (from 0)) kind.Close c.expression-in-Open.result c.closed.result
+    c.in-Some.rest.now c.expression-in-Open.ensures.gives c.closed.ensures)
+
+pub operand-returns-in-Open-clause-shorter : goal.operand-returns-in-Open-clause-shorter
+operand-returns-in-Open-clause-shorter g t c =
+    shorter_after_one c.closed.result c.in-Some.first.now c.in-Some.rest.now c.args.tokens.now c.in-Some.ensures.cases.0
+    (closed_shorter kind.Close c.expression-in-Open.result c.closed.result c.in-Some.rest.now
+    c.expression-in-Open.ensures.shorter c.closed.ensures)
 
 pub operand-returns-in_err-inner-in-Not-clause-gives : goal.operand-returns-in_err-inner-in-Not-clause-gives
 unfolding same_kind
@@ -82,12 +113,3 @@ operand-returns-in_err-inner-in-Not-clause-gives g t c =
     (λ none. operand_begins kind.Not c.args.tokens.now c.in-Some.rest.now c.in-Some.first.now
     c.in-Some.ensures.cases.0 c.in-Not.is ∙ rw none refl)
     c.in_err-inner-in-Not.ensures.gives
-
-pub operand-returns-in_err-inner-in-Open-clause-gives : goal.operand-returns-in_err-inner-in-Open-clause-gives
-unfolding same_kind
-operand-returns-in_err-inner-in-Open-clause-gives g t c =
-    refused _ c.from_residual-in_err-inner-in-Open.result _ (reading (from 0) (toks_of c.in-Some.rest.now)) _
-    c.from_residual-in_err-inner-in-Open.ensures.1
-    (λ none. operand_begins kind.Open c.args.tokens.now c.in-Some.rest.now c.in-Some.first.now
-    c.in-Some.ensures.cases.0 c.in-Open.is ∙ rw none refl)
-    c.in_err-inner-in-Open.ensures.gives

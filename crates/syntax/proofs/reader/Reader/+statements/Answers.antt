@@ -1,38 +1,48 @@
-use Rattle.std.proofs.Common.{rules, List, [], ◌∙◌, ap, sym, Some, refl}
+use Rattle.std.proofs.Common.{rules, arith, ◌≡◌, ◌+◌, ◌*◌, ◌<◌, ◌≤◌, ℕ, length, List, [], ◌∷◌, ◌∙◌, ap, sym, Some, refl}
 use Rattle.tokens.specs.declared.vocabulary.Kind.TheVariants as kind
 use Rattle.tokens.specs.Token.{toks_of, same_kind}
-use Rattle.syntax.specs.Parser.{take}
-use Rattle.syntax.specs.Exact.{marked, deed, item, section_behind, closing, going_on, put_before, if_deed, while_deed}
-use Rattle.trees.specs.Trees.{Deed, Item, deed_of, item_of, items_of}
+use Rattle.syntax.specs.Exact.{marked, deed, item, condition, section, going_on, put_before, if_deed, while_deed}
+use Rattle.trees.specs.Trees.{Item, item_of, items_of, rhs_of, block_of}
 use Rattle.syntax.proofs.Exits.{refused}
-use Rattle.syntax.proofs.Closings.{closed_seen}
+use Rattle.syntax.proofs.Closings.{closed_read, closed_shorter, less_still, refused_shorter}
 use Rattle.trees.proofs.Folds.{item_is, deed_of-Skip, deed_of-Return, deed_of-If, deed_of-While}
 use Rattle.syntax.proofs.Goings.{sections_start, sections_no_start, sections_go_on, sections_refused, item_no_mark, item_no_deed}
-use Rattle.syntax.proofs.Goings.{item_whole, deed_leaves, deed_gives, deed_calls, deed_asks, deed_assigns, if_no_yes, if_no_no, if_no}
-use Rattle.syntax.proofs.Goings.{while_no_body, while_body, deed_begins}
+use Rattle.syntax.proofs.Goings.{item_whole, deed_leaves, deed_gives, deed_calls, deed_asks, deed_assigns, test_before, section_before}
+use Rattle.syntax.proofs.Goings.{if_refused, if_no_yes, if_no_no, if_whole, while_refused, while_no_body, while_whole, deed_begins}
 use Rattle.syntax.proofs.Loops.{pushed}
 use Rattle.syntax.proofs.reader.Reader.+statements.Goals as goal
 
-pub branch-returns-in_err-yes-clause-gives : goal.branch-returns-in_err-yes-clause-gives
-branch-returns-in_err-yes-clause-gives g t c =
-    refused _ c.from_residual-in_err-yes.result _ (section_behind kind.Then (toks_of c.in_ok-side.opened.now)) _
-    c.from_residual-in_err-yes.ensures.1
-    (if_no_yes (toks_of c.args.tokens.now) c.in_ok-side.ensures.gives) c.in_err-yes.ensures.gives
+-- The measures of calls: fewer tokens, or as many and a function further down.
+behind_less : {a b : ℕ} → a < b → 4 * a + 4 < 4 * b + 1
+behind_less less = omega (arith, less)
 
-pub branch-returns-in_err-no-clause-gives : goal.branch-returns-in_err-no-clause-gives
-branch-returns-in_err-no-clause-gives g t c =
-    refused _ c.from_residual-in_err-no.result _ (section_behind kind.Else (toks_of c.in_ok-yes.between.now)) _
-    c.from_residual-in_err-no.ensures.1
-    (if_no_no (toks_of c.args.tokens.now) c.in_ok-side.ensures.gives c.in_ok-yes.ensures.gives)
-    c.in_err-no.ensures.gives
+word_less : {A : Type 0} {x : A} {xs ys : List A} → ys ≡ x ∷ xs → 4 * length xs + 1 < 4 * length ys + 2
+word_less {A} {x} {xs} {ys} is = rw is (omega arith)
 
-pub branch-returns-clause-gives : goal.branch-returns-clause-gives
-branch-returns-clause-gives g t c =
-    closed_seen deed_of _ kind.Fi c.closed.result _ _
-    (if_no (toks_of c.args.tokens.now) c.in_ok-side.ensures.gives c.in_ok-yes.ensures.gives c.in_ok-no.ensures.gives
-    ∙ ap (λ (d : Deed). closing kind.Fi d (toks_of c.in_ok-no.ended.now))
-    (sym (deed_of-If c.in_ok-side.side c.in_ok-yes.yes c.in_ok-no.no)))
-    c.closed.ensures.gives
+mark_less : {a b : ℕ} → a ≤ b → 4 * a + 2 < 4 * b + 3
+mark_less less = omega (arith, less)
+
+first_less : (a : ℕ) → 4 * a + 3 < 4 * a + 4
+first_less a = omega arith
+
+next_less : {a b : ℕ} → a < b → 4 * a + 3 < 4 * b + 4
+next_less less = omega (arith, less)
+
+pub core-branch-self-requires : goal.core-branch-self-requires
+core-branch-self-requires g t c κs within = (rw (← c.decreases) (word_less c.in-Some.ensures.cases.0), within)
+
+pub core-repeat-requires : goal.core-repeat-requires
+core-repeat-requires g t c κs within = (rw (← c.decreases) (word_less c.in-Some.ensures.cases.0), within)
+
+pub statement-core-requires : goal.statement-core-requires
+statement-core-requires g t c κs within = (rw (← c.decreases) (mark_less c.in_ok-label.ensures.no_longer), within)
+
+pub statements-statement-requires : goal.statements-statement-requires
+statements-statement-requires g t c κs within = (rw (← c.decreases) (first_less _), within)
+
+pub statements-statement-requires-in-loop-rest : goal.statements-statement-requires-in-loop-rest
+statements-statement-requires-in-loop-rest g t c κs within =
+    (rw (← c.decreases) (next_less c.loop-rest.invariant.shorter), within)
 
 pub core-returns-in-Skip-clause-gives : goal.core-returns-in-Skip-clause-gives
 unfolding same_kind if_deed while_deed
@@ -80,19 +90,6 @@ core-returns-in-While-clause-gives g t c =
     rw (deed_begins kind.While c.args.tokens.now c.in-Some.others.now c.in-Some.first.now c.in-Some.ensures.cases.0
     c.in-While.is) c.repeat.ensures.gives
 
-pub repeat-returns-in_err-body-clause-gives : goal.repeat-returns-in_err-body-clause-gives
-repeat-returns-in_err-body-clause-gives g t c =
-    refused _ c.from_residual-in_err-body.result _ (section_behind kind.Do (toks_of c.in_ok-side.opened.now)) _
-    c.from_residual-in_err-body.ensures.1
-    (while_no_body (toks_of c.args.tokens.now) c.in_ok-side.ensures.gives) c.in_err-body.ensures.gives
-
-pub repeat-returns-clause-gives : goal.repeat-returns-clause-gives
-repeat-returns-clause-gives g t c =
-    closed_seen deed_of _ kind.Od c.closed.result _ _
-    (while_body (toks_of c.args.tokens.now) c.in_ok-side.ensures.gives c.in_ok-body.ensures.gives
-    ∙ ap (λ (d : Deed). closing kind.Od d (toks_of c.in_ok-body.ended.now)) (sym (deed_of-While c.in_ok-side.side c.in_ok-body.body)))
-    c.closed.ensures.gives
-
 pub statements-loop-rest-init : goal.statements-loop-rest-init
 statements-loop-rest-init g t c = record {
   whole =
@@ -128,18 +125,18 @@ statements-returns-in_err-next-clause-gives g t c =
 pub core-returns-in-Id-clause-gives : goal.core-returns-in-Id-clause-gives
 core-returns-in-Id-clause-gives g t c =
     rw (deed_calls c.args.tokens.now c.in-Some.others.now c.in-Some.first.now c.in-Some.ensures.cases.0
-    c.in-Id.is (sym c.begins-in-Id-1.ensures ∙ c.if-begins-2.true)) c.calling.ensures.gives
+    c.in-Id.is (search rules)) c.calling.ensures.gives
 
 pub core-returns-in-Id-2-clause-gives : goal.core-returns-in-Id-2-clause-gives
 core-returns-in-Id-2-clause-gives g t c =
     rw (deed_asks c.args.tokens.now c.in-Some.others.now c.in-Some.first.now c.in-Some.ensures.cases.0
-    c.in-Id.is (sym c.begins-in-Id-1.ensures ∙ c.if-begins-2.false) (sym c.asks_behind.ensures ∙ c.if-asks_behind.true))
+    c.in-Id.is (search rules) (sym c.asks_behind.ensures ∙ c.if-asks_behind.true))
     c.asking.ensures.gives
 
 pub core-returns-in-Id-3-clause-gives : goal.core-returns-in-Id-3-clause-gives
 core-returns-in-Id-3-clause-gives g t c =
     rw (deed_assigns c.args.tokens.now c.in-Some.others.now c.in-Some.first.now c.in-Some.ensures.cases.0
-    c.in-Id.is (sym c.begins-in-Id-1.ensures ∙ c.if-begins-2.false) (sym c.asks_behind.ensures ∙ c.if-asks_behind.false))
+    c.in-Id.is (search rules) (sym c.asks_behind.ensures ∙ c.if-asks_behind.false))
     c.assignment.ensures.gives
 
 pub statement-returns-in_err-label-clause-gives : goal.statement-returns-in_err-label-clause-gives
@@ -158,12 +155,125 @@ statement-returns-clause-gives g t c =
     item_whole (toks_of c.args.tokens.now) c.in_ok-label.ensures.gives c.in_ok-core.ensures.gives
     ∙ ap (λ (i : Item). Some (i, toks_of c.in_ok-core.rest.now)) (sym (item_is _))
 
-pub block-returns-in_err-inside-clause-gives : goal.block-returns-in_err-inside-clause-gives
-unfolding section_behind
-block-returns-in_err-inside-clause-gives g t c =
-    refused _ c.from_residual.result _ (take c.args.word (toks_of c.args.tokens.now)) _ c.from_residual.ensures.1
-    (λ none. rw none refl) c.in_err-inside.ensures.gives
+pub branch-statements-requires : goal.branch-statements-requires
+branch-statements-requires g t c κs within = (
+  rw (← c.decreases)
+      (behind_less (closed_shorter kind.Then c.test.result _ c.args.tokens.now c.test.ensures.shorter c.in_ok-side.ensures)),
+  within,
+)
 
-pub block-returns-clause-gives : goal.block-returns-clause-gives
-unfolding section_behind
-block-returns-clause-gives g t c = rw c.in_ok-inside.ensures.gives c.statements.ensures.gives
+pub branch-statements-requires-2 : goal.branch-statements-requires-2
+branch-statements-requires-2 g t c κs within = (
+  rw (← c.decreases) (behind_less (less_still
+      (closed_shorter kind.Else c.statements.result _ c.in_ok-side.opened.now c.statements.ensures.shorter c.in_ok-yes.ensures)
+      (closed_shorter kind.Then c.test.result _ c.args.tokens.now c.test.ensures.shorter c.in_ok-side.ensures))),
+  within,
+)
+
+pub repeat-statements-requires : goal.repeat-statements-requires
+repeat-statements-requires g t c κs within = (
+  rw (← c.decreases)
+      (behind_less (closed_shorter kind.Do c.test.result _ c.args.tokens.now c.test.ensures.shorter c.in_ok-side.ensures)),
+  within,
+)
+
+pub branch-returns-in_err-side-clause-gives : goal.branch-returns-in_err-side-clause-gives
+branch-returns-in_err-side-clause-gives g t c =
+    refused _ c.from_residual.result _ (test_before kind.Then (toks_of c.args.tokens.now)) _ c.from_residual.ensures.1
+    (if_refused (toks_of c.args.tokens.now))
+    (closed_read rhs_of condition kind.Then c.test.result _ c.args.tokens.now c.test.ensures.gives c.in_err-side.ensures)
+
+pub branch-returns-in_err-yes-clause-gives : goal.branch-returns-in_err-yes-clause-gives
+branch-returns-in_err-yes-clause-gives g t c =
+    refused _ c.from_residual-in_err-yes.result _ (section_before kind.Else (toks_of c.in_ok-side.opened.now)) _
+    c.from_residual-in_err-yes.ensures.1
+    (if_no_yes (toks_of c.args.tokens.now)
+    (closed_read rhs_of condition kind.Then c.test.result _ c.args.tokens.now c.test.ensures.gives c.in_ok-side.ensures))
+    (closed_read
+    (λ v. block_of v.items) section kind.Else c.statements.result _ c.in_ok-side.opened.now c.statements.ensures.gives
+    c.in_err-yes.ensures)
+
+pub branch-returns-in_err-no-clause-gives : goal.branch-returns-in_err-no-clause-gives
+branch-returns-in_err-no-clause-gives g t c =
+    refused _ c.from_residual-in_err-no.result _ (section_before kind.Fi (toks_of c.in_ok-yes.between.now)) _
+    c.from_residual-in_err-no.ensures.1
+    (if_no_no (toks_of c.args.tokens.now)
+    (closed_read rhs_of condition kind.Then c.test.result _ c.args.tokens.now c.test.ensures.gives c.in_ok-side.ensures)
+    (closed_read
+    (λ v. block_of v.items) section kind.Else c.statements.result _ c.in_ok-side.opened.now c.statements.ensures.gives
+    c.in_ok-yes.ensures))
+    (closed_read
+    (λ v. block_of v.items) section kind.Fi c.statements-2.result _ c.in_ok-yes.between.now c.statements-2.ensures.gives
+    c.in_err-no.ensures)
+
+pub branch-returns-clause-gives : goal.branch-returns-clause-gives
+branch-returns-clause-gives g t c =
+    rw (
+      if_whole (toks_of c.args.tokens.now)
+          (closed_read rhs_of condition kind.Then c.test.result _ c.args.tokens.now c.test.ensures.gives c.in_ok-side.ensures)
+          (closed_read
+          (λ v. block_of v.items) section kind.Else c.statements.result _ c.in_ok-side.opened.now c.statements.ensures.gives
+          c.in_ok-yes.ensures)
+          (closed_read
+          (λ v. block_of v.items) section kind.Fi c.statements-2.result _ c.in_ok-yes.between.now c.statements-2.ensures.gives
+          c.in_ok-no.ensures),
+      deed_of-If c.in_ok-side.side c.in_ok-yes.yes c.in_ok-no.no,
+    ) refl
+
+pub branch-returns-clause-shorter : goal.branch-returns-clause-shorter
+branch-returns-clause-shorter g t c =
+    less_still (less_still
+    (closed_shorter kind.Fi c.statements-2.result _ c.in_ok-yes.between.now c.statements-2.ensures.shorter c.in_ok-no.ensures)
+    (closed_shorter kind.Else c.statements.result _ c.in_ok-side.opened.now c.statements.ensures.shorter c.in_ok-yes.ensures))
+    (closed_shorter kind.Then c.test.result _ c.args.tokens.now c.test.ensures.shorter c.in_ok-side.ensures)
+
+pub repeat-returns-in_err-side-clause-gives : goal.repeat-returns-in_err-side-clause-gives
+repeat-returns-in_err-side-clause-gives g t c =
+    refused _ c.from_residual.result _ (test_before kind.Do (toks_of c.args.tokens.now)) _ c.from_residual.ensures.1
+    (while_refused (toks_of c.args.tokens.now))
+    (closed_read rhs_of condition kind.Do c.test.result _ c.args.tokens.now c.test.ensures.gives c.in_err-side.ensures)
+
+pub repeat-returns-in_err-body-clause-gives : goal.repeat-returns-in_err-body-clause-gives
+repeat-returns-in_err-body-clause-gives g t c =
+    refused _ c.from_residual-in_err-body.result _ (section_before kind.Od (toks_of c.in_ok-side.opened.now)) _
+    c.from_residual-in_err-body.ensures.1
+    (while_no_body (toks_of c.args.tokens.now)
+    (closed_read rhs_of condition kind.Do c.test.result _ c.args.tokens.now c.test.ensures.gives c.in_ok-side.ensures))
+    (closed_read
+    (λ v. block_of v.items) section kind.Od c.statements.result _ c.in_ok-side.opened.now c.statements.ensures.gives
+    c.in_err-body.ensures)
+
+pub repeat-returns-clause-gives : goal.repeat-returns-clause-gives
+repeat-returns-clause-gives g t c =
+    rw (
+      while_whole (toks_of c.args.tokens.now)
+          (closed_read rhs_of condition kind.Do c.test.result _ c.args.tokens.now c.test.ensures.gives c.in_ok-side.ensures)
+          (closed_read
+          (λ v. block_of v.items) section kind.Od c.statements.result _ c.in_ok-side.opened.now c.statements.ensures.gives
+          c.in_ok-body.ensures),
+      deed_of-While c.in_ok-side.side c.in_ok-body.body,
+    ) refl
+
+pub repeat-returns-clause-shorter : goal.repeat-returns-clause-shorter
+repeat-returns-clause-shorter g t c =
+    less_still
+    (closed_shorter kind.Od c.statements.result _ c.in_ok-side.opened.now c.statements.ensures.shorter c.in_ok-body.ensures)
+    (closed_shorter kind.Do c.test.result _ c.args.tokens.now c.test.ensures.shorter c.in_ok-side.ensures)
+
+pub branch-returns-in_err-side-clause-shorter : goal.branch-returns-in_err-side-clause-shorter
+branch-returns-in_err-side-clause-shorter g t c = refused_shorter c.from_residual.result _ c.args.tokens.now c.from_residual.ensures.1
+
+pub branch-returns-in_err-yes-clause-shorter : goal.branch-returns-in_err-yes-clause-shorter
+branch-returns-in_err-yes-clause-shorter g t c =
+    refused_shorter c.from_residual-in_err-yes.result _ c.args.tokens.now c.from_residual-in_err-yes.ensures.1
+
+pub branch-returns-in_err-no-clause-shorter : goal.branch-returns-in_err-no-clause-shorter
+branch-returns-in_err-no-clause-shorter g t c =
+    refused_shorter c.from_residual-in_err-no.result _ c.args.tokens.now c.from_residual-in_err-no.ensures.1
+
+pub repeat-returns-in_err-side-clause-shorter : goal.repeat-returns-in_err-side-clause-shorter
+repeat-returns-in_err-side-clause-shorter g t c = refused_shorter c.from_residual.result _ c.args.tokens.now c.from_residual.ensures.1
+
+pub repeat-returns-in_err-body-clause-shorter : goal.repeat-returns-in_err-body-clause-shorter
+repeat-returns-in_err-body-clause-shorter g t c =
+    refused_shorter c.from_residual-in_err-body.result _ c.args.tokens.now c.from_residual-in_err-body.ensures.1

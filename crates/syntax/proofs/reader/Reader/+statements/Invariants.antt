@@ -13,9 +13,6 @@ decreases-statement g l = 4 * length l.tokens.now + 3
 abbrev pub decreases-core : goal.decreases-core
 decreases-core g l = 4 * length l.tokens.now + 2
 
-abbrev pub decreases-block : goal.decreases-block
-decreases-block g l = 4 * length l.tokens.now + 1
-
 abbrev pub decreases-branch : goal.decreases-branch
 decreases-branch g l = 4 * length l.tokens.now + 1
 

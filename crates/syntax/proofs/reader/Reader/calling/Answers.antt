@@ -1,4 +1,7 @@
-use Rattle.syntax.specs.Exact.{calling}
+use Rattle.std.proofs.Common.{refl}
+use Rattle.tokens.specs.Token.{toks_of}
+use Rattle.syntax.specs.Exact.{calling, name, arguments}
+use Rattle.syntax.proofs.Exits.{refused}
 use Rattle.trees.proofs.Folds.{deed_of-Call}
 use Rattle.syntax.proofs.Parts.{strict_expression}
 use Rattle.syntax.proofs.reader.Reader.calling.Goals as goal
@@ -11,3 +14,16 @@ unfolding calling
 returns-clause-gives g c =
     rw (c.in_ok-name.ensures.gives, c.in_ok-arguments.ensures.gives)
     (rw (deed_of-Call c.in_ok-name.name c.in_ok-arguments.arguments) at c.ended.ensures.gives)
+
+pub returns-in_err-name-clause-gives : goal.returns-in_err-name-clause-gives
+unfolding calling
+returns-in_err-name-clause-gives g c =
+    refused _ c.from_residual.result _ (name (toks_of c.args.tokens.now)) _ c.from_residual.ensures.1
+    (λ none. rw none refl) c.in_err-name.ensures.gives
+
+pub returns-in_err-arguments-clause-gives : goal.returns-in_err-arguments-clause-gives
+unfolding calling
+returns-in_err-arguments-clause-gives g c =
+    refused _ c.from_residual-in_err-arguments.result _ (arguments (toks_of c.in_ok-name.others.now)) _
+    c.from_residual-in_err-arguments.ensures.1
+    (λ none. rw (c.in_ok-name.ensures.gives, none) refl) c.in_err-arguments.ensures.gives

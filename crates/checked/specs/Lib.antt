@@ -1,0 +1,5 @@
+pub mod Limits
+pub mod Faults
+pub mod Checked
+pub mod Rewritable
+pub mod Programs

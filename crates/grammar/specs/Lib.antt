@@ -1,0 +1,4 @@
+pub mod Grammar
+pub mod Printed
+pub mod InGrammar
+pub mod PrintedExample

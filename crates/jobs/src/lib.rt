@@ -1,0 +1,10 @@
+//! Jobs, each in a thread of its own. A job for which there is no thread is declined.
+#![tactic(auto)]
+
+mod hire;
+mod jobs;
+mod no_thread;
+mod slot;
+
+pub use hire::{Always, Hire};
+pub use jobs::{Came, Job, run_all};
