@@ -1,7 +1,7 @@
 //! Why words give no order.
 
 /// Why the words give no order. The texts are those of `clap`.
-#[derive(Debug, Drop)]
+#[derive(Drop)]
 pub enum LineFault {
     /// Help or the version was asked for: its text.
     Help(String),

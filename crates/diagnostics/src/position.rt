@@ -4,7 +4,7 @@ ghost use Rattle.std.specs.Prelude.{◌≡◌, ◌≢◌, ◌-◌, ◌<◌, ◌�
 ghost use Rattle.diagnostics.specs.Position.{IsPosition, newlines};
 
 /// Where an offset of a text is.
-#[derive(Clone, Copy, Debug)]
+#[derive(Clone, Copy)]
 pub(crate) struct Position<'a> {
     /// The number of the line, counted from 1.
     pub line: usize,

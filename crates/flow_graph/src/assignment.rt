@@ -17,7 +17,7 @@ use std::alloc::{AllocError, Allocator};
 use trees::{Expr, Name, Rhs};
 
 /// A bit that an assignment writes, and what it gets.
-#[derive(Debug, Drop)]
+#[derive(Drop)]
 pub(crate) struct Write<A: Allocator> {
     /// The bit, alone.
     pub(crate) mask: Word,
@@ -60,7 +60,7 @@ fn last_choice<A: Allocator>(writes: &[Write<A>]) -> Word
 }
 
 /// A simultaneous assignment, compiled. No bit is written twice.
-#[derive(Debug, Drop)]
+#[derive(Drop)]
 pub struct Assignment<A: Allocator> {
     pub(crate) writes: Vec<Write<A>, A>,
     pub(crate) last: Word,

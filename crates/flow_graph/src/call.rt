@@ -21,7 +21,7 @@ pub(crate) fn low_bits(values: Word, count: u8) -> Word
 }
 
 /// The call of a procedure, compiled.
-#[derive(Debug, Drop)]
+#[derive(Drop)]
 pub struct Call<A: Allocator> {
     pub(crate) callee: u8,
     pub(crate) globals: u8,

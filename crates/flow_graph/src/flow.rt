@@ -11,7 +11,7 @@ use language::{Point, Word};
 use std::alloc::Allocator;
 
 /// What leads on from a point, inside the call or out of it.
-#[derive(Debug, Drop)]
+#[derive(Drop)]
 pub enum Flow<A: Allocator> {
     /// Values are written, perhaps none, and the run continues at the point.
     Assign(Assignment<A>, Point),

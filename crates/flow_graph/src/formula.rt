@@ -16,7 +16,7 @@ use trees::Expr;
 
 /// An expression over the bits of a valuation: a truth table if it has at most ten of them; else a truth table for
 /// each row of the three that it reads most often, if ten others are enough for each; else postfix code.
-#[derive(Debug, Drop)]
+#[derive(Drop)]
 pub enum Formula<A: Allocator> {
     Table(Table<A>),
     Picks(Picks<A>),

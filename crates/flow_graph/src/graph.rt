@@ -19,7 +19,7 @@ fn has_any(values: Word, mask: Word) -> bool
 /// The flow graph of a procedure: a point before each statement and the exit, and what leads on from each. A
 /// valuation is a number of `WORD_BITS` bits: the globals from bit 0 in the order of their declaration, then the
 /// formals, locals and temporaries, and last the result, if the procedure gives one.
-#[derive(Debug, Drop)]
+#[derive(Drop)]
 pub struct Graph<A: Allocator> {
     pub(crate) flows: Vec<Flow<A>, A>,
     pub(crate) start: Point,
@@ -67,7 +67,7 @@ impl<A: Allocator> Graph<A> {
 }
 
 /// The flow graphs of the procedures of a sequential program, at most 32, by number.
-#[derive(Debug, Drop)]
+#[derive(Drop)]
 pub struct Graphs<A: Allocator> {
     pub(crate) graphs: Vec<Graph<A>, A>,
     pub(crate) bad: usize,

@@ -4,7 +4,7 @@ use language::Word;
 
 /// What a procedure leaves at its exit. A caller continues after the call with these globals, and with the result
 /// in the variable that it called for, if any.
-#[derive(Clone, Copy, Debug, PartialEq, Eq, PartialOrd, Ord, Hash)]
+#[derive(Clone, Copy, PartialEq, Eq, PartialOrd, Ord, Hash)]
 pub struct Left {
     /// The globals.
     pub globals: Word,

@@ -20,7 +20,7 @@ pub(crate) const WORDS: usize = 16;
 pub(crate) const ALL: u64 = u64::MAX;
 
 /// The outputs of a table, each word those of 64 rows.
-#[derive(Debug, Drop)]
+#[derive(Drop)]
 pub(crate) enum Outputs<A: Allocator> {
     /// Those of at most six inputs.
     One(u64),

@@ -25,7 +25,7 @@ const CASES: u64 = 8;
 type Counts = [u32; MOST_PLACES];
 
 /// An expression as a truth table for each row of three bits, by number of row.
-#[derive(Debug, Drop)]
+#[derive(Drop)]
 pub struct Picks<A: Allocator> {
     pub(crate) bits: Windows,
     pub(crate) cases: Vec<Table<A>, A>,

@@ -17,7 +17,7 @@ use std::alloc::{AllocError, Allocator};
 use trees::{Expr, Name, Op};
 
 /// One step of postfix code, over a stack of values.
-#[derive(Clone, Copy, Debug)]
+#[derive(Clone, Copy)]
 pub enum Step {
     /// Puts the value of a bit on the stack.
     Read(u8),
@@ -54,7 +54,7 @@ fn stepped(step: Step, values: Word, stack: u64) -> u64
 }
 
 /// An expression as postfix code, which never needs a stack of more than 64 values.
-#[derive(Debug, Drop)]
+#[derive(Drop)]
 pub struct Postfix<A: Allocator> {
     pub(crate) steps: Vec<Step, A>,
     pub(crate) ghost shallow: { IsShallow 0 steps.items } by { IsShallow-prop 0 steps.items },

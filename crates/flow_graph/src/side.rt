@@ -12,7 +12,7 @@ use std::alloc::{AllocError, Allocator};
 use trees::Rhs;
 
 /// A right side, compiled.
-#[derive(Debug, Drop)]
+#[derive(Drop)]
 pub enum Side<A: Allocator> {
     /// `?`, which has both values.
     Any,

@@ -24,7 +24,7 @@ const MOST: usize = 10;
 
 /// An expression as a truth table: if input i has the value of bit i of j for each i, the expression has the value of
 /// output j.
-#[derive(Debug, Drop)]
+#[derive(Drop)]
 pub struct Table<A: Allocator> {
     pub(crate) inputs: Windows,
     pub(crate) outputs: Outputs<A>,

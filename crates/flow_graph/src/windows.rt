@@ -14,7 +14,7 @@ use language::Word;
 const MOST: usize = 10;
 
 /// Neighbouring bits in one half of a valuation.
-#[derive(Debug, Clone, Copy, Default, Drop)]
+#[derive(Clone, Copy, Default, Drop)]
 pub(crate) struct Window {
     pub(crate) first: u8,
     pub(crate) count: u8,
@@ -25,7 +25,7 @@ pub(crate) struct Window {
 }
 
 /// The bits of a row, the lowest first.
-#[derive(Debug, Drop)]
+#[derive(Drop)]
 pub(crate) struct Windows {
     pub(crate) items: ArrayVec<Window, MOST>,
     pub(crate) ghost laid: { AreWindows 0 items.items } by { AreWindows-prop 0 items.items },

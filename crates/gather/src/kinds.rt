@@ -37,16 +37,13 @@ pub trait CrewBoard: WorkBoard<Heap: Send + Sync>
     + Sync
     + Drop {}
 
-impl<B: WorkBoard + Sync + Drop> CrewBoard for B
-where
-    B::Pass: Send + Drop,
-    B::Heap: Send + Sync,
-{}
+impl<A: Allocator + Copy + Send + Sync> CrewBoard for OneLock<Due, Graphs<A>, A> {}
+
+impl<A: Allocator + Copy + Send + Sync> CrewBoard for LockPerBox<Due, Graphs<A>, A> {}
 
 /// A set of path edges that may go to a thread.
 pub trait CrewSet: WorkSet<Heap: Send + Sync> + Send {}
 
-impl<S: WorkSet + Send> CrewSet for S
-where
-    S::Heap: Send + Sync,
-{}
+impl<A: Allocator + Copy + Send + Sync> CrewSet for OrderedEdges<A> {}
+
+impl<A: Allocator + Copy + Send + Sync> CrewSet for DiagramEdges<A> {}

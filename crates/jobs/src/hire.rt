@@ -9,7 +9,7 @@ pub trait Hire {
 }
 
 /// Every worker may have a thread.
-#[derive(Clone, Copy, Debug, PartialEq, Eq)]
+#[derive(Clone, Copy)]
 pub struct Always;
 
 impl Hire for Always {

@@ -18,7 +18,7 @@ use std::hash::{BuildHasherDefault, FoldHasher};
 
 /// The valuations that are at the point, by what is left of them at a level and the diagram of a number there; if
 /// nothing is left of a valuation, `zero` says whether it is at the point.
-#[derive(Clone, Copy, Debug, PartialEq, Eq, Hash)]
+#[derive(Clone, Copy, PartialEq, Eq, Hash)]
 pub(crate) struct Asked {
     pub(crate) number: u32,
     pub(crate) zero: bool,

@@ -10,7 +10,7 @@ use language::Word;
 const HALF: u8 = 32;
 
 /// The index of a place's row, the low 64 bits of its valuation and those above, and the mask of its points.
-#[derive(Clone, Copy, Debug, PartialEq, Eq, Hash)]
+#[derive(Clone, Copy, PartialEq, Eq, Hash)]
 pub(crate) struct Cell {
     pub(crate) row: usize,
     pub(crate) low: u64,

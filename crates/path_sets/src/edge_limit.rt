@@ -7,7 +7,7 @@ ghost use Rattle.path_sets.specs.Limits.{most_edges};
 pub const MOST_EDGES: u32 = 16_777_216;
 
 /// How many path edges the table of one procedure may hold: from 1 to `MOST_EDGES`.
-#[derive(Clone, Copy, Debug, PartialEq, Eq)]
+#[derive(Clone, Copy)]
 pub struct EdgeLimit {
     edges: u32,
     ghost some: { 1 ≤ edges },

@@ -11,7 +11,7 @@ use std::marker::Model;
 
 /// A valuation in two halves of 64 bits, for values that are kept many times: it need not be aligned to 16 bytes, so
 /// that less memory is lost between values. Contracts see it as the valuation.
-#[derive(Clone, Copy, Debug)]
+#[derive(Clone, Copy)]
 pub struct Halves {
     low: u64,
     high: u64,

@@ -11,7 +11,7 @@ use language::{Point, Word};
 const BLOCK: usize = 64;
 
 /// The valuation on entry, the valuation at the points, and the number of their block.
-#[derive(Clone, Copy, Debug, PartialEq, Eq, Hash)]
+#[derive(Clone, Copy, PartialEq, Eq, Hash)]
 pub(crate) struct Place {
     pub(crate) entry: Halves,
     pub(crate) values: Halves,

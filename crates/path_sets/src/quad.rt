@@ -10,7 +10,7 @@ pub(crate) const LEVELS: u8 = WORD_BITS / 2;
 
 /// A node: the points of the valuation 0, and the numbers to which another valuation continues by its two low bits: if
 /// both are 0, if only the first is 1, if only the second is 1, and if both are 1.
-#[derive(Clone, Copy, Debug, PartialEq, Eq, Hash)]
+#[derive(Clone, Copy, PartialEq, Eq, Hash)]
 pub(crate) struct Quad {
     pub(crate) points: u64,
     pub(crate) none: u32,

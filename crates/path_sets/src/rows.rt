@@ -15,7 +15,7 @@ use std::alloc::{AllocError, Allocator};
 use std::hash::{BuildHasherDefault, FoldHasher};
 
 /// A valuation on entry, and the number of a block of 64 points.
-#[derive(Clone, Copy, Debug, PartialEq, Eq, Hash)]
+#[derive(Clone, Copy, PartialEq, Eq, Hash)]
 pub(crate) struct Row {
     pub(crate) entry: Halves,
     pub(crate) block: usize,

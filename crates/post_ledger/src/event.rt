@@ -1,7 +1,7 @@
 //! The events of a mailbox.
 
 /// One event of a mailbox.
-#[derive(Clone, Copy, Debug, PartialEq, Eq)]
+#[derive(Clone, Copy, PartialEq, Eq)]
 pub enum Event<M> {
     /// A message was put in by a sender.
     Post { sender: u8, message: M },

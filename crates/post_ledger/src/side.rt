@@ -6,7 +6,7 @@ use crate::event::Event;
 use std::alloc::{AllocError, Allocator};
 
 /// A side of a mailbox: what was put in, or what was taken out.
-#[derive(Clone, Copy, Debug, PartialEq, Eq)]
+#[derive(Clone, Copy)]
 pub enum Side {
     Posts,
     Takes,

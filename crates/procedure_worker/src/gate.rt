@@ -12,7 +12,7 @@ pub trait Gate {
 }
 
 /// The gate that does nothing.
-#[derive(Clone, Copy, Debug, PartialEq, Eq)]
+#[derive(Clone, Copy)]
 pub struct Open;
 
 impl Gate for Open {

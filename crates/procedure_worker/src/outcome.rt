@@ -6,7 +6,7 @@ use summaries::Table;
 use switchboard::Cause;
 
 /// How a worker ended.
-#[derive(Clone, Copy, Debug, PartialEq, Eq)]
+#[derive(Clone, Copy)]
 pub enum End {
     /// All messages of the board are taken and completed.
     Closed,

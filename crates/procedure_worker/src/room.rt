@@ -16,7 +16,7 @@ use summaries::{Due, Table, TableFault};
 use switchboard::{Board, Job, PostFault};
 
 /// Evidence that memory was refused to a worker: it comes only from such a refusal.
-#[derive(Clone, Copy, Debug, PartialEq, Eq)]
+#[derive(Clone, Copy)]
 pub struct NoRoom(());
 
 /// Posts a message, as the board does.

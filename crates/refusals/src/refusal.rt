@@ -5,7 +5,7 @@ use scopes::ScopeFault;
 use syntax::ReadFault;
 
 /// Why a text gets no verdict.
-#[derive(Debug, Drop)]
+#[derive(Drop)]
 pub enum Refusal {
     /// It is not read.
     Unread(ReadFault),

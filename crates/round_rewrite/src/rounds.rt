@@ -6,7 +6,7 @@ ghost use Rattle.round_rewrite.specs.Limits.{most_rounds, round_bits};
 use crate::limits::MOST_ROUNDS;
 
 /// A number of rounds, from 1 to `MOST_ROUNDS`.
-#[derive(Clone, Copy, Debug, PartialEq, Eq)]
+#[derive(Clone, Copy)]
 pub struct Rounds {
     /// The last round, counted from 0.
     pub(crate) last: u8,

@@ -17,7 +17,7 @@ use std::alloc::Allocator;
 use trees::{Proc, Program, give_value};
 
 /// A procedure that has too many places when it is rewritten.
-#[derive(Clone, Copy, Debug, PartialEq, Eq)]
+#[derive(Clone, Copy)]
 pub struct Wide {
     /// The offset of its name in the text.
     pub at: u32,

@@ -3,7 +3,7 @@
 use language::Word;
 
 /// Who enters a procedure.
-#[derive(Clone, Copy, Debug, PartialEq, Eq, Hash)]
+#[derive(Clone, Copy, PartialEq, Eq, Hash)]
 pub enum Caller {
     /// Nobody: procedure 0 is entered as the program starts.
     Starter,
@@ -12,7 +12,7 @@ pub enum Caller {
 }
 
 /// A message to a procedure. Valuations are numbers whose bits are the values of the places.
-#[derive(Clone, Copy, Debug, PartialEq, Eq, Hash)]
+#[derive(Clone, Copy, PartialEq, Eq, Hash)]
 pub enum Due {
     /// The procedure is entered with the valuation `a`.
     Entry {

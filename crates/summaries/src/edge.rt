@@ -4,7 +4,7 @@ use language::{Point, Word};
 use path_sets::Halves;
 
 /// A path edge: the valuation on entry, the point, and the valuation there.
-#[derive(Clone, Copy, Debug, PartialEq, Eq)]
+#[derive(Clone, Copy)]
 pub(crate) struct Edge {
     pub(crate) entry: Word,
     pub(crate) point: Point,
@@ -12,14 +12,14 @@ pub(crate) struct Edge {
 }
 
 /// A call: the procedure called and the valuation on its entry.
-#[derive(Clone, Copy, Debug, PartialEq, Eq, Hash)]
+#[derive(Clone, Copy, PartialEq, Eq, Hash)]
 pub(crate) struct Call {
     pub(crate) callee: u8,
     pub(crate) entered: Word,
 }
 
 /// Where a call stands: the entry of the procedure that calls, the point of the call, and the valuation there.
-#[derive(Clone, Copy, Debug, PartialEq, Eq)]
+#[derive(Clone, Copy)]
 pub(crate) struct Site {
     pub(crate) asked: Word,
     pub(crate) point: Point,
@@ -28,7 +28,7 @@ pub(crate) struct Site {
 
 /// An edge whose choices were all led, by where choice 0 led: the valuation on entry, the point, and the valuation led
 /// to.
-#[derive(Clone, Copy, Debug, PartialEq, Eq, Hash)]
+#[derive(Clone, Copy, PartialEq, Eq, Hash)]
 pub(crate) struct Led {
     pub(crate) entry: Halves,
     pub(crate) point: Point,

@@ -8,7 +8,7 @@ ghost use Rattle.language.specs.Lists.{Member, NoneTwice, NoneTwice-prop};
 use std::alloc::{AllocError, Allocator};
 
 /// A message given, by the places of what its table holds.
-#[derive(Clone, Copy, Debug)]
+#[derive(Clone, Copy)]
 pub(crate) enum Sent {
     /// The entry of a call that stands at a site: the place of the call.
     Asked { call: u32 },

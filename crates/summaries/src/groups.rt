@@ -15,7 +15,7 @@ use std::alloc::{AllocError, Allocator};
 use std::hash::{BuildHasherDefault, FoldHasher, Hash};
 
 /// A key to which a value was added.
-#[derive(Clone, Copy, Debug)]
+#[derive(Clone, Copy)]
 pub(crate) struct Added {
     /// Whether it had a value before.
     pub(crate) had: bool,

@@ -7,7 +7,7 @@ use std::marker::Model;
 
 /// A call as a table keeps it, which takes 24 bytes instead of 32. Contracts see it as the call. The callee has 64
 /// bits, so that nothing is copied but whole words: a processor waits for a word that was written in parts.
-#[derive(Clone, Copy, Debug, PartialEq, Eq, Hash)]
+#[derive(Clone, Copy, PartialEq, Eq, Hash)]
 pub(crate) struct KeptCall {
     callee: u64,
     entered: Halves,
@@ -51,7 +51,7 @@ impl KeptCall {
 }
 
 /// A site as a table keeps it, which takes 40 bytes instead of 48. Contracts see it as the site.
-#[derive(Clone, Copy, Debug)]
+#[derive(Clone, Copy)]
 pub(crate) struct KeptSite {
     asked: Halves,
     point: Point,

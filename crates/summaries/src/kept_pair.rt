@@ -5,7 +5,7 @@ use path_sets::Halves;
 use std::marker::Model;
 
 /// A pair as a table keeps it, which takes 40 bytes instead of 48. Contracts see it as the pair.
-#[derive(Clone, Copy, Debug, PartialEq, Eq, Hash)]
+#[derive(Clone, Copy, PartialEq, Eq, Hash)]
 pub(crate) struct KeptPair {
     a: Halves,
     b: Halves,

@@ -9,7 +9,7 @@ use std::alloc::Allocator;
 use std::marker::Model;
 
 /// What one procedure does as a whole: with which valuations it is entered, and its pairs, both ascending.
-#[derive(Debug, Drop)]
+#[derive(Drop)]
 pub struct Summary<A: Allocator> {
     pub(crate) entries: Vec<Word, A>,
     pub(crate) pairs: Vec<Pair, A>,
@@ -24,7 +24,7 @@ impl<A: Allocator> Model for Summary<A> {
 }
 
 /// With which valuations each procedure of a program is entered, and with which globals and result it is then left.
-#[derive(Debug, Drop)]
+#[derive(Drop)]
 pub struct Summaries<A: Allocator> {
     pub(crate) procedures: Vec<Summary<A>, A>,
     pub(crate) bad: usize,

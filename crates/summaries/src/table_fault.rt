@@ -6,7 +6,7 @@ ghost use Rattle.summaries.specs.declared.table_fault.TableFault.TheVariants.{Me
 use std::alloc::{AllocError, AllocFailed};
 
 /// Why a table can't continue.
-#[derive(Clone, Copy, Debug, PartialEq, Eq)]
+#[derive(Clone, Copy, PartialEq, Eq)]
 pub enum TableFault {
     /// Memory is refused.
     Memory,

@@ -50,7 +50,7 @@ pub enum PostFault<M> {
 }
 
 /// Why a board is aborted.
-#[derive(Clone, Copy, Debug, PartialEq, Eq)]
+#[derive(Clone, Copy)]
 pub enum Cause {
     /// There was no memory.
     Memory,
@@ -63,7 +63,7 @@ pub enum Cause {
 }
 
 /// The abort of a board: the number of the pass that made it, and its cause.
-#[derive(Clone, Copy, Debug, PartialEq, Eq)]
+#[derive(Clone, Copy)]
 pub struct Abort {
     pub by: u8,
     pub cause: Cause,

@@ -151,5 +151,5 @@ impl<T> Drop for Note<T> {
 }
 
 /// A lane has drawn all its tickets.
-#[derive(Clone, Copy, Debug, PartialEq, Eq)]
+#[derive(Clone, Copy)]
 pub struct Spent;

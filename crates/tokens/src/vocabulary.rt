@@ -4,7 +4,7 @@ ghost use Rattle.std.specs.Prelude.{◌≡◌, ◌↔◌, IsTrue};
 ghost use Rattle.tokens.specs.Token.{same_kind, is_operator};
 
 /// What a token is: a keyword, a sign, a name, or one of the two constants.
-#[derive(Clone, Copy, Debug, PartialEq, Eq)]
+#[derive(Clone, Copy, Debug)]
 pub enum Kind {
     /// `decl`
     Decl,
@@ -102,7 +102,7 @@ impl Kind {
 }
 
 /// A token of a text: its kind, the offset of its first byte, and its bytes.
-#[derive(Clone, Copy, Debug)]
+#[derive(Clone, Copy)]
 pub struct Token<'a> {
     pub kind: Kind,
     pub at: u32,

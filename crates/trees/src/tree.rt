@@ -6,7 +6,7 @@ ghost use Rattle.trees.specs.Trees.{operator_of};
 use std::alloc::Allocator;
 
 /// A program: its globals, its procedures and its thread lines, each in the order of the text.
-#[derive(Debug, Drop)]
+#[derive(Drop)]
 pub struct Program<A: Allocator> {
     pub globals: Vec<Name<A>, A>,
     pub procs: Vec<Proc<A>, A>,
@@ -14,21 +14,21 @@ pub struct Program<A: Allocator> {
 }
 
 /// A thread line. `at` is the offset of the word `thread`.
-#[derive(Debug, Drop)]
+#[derive(Drop)]
 pub struct Thread<A: Allocator> {
     pub at: u32,
     pub name: Name<A>,
 }
 
 /// A name, with the offset of its first byte.
-#[derive(Debug, Drop)]
+#[derive(Drop)]
 pub struct Name<A: Allocator> {
     pub text: String<A>,
     pub at: u32,
 }
 
 /// A procedure. Several lists of locals are one, in order.
-#[derive(Debug, Drop)]
+#[derive(Drop)]
 pub struct Proc<A: Allocator> {
     pub name: Name<A>,
     pub formals: Vec<Name<A>, A>,
@@ -38,7 +38,7 @@ pub struct Proc<A: Allocator> {
 
 /// A statement. `at` is the offset of its label, if it has one, and otherwise of its first byte.
 #[cycle(tree)]
-#[derive(Debug, Drop)]
+#[derive(Drop)]
 pub struct Stmt<A: Allocator> {
     pub label: Option<Name<A>>,
     pub at: u32,
@@ -47,7 +47,7 @@ pub struct Stmt<A: Allocator> {
 
 /// What a statement does.
 #[cycle(tree)]
-#[derive(Debug, Drop)]
+#[derive(Drop)]
 pub enum Core<A: Allocator> {
     /// `skip;`
     Skip,
@@ -74,7 +74,7 @@ pub enum Core<A: Allocator> {
 }
 
 /// A right side.
-#[derive(Debug, Drop)]
+#[derive(Drop)]
 pub enum Rhs<A: Allocator> {
     /// `?`, which has both values.
     Any,
@@ -83,7 +83,7 @@ pub enum Rhs<A: Allocator> {
 }
 
 /// An expression. Parentheses of the text leave no mark in it.
-#[derive(Debug, Drop)]
+#[derive(Drop)]
 pub enum Expr<A: Allocator> {
     Const(bool),
     Var(Name<A>),
@@ -92,7 +92,7 @@ pub enum Expr<A: Allocator> {
 }
 
 /// A two-sided operator.
-#[derive(Clone, Copy, Debug, PartialEq, Eq)]
+#[derive(Clone, Copy)]
 pub enum Op {
     /// `=>`
     Implies,
