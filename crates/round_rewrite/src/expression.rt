@@ -126,6 +126,16 @@ impl<'a, N: Allocator, A: Allocator + Copy> Writer<'a, N, A> {
         has_value(self.alloc, round, 0, self.rounds.bits() - 1)
     }
 
+    /// An expression, if the round is this one.
+    fn guarded(&self, e: Expr<A>, round: u8) -> Result<Expr<A>, AllocError>
+        ensures { IfOk result (λ r. expr_of r ≡ two Rattle.language.specs.Tree.and
+            (in_round (naming_of self.now) self.now.rounds.last round)
+            (expr_of e)) }
+    {
+        let is_round = self.at(round)?;
+        operation(self.alloc, Op::And, is_round, e)
+    }
+
     /// The copy of a global for the round, if the round is this one.
     fn active(&self, round: u8, x: &Name<N>) -> Result<Expr<A>, AllocError>
         requires { round < most_rounds }
@@ -133,13 +143,8 @@ impl<'a, N: Allocator, A: Allocator + Copy> Writer<'a, N, A> {
             (in_round (naming_of self.now) self.now.rounds.last round)
             (var (copy_name round (name_of x.now)))) }
     {
-        let is_round = self.at(round)?;
-        operation(
-            self.alloc,
-            Op::And,
-            is_round,
-            copy_of(self.alloc, round, x)?,
-        )
+        let copy = copy_of(self.alloc, round, x)?;
+        self.guarded(copy, round)
     }
 
     /// A read of a global: its copy for the round.
@@ -235,9 +240,8 @@ impl<'a, N: Allocator, A: Allocator + Copy> Writer<'a, N, A> {
             (λ r. rhs_of r ≡ written (naming_of self.now) self.now.rounds.last (expr_of value)
             (name_of x.now) round) }
     {
+        let new = self.guarded(value, round)?;
         let old = self.kept(x, round)?;
-        let is_round = self.at(round)?;
-        let new = operation(self.alloc, Op::And, is_round, value)?;
         Ok(Rhs::Value(operation(self.alloc, Op::Or, new, old)?))
     }
 }

@@ -1,10 +1,11 @@
 //! What statements are rewritten to.
 
-ghost use Rattle.std.specs.Prelude.{◌≡◌, ◌<◌, ◌^◌, [], IfOk, cond, option_map};
+ghost use Rattle.std.specs.Prelude.{◌≡◌, ◌<◌, ◌^◌, [], IfOk, cond, map, option_map};
 ghost use Rattle.language.specs.Tree.{goto, assert, assume, assign, call, call_for, leave_with};
-ghost use Rattle.trees.specs.Trees.{branch, repeat, name_of, names_of, rhs_of, rhss_of, expr_of};
-ghost use Rattle.trees.specs.Trees.{exprs_of, items_of, deed_of, block_of};
-ghost use Rattle.round_rewrite.specs.Table.{drawing, prologue, received, receiver, statement};
+ghost use Rattle.trees.specs.Trees.{simple, branch, repeat, name_of, names_of, rhs_of, rhss_of};
+ghost use Rattle.trees.specs.Trees.{expr_of, exprs_of, items_of, deed_of, block_of};
+ghost use Rattle.round_rewrite.specs.Table.{drawing, prologue, received, receiver, expression};
+ghost use Rattle.round_rewrite.specs.Table.{statement};
 ghost use Rattle.round_rewrite.specs.Writing.{Lays, bare_form, forms};
 
 use crate::assignment::{any_values, temporaries};
@@ -135,6 +136,20 @@ impl<'a, N: Allocator, A: Allocator + Copy> Writer<'a, N, A> {
         }
     }
 
+    /// What a call for a value becomes, without what comes after it.
+    fn called(&self, x: &Name<N>, p: &Name<N>, es: &[Expr<N>]) -> Result<Core<A>, AllocError>
+        ensures { IfOk result
+            (λ c. deed_of c
+            ≡ simple (call_for
+            (receiver (naming_of self.now) self.now.rounds.last (name_of x.now)) (name_of p.now)
+            (map (expression (naming_of self.now) self.now.rounds.last) (exprs_of es.now)))) }
+    {
+        let target = self.receiver(x)?;
+        let name = again(*self.alloc, p)?;
+        let arguments = self.arguments(es)?;
+        Ok(Core::CallTo(target, name, arguments))
+    }
+
     /// Appends the rewriting of a call for a value to others.
     fn call_for(
         &self,
@@ -148,10 +163,7 @@ impl<'a, N: Allocator, A: Allocator + Copy> Writer<'a, N, A> {
             statement (naming_of self.now) self.now.rounds.last
             (call_for (name_of x.now) (name_of p.now) (exprs_of es.now)) k)) }
     {
-        let target = self.receiver(x)?;
-        let name = again(*self.alloc, p)?;
-        let arguments = self.arguments(es)?;
-        push(Core::CallTo(target, name, arguments), into)?;
+        push(self.called(x, p, es)?, into)?;
         push(stop_test(self.alloc)?, into)?;
         self.landing(x, into)
     }
