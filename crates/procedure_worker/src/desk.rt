@@ -5,7 +5,7 @@ use summaries::EdgeLimit;
 
 /// What a worker works with, and never changes: the handle by which it waits, its board, the gate, and its
 /// procedure, by the flow graphs, its number and how many path edges its table may keep.
-#[derive(Clone, Copy)]
+#[derive(Drop)]
 pub(crate) struct Desk<'c, 'g, R, G: Allocator, B, K> {
     pub(crate) rt: &'c R,
     pub(crate) board: &'c B,

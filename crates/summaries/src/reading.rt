@@ -83,7 +83,9 @@ pub fn read_off<G: Allocator, A: Allocator + Copy, S: PathSet<A>>(
         fault: _,
     } = table;
     drop(edges);
-    summary_of(alloc, &found)
+    let summary = summary_of(alloc, &found);
+    drop(found);
+    summary
 }
 
 /// What the tables found, table by table.
