@@ -1,5 +1,6 @@
 -- What is in a list with one more item, and how such lists are put together.
-use Rattle.std.proofs.Common.{◌≡◌, ◌+◌, List, [], ◌∷◌, ◌++◌, ◌⊎◌, map, length, inl, inr, refl, sym, arith}
+use Rattle.std.proofs.Common.{◌≡◌, ◌+◌, if◌then◌else◌, Bool, true, false, List, [], ◌∷◌, ◌++◌, ◌⊎◌, map, length}
+use Rattle.std.proofs.Common.{inl, inr, refl, sym, ap, subst, arith}
 use Rattle.language.specs.Lists.{Member, NoneTwice}
 use Rattle.path_sets.specs.Inserts.{Inserts, here, there}
 
@@ -50,3 +51,14 @@ before x xs ys zs (there y us vs i) = there y (us ++ zs) (vs ++ zs) (before x us
 pub mapped : {A B : Type 0} (f : A → B) (x : A) (xs ys : List A) → Inserts x xs ys → Inserts (f x) (map f xs) (map f ys)
 mapped f x xs ys (here us) = here (map f us)
 mapped f x xs ys (there y us vs i) = there (f y) (map f us) (map f vs) (mapped f x us vs i)
+
+-- by how much a list is longer, as it is said with a test of whether something was put in
+pub one_more_if : {A : Type 0} (xs ys : List A) (added : Bool) → added ≡ true → length ys ≡ length xs + 1
+    → length ys ≡ length xs + (if added then 1 else 0)
+one_more_if xs ys added is more = subst (λ (b : Bool). length ys ≡ length xs + (if b then 1 else 0)) (sym is) more
+
+pub none_more_if : {A : Type 0} (xs ys : List A) (added : Bool) → added ≡ false → ys ≡ xs
+    → length ys ≡ length xs + (if added then 1 else 0)
+none_more_if xs ys added is same =
+    let e = ap length same in
+    subst (λ (b : Bool). length ys ≡ length xs + (if b then 1 else 0)) (sym is) (omega (arith, e))

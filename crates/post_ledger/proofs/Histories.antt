@@ -1,6 +1,7 @@
 -- How a history grows by one event.
 use Rattle.std.proofs.Common.{◌≡◌, ℕ, zero, suc, ◌+◌, ◌<◌, ◌≤◌, List, [], ◌∷◌, ◌++◌, ◌⊎◌, Some, length, take, slice_get, refl, sym, ◌∙◌, ap}
-use Rattle.std.proofs.Common.{subst, inl, inr, arith, add-one, length-append}
+use Rattle.std.proofs.Common.{subst, inl, inr, arith, add-one, drop, get_or, length-append}
+use Rattle.std.proofs.Math.Seq.{drop-cons}
 use Rattle.std.proofs.lemmas.Bool.{cases_eq}
 use Rattle.std.proofs.lemmas.List.{take-append-le, take_at, length-take}
 use Rattle.std.proofs.lemmas.Option.{slice_get_within, same_Some}
@@ -98,3 +99,10 @@ pub element_at : {X : Type 0} (xs : List X) (i : ℕ) → i < length xs → (x :
 element_at [] i h = absurd (omega arith)
 element_at (x ∷ xs) zero h = (x, refl)
 element_at (x ∷ xs) (suc i) h = element_at xs i (omega arith)
+
+-- what is left of a history from an event on is the event and what is left after it
+pub left_from : {M : Type 0} (h : List (Event M)) (i : ℕ) (e f : Event M) → i < length h → e ≡ get_or h i e → e ≡ f
+    → drop i h ≡ f ∷ drop (i + 1) h
+left_from h i e f within is same =
+    let next : suc i ≡ i + 1 = omega arith in
+    drop-cons h i e within ∙ ap (λ x. x ∷ drop (suc i) h) (sym is ∙ same) ∙ ap (λ k. f ∷ drop k h) next

@@ -1,5 +1,5 @@
 -- What it is to find the least offset with a property.
-use Rattle.std.specs.Prelude.{◌≡◌, ℕ, ◌≤◌, nat_le, List, [], ◌∷◌, Option, Some, None, cond, drop, ◌⊎◌}
+use Rattle.std.specs.Prelude.{◌≡◌, ℕ, ◌≤◌, nat_le, List, [], ◌∷◌, Option, Some, None, cond, drop}
 
 -- an optional thing, as a list of one or none
 abbrev pub as_list : {X : Type 0} → Option X → List X

@@ -1,6 +1,6 @@
 -- What a call of the board with a lock for each mailbox promises, from what its steps told.
 use Rattle.std.proofs.Common.{◌≡◌, ◌≢◌, ℕ, ◌+◌, ◌-◌, ◌<◌, ◌≤◌, Bool, true, List, [], ◌∷◌, ◌++◌}
-use Rattle.std.proofs.Common.{length, set, get_or, Some, refl, sym, ap, ◌∙◌, subst, arith, Option, get_or-set_other}
+use Rattle.std.proofs.Common.{length, set, get_or, Some, refl, sym, ap, ◌∙◌, subst, arith, get_or-set_other}
 use Rattle.std.specs.Prelude.{IsSome}
 use mathlib.Core.Option.{some}
 use mathlib.Core.Logic.{dite}

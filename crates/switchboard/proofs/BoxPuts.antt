@@ -1,14 +1,12 @@
 -- What a post does while the mailbox is out.
-use Rattle.std.proofs.Common.{◌≡◌, ℕ, ◌+◌, ◌^◌, ◌<◌, ◌≤◌, List, [], ◌∷◌, Some, None, refl, sym, ap, ◌∙◌, arith, Option}
+use Rattle.std.proofs.Common.{◌≡◌, ℕ, ◌+◌, ◌^◌, ◌<◌, ◌≤◌, [], ◌∷◌, Some, None, refl, sym, ap, ◌∙◌, arith, Option}
 use Rattle.std.specs.Prelude.{IsSome}
 use lib.ListN.{get_elem?}
-use Rattle.atomic_table.specs.Table as table
-use Rattle.post_ledger.specs.declared.event.Event.{Event}
 use Rattle.post_ledger.specs.Orders.{own, HasJob}
 use Rattle.switchboard.specs.declared.calls.Abort.{Abort}
 use Rattle.switchboard.specs.declared.lock_per_box.knowing.Own.{Own}
 use Rattle.switchboard.specs.Proved.Entries.{job_stays}
-use Rattle.switchboard.specs.PerBox.{View, flag, LookedAtWord, Seat}
+use Rattle.switchboard.specs.PerBox.{flag, LookedAtWord, Seat}
 
 -- bit 63 is clear if there was no abort
 pub not_flagged : (low : ℕ) (a : Option Abort) → low + flag a < 2 ^ 63 → a ≡ None

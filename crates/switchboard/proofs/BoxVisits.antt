@@ -1,7 +1,6 @@
 -- What a pass of a board with a lock for each mailbox knows once it is inside a lock, and after it left.
-use Rattle.std.proofs.Common.{◌≡◌, ℕ, List, [], ◌∷◌, ◌++◌, length, None, refl, ap, ◌∙◌, subst, Option}
+use Rattle.std.proofs.Common.{◌≡◌, ℕ, List, [], ◌∷◌, ◌++◌, length, None, refl, ap, ◌∙◌, subst}
 use Rattle.std.proofs.Common.{length-append, eq-eqb, set-set}
-use Rattle.atomic_table.specs.Table as table
 use Rattle.ticket_lock.specs.declared.hand.Hand.{Hand}
 use Rattle.ticket_lock.specs.Count.{without}
 use Rattle.ticket_lock.specs.Calls as lock

@@ -1,7 +1,5 @@
 -- What a pass of the board with a lock for each mailbox does while a mailbox is out.
 use Rattle.std.specs.Prelude.{◌≡◌, ℕ, List, [], ◌∷◌, ◌++◌, Some, None, IsSome, Result, Ok, Err, length, slice_get}
-use Rattle.atomic_table.specs.Table.{Me}
-use Rattle.std.specs.Prelude.{Option}
 use Rattle.post_ledger.specs.declared.event.Event.{Event}
 use Rattle.post_ledger.specs.declared.event.Event.TheVariants.{Post, Take}
 use Rattle.post_ledger.specs.History.{posts, takes}

@@ -1,6 +1,6 @@
 -- The steps of the loop that reads statements.
 use Rattle.std.specs.Prelude.{option_and_then}
-use Rattle.std.proofs.Common.{◌≡◌, true, false, List, [], ◌∷◌, ◌++◌, Option, Some, None, refl, sym, ◌∙◌, ap}
+use Rattle.std.proofs.Common.{◌≡◌, ℕ, true, false, List, [], ◌∷◌, ◌++◌, length, Option, Some, None, refl, sym, ◌∙◌, ap, arith}
 use Rattle.language.specs.Tree.{Name, RightSide, leave, Block, done, Mark}
 use Rattle.tokens.specs.declared.vocabulary.Kind.{Kind}
 use Rattle.tokens.specs.declared.vocabulary.Kind.TheVariants as kind
@@ -124,6 +124,33 @@ pub deed_begins : (k : Kind) (ts us : List Token) (t : Token) → ts ≡ t ∷ u
     ≡ deed_by section (record { kind = k; at = t.at; text = t.text.now }) (toks_of us)
 unfolding deed
 deed_begins k ts us t e is = rw (e, is) refl
+
+-- nothing is read at the end, or where no statement begins
+pub no_deed_left : (ts : List Token) → length ts ≡ 0 → deed (toks_of ts) ≡ None
+unfolding deed
+no_deed_left [] e = refl
+no_deed_left (t ∷ ts) e = absurd (omega arith)
+
+no_deed_by : (k : Kind) (at : ℕ) (text : List ℕ) (us : List Tok) → (k ≡ kind.Skip → ⊥) → (k ≡ kind.Return → ⊥)
+    → (k ≡ kind.Goto → ⊥) → (k ≡ kind.Assert → ⊥) → (k ≡ kind.Assume → ⊥) → (k ≡ kind.If → ⊥) → (k ≡ kind.While → ⊥)
+    → (k ≡ kind.Id → ⊥) → deed_by section (record { kind = k; at = at; text = text }) us ≡ None
+unfolding same_kind
+no_deed_by kind.Skip at text us s r g a m f w i = absurd (s refl)
+no_deed_by kind.Return at text us s r g a m f w i = absurd (r refl)
+no_deed_by kind.Goto at text us s r g a m f w i = absurd (g refl)
+no_deed_by kind.Assert at text us s r g a m f w i = absurd (a refl)
+no_deed_by kind.Assume at text us s r g a m f w i = absurd (m refl)
+no_deed_by kind.If at text us s r g a m f w i = absurd (f refl)
+no_deed_by kind.While at text us s r g a m f w i = absurd (w refl)
+no_deed_by kind.Id at text us s r g a m f w i = absurd (i refl)
+no_deed_by _ at text us s r g a m f w i = refl
+
+pub no_deed_begins : (ts us : List Token) (t : Token) → ts ≡ t ∷ us → (t.kind ≡ kind.Skip → ⊥) → (t.kind ≡ kind.Return → ⊥)
+    → (t.kind ≡ kind.Goto → ⊥) → (t.kind ≡ kind.Assert → ⊥) → (t.kind ≡ kind.Assume → ⊥) → (t.kind ≡ kind.If → ⊥)
+    → (t.kind ≡ kind.While → ⊥) → (t.kind ≡ kind.Id → ⊥) → deed (toks_of ts) ≡ None
+no_deed_begins ts us t e s r g a m f w i =
+    deed_begins t.kind ts us t e refl
+    ∙ no_deed_by t.kind t.at t.text.now (toks_of us) s r g a m f w i
 
 -- `return` stands alone, or a value follows
 pub deed_leaves : (ts us : List Token) (t : Token) → ts ≡ t ∷ us → t.kind ≡ kind.Return

@@ -1,5 +1,5 @@
 -- The steps of the loops that look for a name.
-use Rattle.std.proofs.Common.{◌≡◌, ℕ, suc, ◌+◌, ◌<◌, ◌≤◌, Bool, false, List, [], ◌∷◌, length, drop, get_or, sym, ◌∙◌, ap, refl, arith}
+use Rattle.std.proofs.Common.{◌≡◌, ℕ, suc, ◌+◌, ◌<◌, ◌≤◌, Bool, true, false, List, [], ◌∷◌, length, drop, get_or, sym, ◌∙◌, ap, refl, arith}
 use Rattle.std.proofs.lemmas.List.{drop_more, drop_all}
 use Rattle.language.specs.Tree.{Name}
 use Rattle.language.specs.Rest.{same_text}
@@ -34,3 +34,29 @@ module _ {X : Type 0} (name : X → Name) (names : List X → List Name) (each :
       let one : is_declared text (names (drop i l)) ≡ is_declared text (names (drop (i + 1) l)) =
       ap (λ (xs : List X). is_declared text (names xs)) step ∙ ap (is_declared text) (each x (drop (i + 1) l)) ∙ rw other refl in
       sym one ∙ h
+
+  -- one that has the text ends the count
+  pub counted_at : (text : List ℕ) (l : List X) (i before all : ℕ) (x : X) → i < length l → x ≡ get_or l i x
+      → same_text text (name x).text ≡ true → before + number_of text (names (drop i l)) ≡ all → before ≡ all
+  counted_at text l i before all x lt is same h =
+      let step : drop i l ≡ x ∷ drop (i + 1) l = drop_more l i x lt ∙ ap (λ (y : X). y ∷ drop (i + 1) l) (sym is) in
+      let one : number_of text (names (drop i l)) ≡ 0 =
+      ap (λ (xs : List X). number_of text (names xs)) step ∙ ap (number_of text) (each x (drop (i + 1) l)) ∙ rw same refl in
+      omega (arith, h, one)
+
+  -- one that has the text is found
+  pub looked_at : (text : List ℕ) (l : List X) (i : ℕ) (all : Bool) (x : X) → i < length l → x ≡ get_or l i x
+      → same_text text (name x).text ≡ true → is_declared text (names (drop i l)) ≡ all → true ≡ all
+  looked_at text l i all x lt is same h =
+      let step : drop i l ≡ x ∷ drop (i + 1) l = drop_more l i x lt ∙ ap (λ (y : X). y ∷ drop (i + 1) l) (sym is) in
+      let one : is_declared text (names (drop i l)) ≡ true =
+      ap (λ (xs : List X). is_declared text (names xs)) step ∙ ap (is_declared text) (each x (drop (i + 1) l)) ∙ rw same refl in
+      sym one ∙ h
+
+  -- after the last, none is found
+  pub all_looked : (text : List ℕ) (l : List X) (i : ℕ) (all : Bool) → length l ≤ i → is_declared text (names (drop i l)) ≡ all
+      → false ≡ all
+  all_looked text l i all le h =
+      let no_more : is_declared text (names (drop i l)) ≡ false = ap (λ (xs : List X). is_declared text (names xs)) (drop_all i l le)
+      ∙ ap (is_declared text) none in
+      sym no_more ∙ h

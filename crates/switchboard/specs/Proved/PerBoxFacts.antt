@@ -3,12 +3,10 @@ use Rattle.std.proofs.Common.{◌≡◌, ◌≢◌, ◌⊎◌, inl, inr, ℕ, ze
 use Rattle.std.proofs.Common.{map, length, set, get_or, Some, refl, sym, ap, ◌∙◌, subst, arith, Option, length-set}
 use Rattle.std.proofs.Common.{get_or-set_other, get_or-set_same}
 use Rattle.std.proofs.lemmas.List.{get_or_past}
-use mathlib.Core.Option as maybe
 use mathlib.Core.Option.{some, some-injective, some-ne-none}
 use mathlib.Core.Logic.{dite}
 use native.Mathlib.Decide.{ℕ_discrete, dec_le}
 use lib.ListN.{get_elem?}
-use Rattle.atomic_table.specs.Table as table
 use Rattle.ticket_lock.specs.declared.hand.Hand.{Hand}
 use Rattle.ticket_lock.specs.Count.{times, total}
 use Rattle.ticket_lock.specs.History.{StartsWith, EndsIn}

@@ -68,3 +68,18 @@ pub returns-clause-bad : goal.returns-clause-bad
 returns-clause-bad g c =
     c.number_of_name-bad.ensures
     ∙ ap (λ l. number_of (codes "bad__") (names_of l)) (c.deref.ensures.value ∙ ap (λ z. z.globals.items) c.program-program.ensures)
+
+pub invariant_of-result : goal.invariant_of-result
+invariant_of-result g c =
+    let same = c.program-program.ensures in
+    record {
+      few =
+          omega (
+            arith,
+            c.loop-proc.invariant.0,
+            c.loop-proc.auto.proc-index-end,
+            ap length c.deref-proc-items.ensures.value,
+            ap (λ z. length z.procs.items) same,
+            c.args.sequential.now.few,
+          );
+    }

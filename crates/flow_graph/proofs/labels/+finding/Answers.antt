@@ -78,3 +78,15 @@ find_at-returns-in-None g t c =
     let size = c.size.ensures (omega (arith, whole, is_first, most)) in
     omega (arith, next, size, c.saturating_add.ensures, whole, is_first, most))
     c.in-None.ensures c.find-in-None.ensures
+
+pub find_at-find-requires : goal.find_at-find-requires
+find_at-find-requires g t c κs within =
+    let less : 2 * statements (block_of c.inside.result.0.now) + 1 < 2 * held (deed_of c.args.stmt.now.core) + 2 = omega
+    (arith, ap statements c.inside.ensures.first) in
+    (rw (← c.requires.1.0) less, within)
+
+pub find_at-find-requires-in-None : goal.find_at-find-requires-in-None
+find_at-find-requires-in-None g t c κs within =
+    let less : 2 * statements (block_of c.inside.result.1.now) + 1 < 2 * held (deed_of c.args.stmt.now.core) + 2 = omega
+    (arith, ap statements c.inside.ensures.second) in
+    (rw (← c.requires.1.0) less, within)

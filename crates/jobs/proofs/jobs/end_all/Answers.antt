@@ -1,8 +1,9 @@
 -- This is the result of one more job.
 use Rattle.std.proofs.Common.{◌≡◌, ◌∷◌, [], Some, length, slice_get, refl, ap, ◌∙◌, subst, arith, length-append}
+use Rattle.std.proofs.lemmas.Option.{slice_get_within}
 use Rattle.std.specs.Vec.Iter.{into_iter_items}
 use Rattle.jobs.proofs.Beginning.{Ended, ended_run, ended_none, have_come}
-use Rattle.jobs.proofs.Coming.{come, came_alone, came_at, come_all, more_by_place}
+use Rattle.jobs.proofs.Coming.{come, came_alone, came_at, came_near, come_all, more_by_place}
 use Rattle.jobs.proofs.jobs.end_all.Goals as goal
 use Rattle.jobs.proofs.jobs.end_all.Goals.{in-InThread, in-Without}
 
@@ -47,3 +48,28 @@ returns g c =
     (omega (arith, c.in-None.ensures.steps.0, c.loop-one.one-iterator.rest.ok.0)) in
     have_come g.J.Job.runs g.J.Job.declines g.L.Lineup.jobs c.args.begun.items c.loop-one.cames.items c.requires.begun
     (i.1 ∙ all) i.2
+
+pub loop-one-init : goal.loop-one-init
+loop-one-init g c =
+    let none = ap length c.requires.empty in (
+      c.into_iter-one-iterator.ensures.into_iter_gives.0,
+      none,
+      λ q b d there here. let within = slice_get_within c.args.cames.now.items q d here in absurd (omega (arith, within, none)),
+      c.requires.room,
+    )
+
+pub push_reserved-requires : goal.push_reserved-requires
+push_reserved-requires g c =
+    let i = c.loop-one.invariant in
+    let near = came_near c.loop-one.yielded (into_iter_items c.loop-one.one-iterator) (into_iter_items c.next.new.self) c.args.begun.items
+    c.in-Some.one _ i.0 c.in-Some.ensures.steps.0 i.1 in
+    omega (arith, near, i.3, c.loop-one.cames.ok.0)
+
+pub loop-one-smaller : goal.loop-one-smaller
+loop-one-smaller g c =
+    omega (
+      arith,
+      ap length c.in-Some.ensures.steps.0,
+      c.loop-one.one-iterator.rest.ok.0,
+      c.next.new.self.rest.ok.0,
+    )

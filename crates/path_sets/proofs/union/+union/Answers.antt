@@ -1,12 +1,13 @@
 use Rattle.std.proofs.Common.{◌≡◌, ℕ, ◌+◌, ◌/◌, ◌^◌, true, ◌⊎◌, ◌↔◌, ◌∷◌, ◌++◌}
-use Rattle.std.proofs.Common.{sym, ap, ◌∙◌, subst, length, refl}
+use Rattle.std.proofs.Common.{sym, ap, ◌∙◌, subst, length, refl, arith, rules}
 use Rattle.std.proofs.lemmas.Bool.{eqb-true}
 use Rattle.language.specs.Lists.{Member}
 use Rattle.path_sets.specs.declared.cell.Cell.{Cell}
 use Rattle.path_sets.specs.Masks.{bit_of}
+use Rattle.path_sets.specs.Walks.{IsNumber}
 use Rattle.path_sets.specs.Halves.{GoesOn, values_of}
 use Rattle.path_sets.specs.Quads.{Given, Joins, points_of, sees}
-use Rattle.path_sets.proofs.TwoBits.{keeps_on, stays_inside}
+use Rattle.path_sets.proofs.TwoBits.{keeps_on, keeps_self, stays_inside, turn_inside}
 use Rattle.path_sets.proofs.Unions.{all_alike, all_put, first_and_rest, goes_on, iff_on, led_inside, of_ok, stops}
 use Rattle.path_sets.proofs.union.+union.Goals as goal
 
@@ -73,3 +74,32 @@ returns-clause-joins g t c =
     (points_of ms r v) (sees ns c.loop-left.quad v) (same v)
     _ (c.loop-left.invariant.joins v point))
     c.make.ensures.same
+
+pub loop-left-init : goal.loop-left-init
+loop-left-init g t c =
+    let n0 = c.args.nodes.now.kept.keys in
+    record {
+      keeps = keeps_self n0;
+      inside = c.node-quad.ensures.inside;
+      joins = λ v point.
+          let Is : ℕ → Type 0 = λ (s : ℕ). (bit_of s point ≡ true) ⊎ Given c.args.cells.now c.args.level v point in
+          let same = c.node-quad.ensures.same v in
+          (λ h. subst Is same h, λ h. subst Is (sym same) h);
+    }
+
+pub union-requires : goal.union-requires
+union-requires g t c κs within =
+    let x = c.loop-left.quad in
+    let deep = c.in-Some.ensures.level in
+    let ns = c.loop-left.nodes.kept.keys in
+    let inside = subst (IsNumber ns) (sym c.turn.ensures) (turn_inside ns x c.in-Some.two c.loop-left.invariant.inside) in
+    (rw (← c.decreases) (omega (arith, deep)), (within, (omega (arith, deep), inside)))
+
+pub overflow_cast-two : goal.overflow_cast-two
+overflow_cast-two g t c = search rules
+
+pub overflow_cast-two-in-Some : goal.overflow_cast-two-in-Some
+overflow_cast-two-in-Some g t c = search rules
+
+pub overflow_add-level : goal.overflow_add-level
+overflow_add-level g t c = omega (arith, c.in-Some.ensures.level)

@@ -1,6 +1,7 @@
 -- One event more: what it has of the sender at the side comes to the end of what was found.
 use Rattle.std.proofs.Common.{◌≡◌, ◌∷◌, ◌++◌, ◌+◌, [], ℕ, List, ◌==◌, ◌∙◌, Option, Some, None, refl, sym, ap, subst, drop, map, filter}
 use Rattle.std.proofs.Common.{append_assoc, arith, suc}
+use Rattle.std.proofs.lemmas.List.{append-nil, at_drop_all}
 use Rattle.std.proofs.Math.Seq.{drop-cons}
 use Rattle.std.proofs.lemmas.List.{map-append}
 use Rattle.std.proofs.lemmas.List.Elements.{filter-append}
@@ -23,6 +24,10 @@ module _ {M : Type 0} where
   on_both : (side : Side) (sender : ℕ) (xs ys : List (Event M)) → on_side side sender (xs ++ ys) ≡ on_side side sender xs ++ on_side side sender ys
   on_both Posts sender xs ys = ap (messages_of sender) (posts-append xs ys) ∙ of_both sender (posts xs) (posts ys)
   on_both Takes sender xs ys = ap (messages_of sender) (takes-append xs ys) ∙ of_both sender (takes xs) (takes ys)
+
+  on_none : (side : Side) (sender : ℕ) → on_side {M = M} side sender [] ≡ []
+  on_none Posts sender = refl
+  on_none Takes sender = refl
 
   one_of : (r : Option M) (N : Type 0) (S : M → Type 0) (m : M) → MatchOption r N S → r ≡ Some m → S m
   one_of r N S m h is = subst (λ o. MatchOption o N S) is h
@@ -58,3 +63,14 @@ loop-event-preserved g c =
           ∙ ap (λ l. found ++ l) (sym (parts ∙ ap (λ l. l ++ on rest) none))
           ∙ c.loop-event.invariant
     ]
+
+pub loop-event-init : goal.loop-event-init
+loop-event-init g c = ap (λ l. l ++ on_side c.args.side c.args.sender c.args.history.now) c.new-messages.ensures.items
+
+pub returns : goal.returns
+returns g c =
+    let history = c.args.history.now in
+    let found = c.loop-event.messages.items in
+    let none = at_drop_all (on_side c.args.side c.args.sender) history c.loop-event.event-index c.loop-event-test.false
+    ∙ on_none c.args.side c.args.sender in
+    sym (append-nil found) ∙ ap (λ l. found ++ l) (sym none) ∙ c.loop-event.invariant

@@ -1,4 +1,4 @@
-use Rattle.std.proofs.Common.{ℕ, Option, Some, inl, inr, ap, option_map, ◌∙◌}
+use Rattle.std.proofs.Common.{ℕ, Option, Some, inl, inr, ap, option_map}
 use Rattle.language.specs.Tree.{Name, Expression}
 use Rattle.trees.specs.Trees.{expr_of}
 use Rattle.resolved.specs.Statements.{lent, variables_of}

@@ -59,3 +59,18 @@ returns g c =
     let ws = c.loop-at.writes.items in
     let all = all_written s xs ys c.loop-at.at ws (omega (arith, c.min-count.ensures)) c.loop-at.invariant in
     assigns _ s (names_of xs) (rhss_of ys) all (c.last_choice-last.ensures ∙ ap (λ l. 2 ^ anys l) c.as_slice.ensures.value)
+
+pub overflow_add-at : goal.overflow_add-at
+overflow_add-at g c = omega (arith, c.loop-at-test.true)
+
+pub bounds-targets-at : goal.bounds-targets-at
+bounds-targets-at g c = omega (arith, c.loop-at-test.true, c.min-count.ensures)
+
+pub bounds-sides-at : goal.bounds-sides-at
+bounds-sides-at g c = omega (arith, c.loop-at-test.true, c.min-count.ensures)
+
+pub slice_bounds-lasting-start : goal.slice_bounds-lasting-start
+slice_bounds-lasting-start g c = omega (arith, c.loop-at-test.true, c.min-count.ensures)
+
+pub slice_bounds-lasting-end : goal.slice_bounds-lasting-end
+slice_bounds-lasting-end g c = omega (arith, c.loop-at-test.true, c.min-count.ensures)

@@ -1,5 +1,6 @@
 use Rattle.std.proofs.Common.{◌≡◌, ◌+◌, Bool, true, false, Some, length, refl, ap, sym, ◌∙◌, subst, arith}
 use Rattle.std.proofs.lemmas.Bool.{OnFalse_from, OnTrue_from}
+use Rattle.std.proofs.lemmas.Option.{slice_get_within}
 use Rattle.indexmap.specs.IndexMap.{keys}
 use Rattle.path_sets.specs.declared.spot.Spot.{Spot}
 use Rattle.path_sets.specs.Batches.{places_in}
@@ -8,6 +9,7 @@ use Rattle.path_sets.specs.Edges.{edge_at}
 use Rattle.path_sets.specs.Members.{all_edges, PutsEdge}
 use Rattle.path_sets.specs.Spots.{place_at}
 use Rattle.path_sets.specs.Triples.{Triple, triple}
+use Rattle.path_sets.proofs.Inserted.{none_more_if, one_more_if}
 use Rattle.path_sets.proofs.Grouped.{Groups}
 use Rattle.path_sets.proofs.Covered.{longer, members_kept, members_put, members_same, was_known, was_new}
 use Rattle.path_sets.proofs.Placed.{place_is}
@@ -101,3 +103,30 @@ returns-else-added-clause-known g c =
     let i = (goal.at.returns-else-added-clause-known g c).In_ok-added in
     OnFalse_from c.in_ok-added.added _
     (λ is. was_known _ _ (x g i) _ (old g i) (new g i) _ (fits g i) (edge g i) (here g i) (puts g i false is))
+
+pub returns-then-added-clause-len : goal.returns-then-added-clause-len
+returns-then-added-clause-len g c =
+    let i = (goal.at.returns-then-added-clause-len g c).In_ok-added in
+    one_more_if _ (all_edges c.settle.new.self.merged.nodes.kept.keys c.settle.new.self.merged.rows.entries (new g i))
+    c.in_ok-added.added c.if-added.true
+    (longer _ _ (x g i) _ (old g i) (new g i) _ (fits g i) (edge g i) (here g i) (puts g i true c.if-added.true))
+
+pub returns-else-added-clause-len : goal.returns-else-added-clause-len
+returns-else-added-clause-len g c =
+    let i = (goal.at.returns-else-added-clause-len g c).In_ok-added in
+    none_more_if _ (all_edges c.settle.new.self.merged.nodes.kept.keys c.settle.new.self.merged.rows.entries (new g i))
+    c.in_ok-added.added c.if-added.false
+    (members_same _ _ (x g i) _ (old g i) (new g i) _ (fits g i) (edge g i) (here g i) (puts g i false c.if-added.false))
+
+pub gather-requires-clause-bit : goal.gather-requires-clause-bit
+gather-requires-clause-bit g c = c.place_of-place.ensures.bit
+
+pub gather-requires-clause-row : goal.gather-requires-clause-row
+gather-requires-clause-row g c =
+    slice_get_within (keys c.settle.new.self.merged.rows) c.in_ok-row.row c.row_of.result c.in_ok-row.ensures.at
+
+pub gather-requires-clause-within : goal.gather-requires-clause-within
+gather-requires-clause-within g c = c.settle.new.self.within
+
+pub gather-requires-clause-covers : goal.gather-requires-clause-covers
+gather-requires-clause-covers g c = c.settle.new.self.covers

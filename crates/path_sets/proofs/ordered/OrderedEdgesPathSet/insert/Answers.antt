@@ -10,7 +10,7 @@ use Rattle.path_sets.specs.Inserts.{Inserts, PutsIn}
 use Rattle.path_sets.specs.declared.shards.Shard.{Shard}
 use Rattle.path_sets.specs.Shards.{all_in, AreHome, AreThere}
 use Rattle.path_sets.specs.Triples.{Triple, triple}
-use Rattle.path_sets.proofs.Inserted.{is_new_or_old, is_in, stays_in, one_longer, still_none_twice}
+use Rattle.path_sets.proofs.Inserted.{is_new_or_old, is_in, stays_in, none_more_if, one_longer, one_more_if, still_none_twice}
 use Rattle.path_sets.proofs.Sharded.{at_error, home_same, home_stays, same_all, settles_all}
 use Rattle.path_sets.proofs.ordered.OrderedEdgesPathSet.insert.Given as given
 use Rattle.path_sets.proofs.ordered.OrderedEdgesPathSet.insert.Goals as goal
@@ -148,3 +148,14 @@ returns-else-added-clause-known g c =
     let i = (goal.at.returns-else-added-clause-known g c).In_ok-added in
     OnFalse_from c.in_ok-added.added _ (λ is. subst (λ t. Member t (all_in c.args.self.now.shards.items)) c.place_of-place.ensures.edge
     (subst (Member (x g i)) c.in_ok-at.ensures.edges (settles g i false is).1))
+
+pub returns-then-added-clause-len : goal.returns-then-added-clause-len
+returns-then-added-clause-len g c =
+    let i = (goal.at.returns-then-added-clause-len g c).In_ok-added in
+    one_more_if _ (all_in (new g i)) c.in_ok-added.added c.if-added.true (one_longer _ _ _ (inserts g i c.if-added.true))
+
+pub returns-else-added-clause-len : goal.returns-else-added-clause-len
+returns-else-added-clause-len g c =
+    let i = (goal.at.returns-else-added-clause-len g c).In_ok-added in
+    none_more_if _ (all_in (new g i)) c.in_ok-added.added c.if-added.false
+    ((settles g i false c.if-added.false).0 ∙ i.in_ok-at.ensures.edges)

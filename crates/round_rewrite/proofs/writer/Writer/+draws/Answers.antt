@@ -21,4 +21,10 @@ returns-in-Value-clause-count g t c =
 
 pub returns-in-Any-clause-few : goal.returns-in-Any-clause-few
 returns-in-Any-clause-few g t c =
-    omega (arith, ap length c.in-Some.ensures.cases.0, c.draws-number.ensures.few, one_at_most c.is_shared.result c.from.result c.from.ensures)
+    let one = one_at_most c.is_shared.result c.from.result c.from.ensures in
+    omega (arith, ap length c.in-Some.ensures.cases.0, c.draws-number.ensures.few, one)
+
+pub overflow_add-result : goal.overflow_add-result
+overflow_add-result g t c =
+    let one = one_at_most c.is_shared.result c.from.result c.from.ensures in
+    omega (arith, ap length c.in-Some.ensures.cases.0, c.draws-number.ensures.few, one)

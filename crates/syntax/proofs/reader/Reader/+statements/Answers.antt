@@ -3,11 +3,12 @@ use Rattle.tokens.specs.declared.vocabulary.Kind.TheVariants as kind
 use Rattle.tokens.specs.Token.{toks_of, same_kind}
 use Rattle.syntax.specs.Exact.{marked, deed, item, condition, section, going_on, put_before, if_deed, while_deed}
 use Rattle.trees.specs.Trees.{Item, item_of, items_of, rhs_of, block_of}
-use Rattle.syntax.proofs.Exits.{refused}
-use Rattle.syntax.proofs.Closings.{closed_read, closed_shorter, less_still, refused_shorter}
+use Rattle.syntax.proofs.Exits.{refused, short_of_memory}
+use Rattle.syntax.proofs.Closings.{closed_read, closed_shorter, less_still, no_more, refused_shorter}
 use Rattle.trees.proofs.Folds.{item_is, deed_of-Skip, deed_of-Return, deed_of-If, deed_of-While}
 use Rattle.syntax.proofs.Goings.{sections_start, sections_no_start, sections_go_on, sections_refused, item_no_mark, item_no_deed}
 use Rattle.syntax.proofs.Goings.{item_whole, deed_leaves, deed_gives, deed_calls, deed_asks, deed_assigns, test_before, section_before}
+use Rattle.syntax.proofs.Goings.{no_deed_left, no_deed_begins}
 use Rattle.syntax.proofs.Goings.{if_refused, if_no_yes, if_no_no, if_whole, while_refused, while_no_body, while_whole, deed_begins}
 use Rattle.syntax.proofs.Loops.{pushed}
 use Rattle.syntax.proofs.reader.Reader.+statements.Goals as goal
@@ -277,3 +278,25 @@ repeat-returns-in_err-side-clause-shorter g t c = refused_shorter c.from_residua
 pub repeat-returns-in_err-body-clause-shorter : goal.repeat-returns-in_err-body-clause-shorter
 repeat-returns-in_err-body-clause-shorter g t c =
     refused_shorter c.from_residual-in_err-body.result _ c.args.tokens.now c.from_residual-in_err-body.ensures.1
+
+pub core-returns-in_default-clause-gives : goal.core-returns-in_default-clause-gives
+core-returns-in_default-clause-gives g t c = no_deed_left c.args.tokens.now c.in_default.ensures.cases
+
+pub core-returns-in_default-clause-shorter : goal.core-returns-in_default-clause-shorter
+core-returns-in_default-clause-shorter g t c = tt
+
+pub core-returns-in_default-kind : goal.core-returns-in_default-kind
+core-returns-in_default-kind g t c = record {
+  gives =
+      let n = c.in_default-kind in
+      no_deed_begins c.args.tokens.now c.in-Some.others.now c.in-Some.first.now c.in-Some.ensures.cases.0
+      n.not-Skip n.not-Return n.not-Goto n.not-Assert n.not-Assume n.not-If n.not-While n.not-Id;
+  shorter = tt;
+}
+
+pub statement-returns-clause-shorter : goal.statement-returns-clause-shorter
+statement-returns-clause-shorter g t c = no_more c.in_ok-core.ensures.shorter c.in_ok-label.ensures.no_longer
+
+pub statements-returns-in_err-put-clause-gives : goal.statements-returns-in_err-put-clause-gives
+statements-returns-in_err-put-clause-gives g t c =
+    short_of_memory _ c.from_residual-in_err-put.result _ _ c.from_residual-in_err-put.ensures.1 c.in_err-put.ensures.err

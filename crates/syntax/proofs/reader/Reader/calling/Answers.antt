@@ -2,6 +2,7 @@ use Rattle.std.proofs.Common.{refl}
 use Rattle.tokens.specs.Token.{toks_of}
 use Rattle.syntax.specs.Exact.{calling, name, arguments}
 use Rattle.syntax.proofs.Exits.{refused}
+use Rattle.syntax.proofs.Closings.{less_still, shorter_behind, refused_shorter}
 use Rattle.trees.proofs.Folds.{deed_of-Call}
 use Rattle.syntax.proofs.Parts.{strict_expression}
 use Rattle.syntax.proofs.reader.Reader.calling.Goals as goal
@@ -27,3 +28,15 @@ returns-in_err-arguments-clause-gives g c =
     refused _ c.from_residual-in_err-arguments.result _ (arguments (toks_of c.in_ok-name.others.now)) _
     c.from_residual-in_err-arguments.ensures.1
     (λ none. rw (c.in_ok-name.ensures.gives, none) refl) c.in_err-arguments.ensures.gives
+
+pub returns-clause-shorter : goal.returns-clause-shorter
+returns-clause-shorter g c =
+    shorter_behind c.ended.result c.in_ok-arguments.rest.now c.args.tokens.now
+    (less_still c.in_ok-arguments.ensures.shorter c.in_ok-name.ensures.shorter) c.ended.ensures.shorter
+
+pub returns-in_err-name-clause-shorter : goal.returns-in_err-name-clause-shorter
+returns-in_err-name-clause-shorter g c = refused_shorter c.from_residual.result _ c.args.tokens.now c.from_residual.ensures.1
+
+pub returns-in_err-arguments-clause-shorter : goal.returns-in_err-arguments-clause-shorter
+returns-in_err-arguments-clause-shorter g c =
+    refused_shorter c.from_residual-in_err-arguments.result _ c.args.tokens.now c.from_residual-in_err-arguments.ensures.1
