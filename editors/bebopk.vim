@@ -1,6 +1,5 @@
 " Vim syntax file for the language of bebopk (docs/LANGUAGE.md).
-" Copy or link it to ~/.vim/syntax/bebopk.vim, and put into ~/.vimrc:
-"   autocmd BufNewFile,BufRead *.bp setlocal filetype=bebopk
+" It goes to ~/.vim/syntax/bebopk.vim, and filetype.vim beside it to ~/.vim/ftdetect/bebopk.vim: `./build --install` puts both there.
 if exists("b:current_syntax")
   finish
 endif

@@ -1,0 +1,10 @@
+# Completion of bebopk for fish. `./build --install` puts it below share/fish/vendor_completions.d.
+complete -c bebopk -n __fish_use_subcommand -f -a check -d 'Answer whether some run of at most K rounds fails an assert'
+complete -c bebopk -n __fish_use_subcommand -f -a sequential -d 'Print the sequential program that K rounds are rewritten to'
+complete -c bebopk -n __fish_use_subcommand -f -a help -d 'Print the help of the program or of a command'
+complete -c bebopk -n __fish_use_subcommand -s V -l version -d 'Print the version'
+complete -c bebopk -s h -l help -d 'Print help'
+complete -c bebopk -n '__fish_seen_subcommand_from check sequential' -l rounds -x -a '1 2 3 4 5 6 7 8' -d 'How many rounds'
+complete -c bebopk -n '__fish_seen_subcommand_from check' -l edges -x -a '1000000 16777216' -d 'How many path edges a procedure may have'
+complete -c bebopk -n '__fish_seen_subcommand_from check' -l stats -d 'Also count what was found of each procedure'
+complete -c bebopk -n '__fish_seen_subcommand_from help' -f -a 'check sequential help'
