@@ -1,4 +1,4 @@
-//! Two posts at once, to two mailboxes, with a lock for each.
+//! Two posts at once with a lock for each mailbox: to two mailboxes, and to one.
 ghost use Rattle.std.specs.Prelude.{◌≡◌, ◌<◌};
 ghost use Rattle.post_ledger.specs.Orders.{HasJob};
 
@@ -6,8 +6,8 @@ use crate::boards::{Letter, Letters, done, post, takes, two};
 use std::alloc::Global;
 use std::process::Abort;
 use std::sync::Wait;
-use std::sync::atomic::AtomicBool;
 use std::sync::atomic::Ordering::SeqCst;
+use std::sync::atomic::{AtomicBool, AtomicU32};
 use std::thread;
 use std::thread::{Threads, join};
 use switchboard::{BoxPass, Job, LockPerBox};
@@ -19,9 +19,12 @@ type Pass = BoxPass<Letter, (), Global>;
 // How many turns a thread waits for the other, at most.
 const TURNS: u32 = 10_000_000;
 
+// How many turns a thread waits for what must not come.
+const FEW_TURNS: u32 = 100_000;
+
 // Waits until the flag is raised, and yields between two turns. Returns whether it was.
-fn raised(flag: &AtomicBool) -> bool {
-    for _turn in 0..TURNS {
+fn raised(flag: &AtomicBool, turns: u32) -> bool {
+    for _turn in 0..turns {
         if flag.load(SeqCst) {
             return true;
         }
@@ -30,12 +33,21 @@ fn raised(flag: &AtomicBool) -> bool {
     false
 }
 
-// What the two threads tell each other: that the first is inside, and that the second's post has returned.
+// What the two threads tell each other: that the first is inside, how often it came there, that the second's post has returned, and
+// whether that was while the first was inside.
 #[derive(Drop)]
 struct Flags {
     begun: AtomicBool,
+    calls: AtomicU32,
     answered: AtomicBool,
-    gave_up: AtomicBool,
+    answered_inside: AtomicBool,
+}
+
+// The mailbox of the second post, and how many turns the first waits inside for its end.
+#[derive(Clone, Copy)]
+struct Meeting {
+    to: u8,
+    turns: u32,
 }
 
 // Posts 12 to mailbox 0, and waits inside for the other's post.
@@ -45,6 +57,7 @@ fn first<R: Wait + Abort>(
     mut pass: Pass,
     job: &Job,
     flags: &Flags,
+    meeting: Meeting,
 ) -> (Pass, bool)
     requires board { pass.board ≡ board.now.table.shared.table_id }
     requires job { HasJob pass.number job.now pass.seen.order }
@@ -59,33 +72,35 @@ fn first<R: Wait + Abort>(
         0,
         Letter(12),
         &|| {
+            flags.calls.fetch_add(1, SeqCst);
             flags.begun.store(true, SeqCst);
-            if !raised(&flags.answered) {
-                flags.gave_up.store(true, SeqCst);
+            if raised(&flags.answered, meeting.turns) {
+                flags.answered_inside.store(true, SeqCst);
             }
         },
     );
     (pass, answer.is_ok())
 }
 
-// Posts 13 to mailbox 1, once the other is inside.
+// Posts 13, once the other is inside.
 fn second<R: Wait + Abort, B: Letters>(
     rt: &R,
     board: &B,
     mut pass: B::Pass,
     job: &Job,
     flags: &Flags,
+    to: u8,
 ) -> (B::Pass, bool)
 where
     B::Pass: Drop,
     requires board { (B.sight pass).board ≡ B.identity board.now }
     requires job { HasJob (B.sight pass).number job.now (B.sight pass).seen.order }
-    requires boxes { 1 < (B.sight pass).seen.boxes }
+    requires boxes { to < (B.sight pass).seen.boxes }
     ensures pass { ((B.sight result.0).board ≡ (B.sight pass).board)
         × HasJob (B.sight result.0).number job.now (B.sight result.0).seen.order }
 {
-    let begun = raised(&flags.begun);
-    let answer = post(rt, board, &mut pass, job, 1, 13);
+    let begun = raised(&flags.begun, TURNS);
+    let answer = post(rt, board, &mut pass, job, to, 13);
     flags.answered.store(true, SeqCst);
     (pass, begun && answer.is_ok())
 }
@@ -97,10 +112,11 @@ fn both<R: Threads + Wait + Abort + Sync>(
     zero: (Pass, &Job),
     one: (Pass, &Job),
     flags: &Flags,
+    meeting: Meeting,
 ) -> ((Pass, bool), (Pass, bool))
     requires zero { (zero.0.board ≡ board.now.table.shared.table_id) × (0 < zero.0.seen.boxes)
         × HasJob zero.0.number zero.1.now zero.0.seen.order }
-    requires one { (one.0.board ≡ board.now.table.shared.table_id) × (1 < one.0.seen.boxes)
+    requires one { (one.0.board ≡ board.now.table.shared.table_id) × (meeting.to < one.0.seen.boxes)
         × HasJob one.0.number one.1.now one.0.seen.order }
     ensures zero { (result.0.0.board ≡ board.now.table.shared.table_id)
         × HasJob result.0.0.number zero.entry.1.now result.0.0.seen.order }
@@ -111,8 +127,8 @@ fn both<R: Threads + Wait + Abort + Sync>(
     let (one, one_job) = one;
     join(
         rt,
-        move || first(rt, board, zero, zero_job, flags),
-        move || second(rt, board, one, one_job, flags),
+        move || first(rt, board, zero, zero_job, flags, meeting),
+        move || second(rt, board, one, one_job, flags, meeting.to),
     )
 }
 
@@ -150,22 +166,45 @@ where
     done(rt, board, &mut pass, job);
 }
 
-#[test]
-fn two_posts_at_once(rt: HostRuntime) {
-    let (board, (zero, zero_job), (one, one_job)) = begun::<_, Boxes>(&rt, rt.alloc());
+// Whether the second post returned while the first was inside, where both were made and the first was inside once.
+fn returned_inside<R: Threads + Wait + Abort + Sync + AllocGlobal>(rt: &R, meeting: Meeting) -> bool
+    requires { meeting.to < 2 }
+{
+    let (board, (zero, zero_job), (one, one_job)) = begun::<_, Boxes>(rt, rt.alloc());
     let flags = Flags {
         begun: AtomicBool::new(false),
+        calls: AtomicU32::new(0),
         answered: AtomicBool::new(false),
-        gave_up: AtomicBool::new(false),
+        answered_inside: AtomicBool::new(false),
     };
     let ((zero, zero_posted), (one, one_posted)) = both(
-        &rt,
+        rt,
         &board,
         (zero, &zero_job),
         (one, &one_job),
         &flags,
+        meeting,
     );
-    ends(&rt, &board, (zero, zero_job), (one, one_job));
+    ends(rt, &board, (zero, zero_job), (one, one_job));
     assert!(rt; zero_posted && one_posted);
-    assert!(rt; !flags.gave_up.load(SeqCst));
+    assert!(rt; flags.calls.load(SeqCst) == 1);
+    flags.answered_inside.load(SeqCst)
+}
+
+#[test]
+fn two_posts_at_once(rt: HostRuntime) {
+    let meeting = Meeting {
+        to: 1,
+        turns: TURNS,
+    };
+    assert!(rt; returned_inside(&rt, meeting));
+}
+
+#[test]
+fn a_post_waits_for_the_lock_of_its_mailbox(rt: HostRuntime) {
+    let meeting = Meeting {
+        to: 0,
+        turns: FEW_TURNS,
+    };
+    assert!(rt; !returned_inside(&rt, meeting));
 }

@@ -54,6 +54,25 @@ fn refuses_none_at_zero(rt: HostRuntime) {
     has_one_block(&rt, rt.alloc());
 }
 
+/// Whether room for so many bytes is refused, and then, with one byte there, room for so many more.
+fn refuses_room<A: Allocator + Copy>(alloc: A, size: usize) -> (bool, bool) {
+    let first = Vec::<u8, A>::with_capacity(alloc, size).is_err();
+    let mut bytes = Vec::new(alloc);
+    let second = bytes.push(7u8).is_err() || bytes.reserve(size).is_err();
+    (first, second)
+}
+
+#[test]
+fn refuses_large_requests_too(rt: HostRuntime) {
+    for size in &[1usize, 4_096, 65_536, 1_048_576, 16_777_216] {
+        let scarce = Scarce::refusing(rt.alloc(), 1);
+        assert!(rt; refuses_room(&scarce, *size) == (true, false));
+        // The second request is for the byte, and the third for the growth.
+        let scarce = Scarce::refusing(rt.alloc(), 3);
+        assert!(rt; refuses_room(&scarce, size + 8) == (false, true));
+    }
+}
+
 /// Whether one more box is refused.
 fn refuses_a_box<A: Allocator>(alloc: A) -> bool {
     Box::new(alloc, 3u8).is_err()

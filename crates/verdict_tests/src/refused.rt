@@ -181,7 +181,7 @@ pub fn over_pairs<R: Print + AllocGlobal + Wait + Threads + Sync>(
 ) -> io::Result<()> {
     let reply = answer(rt, text, order);
     for pair in 1..4 {
-        let scarce = Scarce::refusing(rt.alloc(), ALL);
+        let scarce = Scarce::refusing(rt.alloc(), 0);
         if came_of(rt, &scarce, pair, text, order, &reply) != Came::Whole {
             return rt.print("another reply\n");
         }
