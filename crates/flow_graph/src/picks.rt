@@ -1,6 +1,6 @@
 //! Expressions of many bits, as truth tables by the values of a few.
 
-ghost use Rattle.std.specs.Prelude.{◌≡◌, ◌<◌, ◌≤◌, ℕ, get_or, length, IfOk, IfSome};
+ghost use Rattle.std.specs.Prelude.{◌≡◌, ◌≢◌, ◌<◌, ◌≤◌, ℕ, get_or, length, IfOk, IfSome};
 ghost use Rattle.flow_graph.specs.Tables.{AreBits};
 ghost use Rattle.flow_graph.specs.Windows.{seen};
 ghost use Rattle.flow_graph.specs.Views.{over_bits, IsSmall};
@@ -51,6 +51,8 @@ impl<A: Allocator> Picks<A> {
 fn take_most_read(counts: &mut Counts) -> u8
     ensures place { result < most_places }
     ensures most { (k : ℕ) → k < most_places → get_or counts.old k 0 ≤ get_or counts.old result 0 }
+    ensures taken { get_or counts.new result 0 ≡ 0 }
+    ensures others { (k : ℕ) → k ≢ result → get_or counts.new k 0 ≡ get_or counts.old k 0 }
 {
     let mut most: usize = 0;
     for bit in 1..MOST_PLACES {

@@ -75,11 +75,12 @@ abbrev pub IsLeastOf : List End → Option Failure → Type 0
 IsLeastOf ends None = NoneFailed ends
 IsLeastOf ends (Some failure) = IsLeastFailure ends failure
 
--- The failure is one of the two, and its rank is at most those of both.
+-- The failure is one of the two, and its rank is at most those of both; of two with one rank it is the first.
 pub record IsLesser (one : Option Failure) (other failure : Failure) : Type 0 where
   pub either : (one ≡ Some failure) ⊎ (failure ≡ other)
   pub below : rank_of failure.cause ≤ rank_of other.cause
   pub least : (f : Failure) → one ≡ Some f → rank_of failure.cause ≤ rank_of f.cause
+  pub first : (f : Failure) → one ≡ Some f → rank_of f.cause ≤ rank_of other.cause → failure ≡ f
 
 -- The summaries are those of the programs that the graphs are drawn from, if no procedure has more path edges than
 -- the limit, the board is closed, and every worker has ended at the close.

@@ -1,5 +1,7 @@
 //! Who decides whether a worker may have a thread.
 
+ghost use Rattle.std.specs.Prelude.{IsTrue};
+
 /// Says before each start whether a worker may have a thread. If it says no, that counts as a start that the system
 /// refused.
 pub trait Hire {
@@ -13,7 +15,9 @@ pub trait Hire {
 pub struct Always;
 
 impl Hire for Always {
-    fn may(&self, lane: u8) -> bool {
+    fn may(&self, lane: u8) -> bool
+        ensures { IsTrue result }
+    {
         let _ = lane;
         true
     }

@@ -1,5 +1,5 @@
 //! Where a job waits for its thread.
-ghost use Rattle.std.specs.Prelude.{◌≡◌, [], List, Some, slice_get, IfSome};
+ghost use Rattle.std.specs.Prelude.{◌≡◌, [], List, Some, slice_get, IfSome, IsNone};
 ghost use Rattle.std.specs.Option.{ForSome};
 
 use std::marker::{Brand, PhantomData};
@@ -38,7 +38,10 @@ impl<J, L: Lineup<J>> Slot<J, L> {
 
     /// The job with this number, if it is there.
     fn take(&mut self, number: u8) -> Option<J>
-        ensures { IfSome result (λ j. slice_get L.jobs number ≡ Some j) }
+        ensures own { IfSome result (λ j. slice_get L.jobs number ≡ Some j) }
+        ensures here { self.old.number ≡ number → result ≡ self.old.job }
+        ensures kept { IsNone result → self.new.job ≡ self.old.job }
+        ensures number { self.new.number ≡ self.old.number }
     {
         if self.number == number {
             self.job.take()

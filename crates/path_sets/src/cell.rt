@@ -78,7 +78,9 @@ fn turned(bits: u64) -> u64 {
 
 /// The key by which cells are sorted: those of a row come one after another, and within a row those whose first bits
 /// are the same.
-pub(crate) fn order_of(cell: &Cell) -> (usize, u64, u64) {
+pub(crate) fn order_of(cell: &Cell) -> (usize, u64, u64)
+    ensures { result.0 ≡ cell.now.row }
+{
     let high = if cell.high == 0 { 0 } else { turned(cell.high) };
     (cell.row, turned(cell.low), high)
 }

@@ -1,7 +1,7 @@
 //! Path edges that are gathered, in batches, before they go into the diagrams.
 
 ghost use Rattle.std.specs.Prelude.{◌≡◌, ◌<◌, ℕ, [], List, Some, length, slice_get, IfOk, OnErr};
-ghost use Rattle.std.specs.Prelude.{IfSome, IsNone, OnOk};
+ghost use Rattle.std.specs.Prelude.{◌≤◌, ◌⊎◌, IfSome, IsNone, IsSome, OnOk};
 ghost use Rattle.std.specs.Map.{keys_of};
 ghost use Rattle.indexmap.specs.IndexMap.{keys};
 ghost use Rattle.language.specs.Lists.{Member};
@@ -170,7 +170,11 @@ impl<A: Allocator + Copy> Gathered<A> {
 
     /// The number of the oldest batch, if as many places wait as may.
     pub(crate) fn full(&self) -> Option<usize>
-        ensures { IfSome result (λ k. k < length self.now.batches.items) }
+        ensures some { IfSome result (λ k. (k ≡ self.now.oldest)
+            × (k < length self.now.batches.items)) }
+        ensures many { IsSome result → self.now.most ≤ self.now.places }
+        ensures room { IsNone result → (self.now.places < self.now.most)
+            ⊎ (length self.now.batches.items ≤ self.now.oldest) }
     {
         if self.places >= self.most && self.oldest < self.batches.len() {
             return Some(self.oldest);

@@ -58,3 +58,10 @@ pub fn the_opening_fits_the_first_mailbox<G: Allocator>()
     ensures { (graphs : Graphs G) → 0 < length (graphs_of graphs)
         → FitsIn graphs 0 (Entry Starter 0) }
 {}
+
+/// Each message has numbers, and no two numbered messages are one message. So a message is due if all its numbers are:
+/// what `FitsIn` says of each of them is said of the message.
+pub fn each_message_has_its_numbers()
+    ensures some { (d : Due) → (k : NumberedMessage) × (due_of k ≡ d) }
+    ensures one { (j k : NumberedMessage) → due_of j ≡ due_of k → j ≡ k }
+{}

@@ -29,7 +29,7 @@ mod work;
 pub use due::{Caller, Due};
 pub use laws::{
     a_quiet_table_has_what_is_reached, a_table_keeps_path_edges_and_answers_what_is_due,
-    the_opening_fits_the_first_mailbox,
+    each_message_has_its_numbers, the_opening_fits_the_first_mailbox,
 };
 pub use no_verdict::NoVerdict;
 pub use pair::Pair;
