@@ -1,5 +1,6 @@
 -- What standard error says.
 use Rattle.std.specs.Prelude.{◌≡◌, ◌⊎◌, ℕ, List, [], ◌++◌, Option, None, Some, codes}
+use Rattle.diagnostics.specs.Name.{escaped}
 use Rattle.orders.specs.declared.order.Order.{Order}
 use Rattle.refusals.specs.Explained.{Explains, no_memory}
 use Rattle.refusals.specs.declared.refusal.Refusal.{Refusal}
@@ -13,7 +14,8 @@ abbrev pub IsMessage : List ℕ → List ℕ → Order → Option Refusal → Li
 IsMessage path text order None message = message ≡ []
 IsMessage path text order (Some why) message = IsExplanation path text order why message
 
--- The message is the file with the system's words after it, or says that memory ran out for it.
+-- The message is the name of the file, with an escape for each control character, and the system's words after it; or
+-- it says that memory ran out for it.
 abbrev pub IsReason : List ℕ → List ℕ → Type 0
 IsReason path message =
-    ((words : List ℕ) × (message ≡ path ++ (codes ": " ++ (words ++ codes "\n")))) ⊎ (message ≡ no_memory)
+    ((words : List ℕ) × (message ≡ escaped path ++ (codes ": " ++ (words ++ codes "\n")))) ⊎ (message ≡ no_memory)

@@ -6,6 +6,7 @@ ghost use Rattle.cli.specs.Streams.{Logs, Writes, streams};
 ghost use Rattle.cli.specs.Told.{IsReason};
 
 use crate::sink::Stream;
+use diagnostics::push_escaped;
 use refusals::NO_MEMORY;
 use std::alloc::{AllocError, Allocator};
 use std::io;
@@ -17,7 +18,7 @@ pub(crate) fn tell<L: Stream>(log: &mut L, message: &[u8])
     let _ = log.put(message);
 }
 
-/// The line that names what is read or written, and says why the system refuses it.
+/// The line that names what is read or written, with control characters as escapes, and says why the system refuses it.
 fn reason<A: Allocator + Copy>(
     alloc: A,
     name: &str,
@@ -26,7 +27,10 @@ fn reason<A: Allocator + Copy>(
     ensures { IfOk result (λ line. IsReason name.now (string_bytes line)) }
 {
     let words = format!(in alloc; "{error}")?;
-    format!(in alloc; "{name}: {words}\n")
+    let mut line = String::new(alloc);
+    push_escaped(&mut line, name)?;
+    write!(line, ": {words}\n")?;
+    Ok(line)
 }
 
 /// Writes to `log` why the system refuses to read or to write, or that memory ran out for this message.

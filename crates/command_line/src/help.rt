@@ -1,7 +1,7 @@
 //! The end of the help: what the replies and statuses mean, the limits, and an example. The version.
 
-/// What `--version` prints after the name: the version, and the line of the kit that the program is proved with.
-pub(crate) const VERSION: &str = "0.1.0\nrattle-kit-13f logic dac8208d650f15bf";
+/// What `--version` prints after the name: the version, and on a second line the logic that the proofs are in.
+pub(crate) const VERSION: &str = "0.1.0\nlogic dac8208d650f15bf";
 
 /// The end of the help of `bebopk`.
 pub(crate) const BEBOPK: &str = "\
@@ -23,7 +23,7 @@ Replies and statuses:
   no verdict: edge limit  3  some procedure has more than N path edges: try a greater N
   no verdict: memory      3  memory ran out
   no verdict: no worker   3  the system refused a thread: each procedure has one
-  no verdict: spent       3  a worker used up its 2^56 calls
+  no verdict: spent       3  a worker used up its 2^56 - 1 calls
 Standard error says where and why a text is refused.
 
 One round is enough for one thread. A check is smaller with fewer rounds, fewer bits for a

@@ -1,2 +1,3 @@
 pub mod Position
+pub mod Name
 pub mod Message

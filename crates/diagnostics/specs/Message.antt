@@ -5,13 +5,14 @@ use Rattle.std.specs.Char.{is_ascii_alphanumeric}
 use Rattle.std.specs.Fmt.{decimal}
 use Rattle.std.specs.Int.{is_in_range}
 use Rattle.std.specs.List.{before_first}
+use Rattle.diagnostics.specs.Name.{escaped}
 use Rattle.diagnostics.specs.Position.{IsPosition}
 use Rattle.diagnostics.specs.declared.message.Wrong.{Wrong}
 use Rattle.diagnostics.specs.declared.message.Wrong.TheVariants.{Edges, NotAscii, Unexpected, Wide, Word}
 
 -- the beginning of a message about a place: `FILE:LINE:COLUMN: `
 abbrev pub head : List ℕ → ℕ → ℕ → List ℕ
-head path line column = path ++ (codes ":" ++ (decimal line ++ (codes ":" ++ (decimal column ++ codes ": "))))
+head path line column = escaped path ++ (codes ":" ++ (decimal line ++ (codes ":" ++ (decimal column ++ codes ": "))))
 
 -- how a byte of a text is shown: a tab and what is printable stay, a carriage return is a blank, and another byte is a
 -- question mark
@@ -111,7 +112,7 @@ first_foreign text = position (λ byte. nat_le 128 byte) text
 
 -- the line for a text of which no byte is named
 abbrev pub some_foreign : List ℕ → List ℕ
-some_foreign path = path ++ codes ": a byte is not ASCII\n"
+some_foreign path = escaped path ++ codes ": a byte is not ASCII\n"
 
 -- The message is about the first byte that is not ASCII; if every byte is ASCII, it has no place.
 abbrev pub LocatesForeign : List ℕ → List ℕ → List ℕ → List ℕ → Type 0

@@ -7,6 +7,7 @@ ghost use Rattle.std.specs.Fmt.{decimal};
 ghost use Rattle.std.specs.String.{string_bytes};
 ghost use Rattle.diagnostics.specs.Message as told;
 
+use crate::name::push_escaped;
 use crate::position::{Position, position_of};
 use std::alloc::{AllocError, Allocator};
 
@@ -194,9 +195,10 @@ fn push_head<A: Allocator>(
     ensures { OnOk result (string_bytes message.new
         ≡ string_bytes message.old ++ told.head path.now place.now.line place.now.column) }
 {
+    push_escaped(message, path)?;
     let line = place.line;
     let column = place.column;
-    write!(message, "{path}:{line}:{column}: ")
+    write!(message, ":{line}:{column}: ")
 }
 
 /// Writes how many places a procedure needs, and how many it may have.
@@ -332,6 +334,15 @@ fn first_foreign(text: &[u8]) -> Option<usize>
     text.iter().position(|byte| *byte >= 128)
 }
 
+/// Writes that a byte of the text is not ASCII, without a place.
+fn push_some_foreign<A: Allocator>(message: &mut String<A>, path: &str) -> Result<(), AllocError>
+    ensures { OnOk result
+        (string_bytes message.new ≡ string_bytes message.old ++ told.some_foreign path.now) }
+{
+    push_escaped(message, path)?;
+    push(message, ": a byte is not ASCII\n")
+}
+
 /// Writes that a byte of the text is not ASCII, and where the first one is.
 pub fn not_ascii<A: Allocator>(
     message: &mut String<A>,
@@ -343,6 +354,6 @@ pub fn not_ascii<A: Allocator>(
 {
     match first_foreign(text) {
         Some(at) => at_byte(message, path, text, at, Wrong::NotAscii),
-        None => write!(message, "{path}: a byte is not ASCII\n"),
+        None => push_some_foreign(message, path),
     }
 }

@@ -7,6 +7,7 @@ use Rattle.syntax.specs.declared.fault.ReadFault.TheVariants as read
 use Rattle.checked.specs.declared.fault.ScopeFault.{ScopeFault}
 use Rattle.checked.specs.declared.fault.ScopeFault.TheVariants as scope
 use Rattle.resolved.specs.Limits.{most_places}
+use Rattle.diagnostics.specs.Name.{escaped}
 use Rattle.diagnostics.specs.Message.{Locates, LocatesForeign, exceeds, first_word, needs, of_name, unexpected}
 use Rattle.path_sets.specs.EdgeLimits.{most_of}
 use Rattle.path_sets.specs.Limits.{most_edges}
@@ -50,15 +51,18 @@ scope_told text scope.Memory = None
 abbrev pub no_memory : List ℕ
 no_memory = codes "bebopk: out of memory\n"
 
+-- the line for a text that is too long
+abbrev pub long_line : List ℕ → List ℕ
+long_line path = escaped path ++ (codes ": the text has more than " ++ (decimal most_bytes ++ codes " bytes\n"))
+
 -- Why a text is not read is said at a place in it, or in a line about the file.
 abbrev pub ExplainsUnread : List ℕ → List ℕ → ReadFault → List ℕ → List ℕ → Type 0
-ExplainsUnread path text read.TooLong old new =
-    new ≡ old ++ (path ++ (codes ": the text has more than " ++ (decimal most_bytes ++ codes " bytes\n")))
+ExplainsUnread path text read.TooLong old new = new ≡ old ++ long_line path
 ExplainsUnread path text read.NotAscii old new = LocatesForeign path text old new
 ExplainsUnread path text (read.Syntax at) old new =
     (located : List ℕ) × Locates path text (min (length text) at) unexpected old located
     × AddsHint text (min (length text) at) located new
-ExplainsUnread path text read.TooDeep old new = new ≡ old ++ (path
+ExplainsUnread path text read.TooDeep old new = new ≡ old ++ (escaped path
     ++ codes ": more than 64 of `(`, `begin`, `if` and `while` are open at once, or more than 64 operators are in one run\n")
 ExplainsUnread path text read.Memory old new = new ≡ old ++ no_memory
 
@@ -83,7 +87,7 @@ ways_out rounds most = if most == most_edges then no_higher rounds else higher r
 -- the line about `main__`, which has no place, and has more path edges than this
 abbrev pub main_line : List ℕ → ℕ → List ℕ
 main_line path most =
-    path ++ (codes ": `main__`, which calls the threads, has more than " ++ (decimal most ++ codes " path edges\n"))
+    escaped path ++ (codes ": `main__`, which calls the threads, has more than " ++ (decimal most ++ codes " path edges\n"))
 
 -- Which procedure has more path edges than this is said at its name, or in the line about `main__`.
 abbrev pub TellsOver : List ℕ → List ℕ → Option ℕ → ℕ → List ℕ → List ℕ → Type 0
@@ -102,7 +106,7 @@ ExplainsLimit path text at (Sequential rounds) old new = new ≡ old
 -- the line for a program that is too wide in some procedure
 abbrev pub wide_line : List ℕ → ℕ → List ℕ
 wide_line path rounds =
-    path ++ (codes ": some procedure needs more than " ++ (decimal most_places
+    escaped path ++ (codes ": some procedure needs more than " ++ (decimal most_places
     ++ (codes " places with --rounds " ++ (decimal rounds ++ codes "\n"))))
 
 -- The message continues the old one with what is said about the refusal: at a place, which is the text's end if the
@@ -118,6 +122,6 @@ Explains path text order (TooWide wide) old new =
 Explains path text order (EdgeLimit at) old new = ExplainsLimit path text at order old new
 Explains path text order Memory old new = new ≡ old ++ no_memory
 Explains path text order NoWorker old new =
-    new ≡ old ++ (path ++ codes ": the system refused a thread for a procedure\n")
+    new ≡ old ++ (escaped path ++ codes ": the system refused a thread for a procedure\n")
 Explains path text order Spent old new =
-    new ≡ old ++ (path ++ codes ": the worker of a procedure has used up its calls\n")
+    new ≡ old ++ (escaped path ++ codes ": the worker of a procedure has used up its calls\n")

@@ -3,14 +3,15 @@
 ghost use Rattle.std.specs.Prelude.{◌≡◌, ◌++◌, OnOk, option_map};
 ghost use Rattle.std.specs.String.{string_bytes};
 ghost use Rattle.refusals.specs.Explained.{Explains, ExplainsLimit, ExplainsUnread, TellsOver, no_memory};
+ghost use Rattle.diagnostics.specs.Name.{escaped};
 ghost use Rattle.orders.specs.Parts.{rounds_of};
 ghost use Rattle.refusals.specs.Explained.{is_constant, one_round, scope_told, undeclared};
-ghost use Rattle.refusals.specs.Explained.{ways_out};
+ghost use Rattle.refusals.specs.Explained.{long_line, main_line, ways_out, wide_line};
 ghost use Rattle.refusals.specs.declared.refusal.Refusal.TheVariants.{TooWide};
 
 use crate::hints::{is, push_hint, rest_of};
 use crate::refusal::Refusal;
-use diagnostics::{Wrong, at_offset, first_word, not_ascii};
+use diagnostics::{Wrong, at_offset, first_word, not_ascii, push_escaped};
 use orders::Order;
 use path_sets::MOST_EDGES;
 use resolved::MOST_PLACES;
@@ -34,6 +35,28 @@ fn push_no_memory<A: Allocator>(message: &mut String<A>) -> Result<(), AllocErro
     message.push_str(NO_MEMORY)
 }
 
+/// Writes the name of the file, and these words after it.
+fn push_about<A: Allocator>(
+    message: &mut String<A>,
+    path: &str,
+    words: &str,
+) -> Result<(), AllocError>
+    ensures { OnOk result (string_bytes message.new
+        ≡ string_bytes message.old ++ (escaped path.now ++ words.now)) }
+{
+    push_escaped(message, path)?;
+    message.push_str(words)
+}
+
+/// Writes that the text is too long.
+fn push_too_long<A: Allocator>(message: &mut String<A>, path: &str) -> Result<(), AllocError>
+    ensures { OnOk result
+        (string_bytes message.new ≡ string_bytes message.old ++ long_line path.now) }
+{
+    push_escaped(message, path)?;
+    write!(message, ": the text has more than {MOST_BYTES} bytes\n")
+}
+
 /// Writes why a text is not read.
 fn unread<A: Allocator>(
     alloc: A,
@@ -46,18 +69,16 @@ fn unread<A: Allocator>(
         (string_bytes message.new)) }
 {
     match fault {
-        ReadFault::TooLong => write!(
-            message,
-            "{path}: the text has more than {MOST_BYTES} bytes\n"
-        ),
+        ReadFault::TooLong => push_too_long(message, path),
         ReadFault::NotAscii => not_ascii(message, path, text),
         ReadFault::Syntax(at) => {
             at_offset(message, path, text, *at, Wrong::Unexpected)?;
             push_hint(alloc, message, text, *at)
         }
-        ReadFault::TooDeep => write!(
+        ReadFault::TooDeep => push_about(
             message,
-            "{path}: more than 64 of `(`, `begin`, `if` and `while` are open at once, or more than 64 operators are in one run\n"
+            path,
+            ": more than 64 of `(`, `begin`, `if` and `while` are open at once, or more than 64 operators are in one run\n",
         ),
         ReadFault::Memory => push_no_memory(message),
     }
@@ -143,6 +164,22 @@ fn push_ways_out<A: Allocator>(
     }
 }
 
+/// Writes that `main__` has more path edges than a limit.
+fn push_main<A: Allocator>(
+    message: &mut String<A>,
+    path: &str,
+    edges: u32,
+) -> Result<(), AllocError>
+    ensures { OnOk result
+        (string_bytes message.new ≡ string_bytes message.old ++ main_line path.now edges) }
+{
+    push_escaped(message, path)?;
+    write!(
+        message,
+        ": `main__`, which calls the threads, has more than {edges} path edges\n"
+    )
+}
+
 /// Writes which procedure has more path edges than a limit: that whose name is at an offset, or `main__`.
 fn over<A: Allocator>(
     message: &mut String<A>,
@@ -156,10 +193,7 @@ fn over<A: Allocator>(
 {
     match at {
         Some(at) => at_offset(message, path, text, at, Wrong::Edges(edges)),
-        None => write!(
-            message,
-            "{path}: `main__`, which calls the threads, has more than {edges} path edges\n"
-        ),
+        None => push_main(message, path, edges),
     }
 }
 
@@ -193,6 +227,22 @@ fn rounds_in(order: Order) -> u8
     }
 }
 
+/// Writes that some procedure has too many places for this number of rounds.
+fn push_wide<A: Allocator>(
+    message: &mut String<A>,
+    path: &str,
+    rounds: u8,
+) -> Result<(), AllocError>
+    ensures { OnOk result
+        (string_bytes message.new ≡ string_bytes message.old ++ wide_line path.now rounds) }
+{
+    push_escaped(message, path)?;
+    write!(
+        message,
+        ": some procedure needs more than {MOST_PLACES} places with --rounds {rounds}\n"
+    )
+}
+
 /// Writes which procedure has too many places, and how many it needs for how many rounds.
 fn too_wide<A: Allocator>(
     message: &mut String<A>,
@@ -214,19 +264,16 @@ fn too_wide<A: Allocator>(
             wide.at,
             Wrong::Wide(wide.places, rounds, MOST_PLACES),
         ),
-        None => write!(
-            message,
-            "{path}: some procedure needs more than {MOST_PLACES} places with --rounds {rounds}\n"
-        ),
+        None => push_wide(message, path, rounds),
     }
 }
 
 /// Writes what standard error says about a refusal: for a fault at a place a line `FILE:LINE:COLUMN: ` with what is
 /// wrong there, the source line (at most 60 bytes of it before the place and 40 from it on, with `..` for what is left
-/// out), and a caret under the place; for each other refusal one line. Lines and columns are counted from 1, and each
-/// byte is a column. A line `hint: ` follows if a rule of the language, or of the command line, may help. The memory
-/// for the tokens before a syntax fault is taken from `alloc`. An error means that memory ran out; a part of the
-/// message may have been written.
+/// out), and a caret under the place; for each other refusal one line. Each control character of the file's name is
+/// written as an escape (`push_escaped`). Lines and columns are counted from 1, and each byte is a column. A line
+/// `hint: ` follows if a rule of the language, or of the command line, may help. The memory for the tokens before a
+/// syntax fault is taken from `alloc`. An error means that memory ran out; a part of the message may have been written.
 pub fn explain<A: Allocator>(
     alloc: A,
     message: &mut String<A>,
@@ -247,13 +294,15 @@ pub fn explain<A: Allocator>(
         Refusal::TooWide(wide) => too_wide(message, path, text, order, *wide),
         Refusal::EdgeLimit(at) => edge_limit(message, path, text, *at, order),
         Refusal::Memory => push_no_memory(message),
-        Refusal::NoWorker => write!(
+        Refusal::NoWorker => push_about(
             message,
-            "{path}: the system refused a thread for a procedure\n"
+            path,
+            ": the system refused a thread for a procedure\n",
         ),
-        Refusal::Spent => write!(
+        Refusal::Spent => push_about(
             message,
-            "{path}: the worker of a procedure has used up its calls\n"
+            path,
+            ": the worker of a procedure has used up its calls\n",
         ),
     }
 }

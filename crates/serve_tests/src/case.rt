@@ -14,6 +14,15 @@ use std::rt::Files;
 use std::sync::Wait;
 use std::thread::Threads;
 
+/// The files that rows of `file` can open. Each has the text of the row. The last three have control characters in their
+/// names.
+const FILES: &[&str] = &[
+    "a.bp",
+    "a\nb.bp",
+    "\u{1b}[1A\u{7f}.bp",
+    "\t\r\0\u{9b}\\n\u{e9}.bp",
+];
+
 /// One more byte than a text may have.
 const LONG: usize = 65_537;
 
@@ -43,7 +52,7 @@ pub fn answered<R: Files + Print + AllocGlobal + Wait + Threads + Sync>(
         return Ok(());
     };
     let (line, text) = rest.split_once(" | ").unwrap_or((rest, ""));
-    let words = words_behind(rt.alloc(), "bebopk", line);
+    let words = words_of(rt.alloc(), line);
     match how {
         "program" => print_run(rt, words, |path: &str| fs::open(rt, path)),
         "file" => {
@@ -57,9 +66,34 @@ pub fn answered<R: Files + Print + AllocGlobal + Wait + Threads + Sync>(
     }
 }
 
-/// The only file there is: `a.bp`, which has this text.
+/// The words of a line after the program's name, in which `{N}` stands for the character with the number N.
+fn words_of(alloc: Global, line: &str) -> Result<Vec<String>, AllocError> {
+    let mut words = Vec::new(alloc);
+    for word in words_behind(alloc, "bebopk", line)?.iter() {
+        words.push(spelled(alloc, word.as_str())?)?;
+    }
+    Ok(words)
+}
+
+/// The word, each `{N}` in it replaced by the character with the number N.
+fn spelled(alloc: Global, word: &str) -> Result<String, AllocError> {
+    let mut spelled = String::new(alloc);
+    for piece in word.split('{') {
+        match piece.split_once('}') {
+            Some((number, behind)) => {
+                let number = number.parse::<u32>().unwrap_or(0);
+                spelled.push(char::from_u32(number).unwrap_or(' '))?;
+                spelled.push_str(behind)?;
+            }
+            None => spelled.push_str(piece)?,
+        }
+    }
+    Ok(spelled)
+}
+
+/// A file that has this text.
 fn opened<'a>(text: &'a [u8], path: &str) -> io::Result<&'a [u8]> {
-    if path == "a.bp" {
+    if FILES.contains(&path) {
         Ok(text)
     } else {
         Err(io::Error::from(ErrorKind::NotFound))

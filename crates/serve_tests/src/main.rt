@@ -3,7 +3,7 @@
 //! | Line | What is printed under it |
 //! |---|---|
 //! | `program: WORDS` | what the program does for the words: the status, and what the standard output and the standard error took |
-//! | `file: WORDS \| TEXT` | the same if `a.bp` is the only file and has this text, in which `\n` stands for a line feed |
+//! | `file: WORDS \| TEXT` | the same if `a.bp`, and three files that have control characters in their names, are all there is, each with this text, in which `\n` stands for a line feed |
 //! | `broken COUNT: WORDS \| FILES` | how many lines of each kind `serve` writes for COUNT broken texts, made from these files in turn |
 //! | `HOW: WORDS \| TEXT` | the status that `serve` gives, and what the writer took; for a stream, what the log took too |
 //!
@@ -16,8 +16,8 @@
 //! | `writer fails after COUNT` | the writer fails after COUNT bytes |
 //! | `each allocation` | with each allocation refused in turn, which leaves the reply or leads to `no verdict: memory` |
 //!
-//! A line that begins with `#` is a heading, and has no answer. `long.bp` is a file of 65,537 bytes, which the program
-//! writes first.
+//! In the words `{N}` stands for the character with the number N. A line that begins with `#` is a heading, and has no
+//! answer. `long.bp` is a file of 65,537 bytes, which the program writes first.
 #![tactic(auto)]
 
 mod breaking;

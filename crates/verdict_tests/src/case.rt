@@ -4,7 +4,7 @@ use crate::beginnings::beginnings;
 use crate::message::{print_edge_limit, print_told, print_told_without};
 use crate::refused::{in_turn, over_pairs, sweep_of};
 use crate::schedules::schedules;
-use crate::text::bytes_of;
+use crate::text::{bytes_of, name_of};
 use crate::words::{asked, print_fault, print_order};
 use cli::{Order, Reply, answer};
 use std::alloc::Allocator;
@@ -35,21 +35,31 @@ fn to_text<R: Print + AllocGlobal + Wait + Threads + Sync>(
     let (how, words) = words.split_once(": ").unwrap_or(("", words));
     let text = bytes_of(rt.alloc(), text)?;
     match asked(rt.alloc(), words) {
-        Ok((order, file)) => match how {
-            "message" => print_told(rt, file.as_str(), text.as_slice(), order),
-            "message without memory" => {
-                print_told_without(rt, file.as_str(), text.as_slice(), order)
-            }
-            "message of the edge limit" => {
-                print_edge_limit(rt, file.as_str(), text.as_slice(), order)
-            }
-            _ => print_how(rt, how, text.as_slice(), order),
-        },
+        Ok((order, file)) => {
+            let file = name_of(rt.alloc(), file.as_str())?;
+            print_with(rt, how, file.as_str(), text.as_slice(), order)
+        }
         Err(fault) => print_fault(rt, &fault),
     }
 }
 
-/// Prints the answer to an order, asked in one of the ways of the table in `main.rt`.
+/// Prints the answer to an order on a file with this name and text, asked in one of the ways of the table in `main.rt`.
+fn print_with<R: Print + AllocGlobal + Wait + Threads + Sync>(
+    rt: &R,
+    how: &str,
+    file: &str,
+    text: &[u8],
+    order: Order,
+) -> io::Result<()> {
+    match how {
+        "message" => print_told(rt, file, text, order),
+        "message without memory" => print_told_without(rt, file, text, order),
+        "message of the edge limit" => print_edge_limit(rt, file, text, order),
+        _ => print_how(rt, how, text, order),
+    }
+}
+
+/// Prints the answer to an order, asked in one of the ways that need no name.
 fn print_how<R: Print + AllocGlobal + Wait + Threads + Sync>(
     rt: &R,
     how: &str,

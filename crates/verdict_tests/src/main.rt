@@ -16,7 +16,8 @@
 //! | `message without memory: WORDS \| TEXT` | the same, if the first allocation of the answer is refused |
 //! | `message of the edge limit: WORDS \| TEXT` | what standard error says if a procedure passes the limit of the words |
 //!
-//! A line that begins with `#` is a heading, and has no answer. A text may use the shorthand of `text.rt`.
+//! A line that begins with `#` is a heading, and has no answer. A text, and the name of a file in a row
+//! with a text, may use the shorthand of `text.rt`.
 #![tactic(auto)]
 
 mod beginnings;

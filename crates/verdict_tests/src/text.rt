@@ -1,6 +1,7 @@
 //! Texts with a shorthand for what is long or no character.
 
 use std::alloc::{AllocError, Global};
+use std::str;
 
 /// The bytes of a text: `{64*!}` stands for `!` 64 times, `{3,g}` for `g0,g1,g2`, and `{200}` for the byte 200.
 pub fn bytes_of(alloc: Global, text: &str) -> Result<Vec<u8>, AllocError> {
@@ -15,6 +16,12 @@ pub fn bytes_of(alloc: Global, text: &str) -> Result<Vec<u8>, AllocError> {
         }
     }
     Ok(bytes)
+}
+
+/// The name of a file with the same shorthand; empty if that is not UTF-8.
+pub fn name_of(alloc: Global, word: &str) -> Result<String, AllocError> {
+    let bytes = bytes_of(alloc, word)?;
+    String::from_str(alloc, str::from_utf8(bytes.as_slice()).unwrap_or(""))
 }
 
 /// Puts what stands for the inside of two braces.

@@ -5,4 +5,4 @@ use Rattle.diagnostics.proofs.message.not_ascii.Goals as goal
 pub returns-in-None : goal.returns-in-None
 returns-in-None g c =
     let none : first_foreign c.args.text.now ≡ None = sym c.first_foreign.ensures ∙ c.in-None.is in
-    rw none c.write.ensures.bytes
+    rw none c.push_some_foreign.ensures
