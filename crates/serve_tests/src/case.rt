@@ -54,11 +54,21 @@ pub fn answered<R: Files + Print + AllocGlobal + Wait + Threads + Sync>(
     let (line, text) = rest.split_once(" | ").unwrap_or((rest, ""));
     let words = words_of(rt.alloc(), line);
     match how {
-        "program" => print_run(rt, words, |path: &str| fs::open(rt, path)),
+        "program" => print_run(
+            rt,
+            words.map_err(io::Error::from),
+            |path: &str| fs::open(rt, path),
+        ),
         "file" => {
             let text = text.replace(rt.alloc(), "\\n", "\n")?;
-            print_run(rt, words, |path: &str| opened(text.as_bytes(), path))
+            print_run(
+                rt,
+                words.map_err(io::Error::from),
+                |path: &str| opened(text.as_bytes(), path),
+            )
         }
+        "a word is no UTF-8" => print_unread(rt, ErrorKind::InvalidData),
+        "no memory for the words" => print_unread(rt, ErrorKind::OutOfMemory),
         _ => match order(rt.alloc(), words?.as_slice()) {
             Ok((order, _file)) => to_text(rt, how, text, order),
             Err(_) => rt.print("no order\n"),
@@ -108,7 +118,7 @@ fn number_of(status: ExitCode) -> u8 {
 }
 
 /// Prints what the program does for words: its status, and what the standard output and the standard error took.
-fn print_run<R, F, O>(rt: &R, words: Result<Vec<String>, AllocError>, opener: O) -> io::Result<()>
+fn print_run<R, F, O>(rt: &R, words: io::Result<Vec<String>>, opener: O) -> io::Result<()>
 where
     R: Print + AllocGlobal + Wait + Threads + Sync,
     F: Read + Drop,
@@ -117,8 +127,17 @@ where
 {
     let mut written = Vec::new(rt.alloc());
     let mut log = Vec::new(rt.alloc());
-    let status = ended(rt, || Ok(words?), opener, &mut written, &mut log);
+    let status = ended(rt, || words, opener, &mut written, &mut log);
     print_both(rt, number_of(status), written.as_slice(), log.as_slice())
+}
+
+/// Prints what the program does where the system does not pass on the words.
+fn print_unread<R: Print + AllocGlobal + Wait + Threads + Sync>(
+    rt: &R,
+    kind: ErrorKind,
+) -> io::Result<()> {
+    let opener = |path: &str| opened(b"", path);
+    print_run(rt, Err(io::Error::from(kind)), opener)
 }
 
 /// Prints the result of a text, asked in one of the ways of the table in `main.rt`.
