@@ -5,12 +5,13 @@ ghost use Rattle.std.specs.Fn.{FnOnceReturnsAt};
 ghost use Rattle.std.specs.IoError.{error_kind};
 ghost use Rattle.std.specs.Process.{exit_status};
 ghost use Rattle.std.specs.String.{string_bytes};
-ghost use Rattle.cli.specs.Ended.{AreUnread, ProgramEnds, EndsAnswered};
+ghost use Rattle.cli.specs.Ended.{EndsAnswered, ProgramEnds, TellsNotPassed};
 ghost use Rattle.cli.specs.Streams.{streams};
 
-use crate::running::{decline, run};
+use crate::running::run;
+use crate::saying::{say, tell};
+use crate::serving::no_room;
 use crate::sink::Stream;
-use command_line::LineFault;
 use std::alloc::Global;
 use std::env;
 use std::io::{self, ErrorKind, Read};
@@ -19,17 +20,25 @@ use std::rt::Env;
 use std::sync::Wait;
 use std::thread::Threads;
 
-/// Why the system did not pass on the words: one is not UTF-8, or memory ran out.
-fn fault_of(alloc: Global, error: &io::Error) -> LineFault
-    ensures { AreUnread (error_kind error.now) result }
+/// Replies to words that the system did not pass on, and returns the status: `refused: line` with 2 if one is not UTF-8, and
+/// the reply for lack of memory with 3 otherwise. The reason is written to `log`. If a write to `writer` fails, the status
+/// is 3.
+fn not_passed<W: Stream, L: Stream>(
+    alloc: Global,
+    error: &io::Error,
+    writer: &mut W,
+    log: &mut L,
+) -> u8
+    ensures tells { TellsNotPassed (error_kind error.now)
+        (streams (W.held writer.old) (L.held log.old))
+        (streams (W.held writer.new) (L.held log.new)) result }
+    ensures status { (2 ≤ result) × (result ≤ 3) }
 {
     if error.kind() != ErrorKind::InvalidData {
-        return LineFault::Memory;
+        return no_room(alloc, writer, log);
     }
-    match String::from_str(alloc, "error: a word of the command line is no UTF-8\n") {
-        Ok(why) => LineFault::Refused(why),
-        Err(_) => LineFault::Memory,
-    }
+    tell(log, b"error: a word of the command line is no UTF-8\n");
+    say(alloc, writer, log, b"refused: line\n", 2)
 }
 
 /// The program: does what the words of the command line ask for, with the file that `opener` returns for the path among
@@ -57,10 +66,7 @@ where
 {
     match words() {
         Ok(words) => ExitCode::from(run(rt, words.as_slice(), opener, writer, log)),
-        Err(error) => {
-            let fault = fault_of(rt.alloc(), &error);
-            ExitCode::from(decline(rt.alloc(), &fault, writer, log))
-        }
+        Err(error) => ExitCode::from(not_passed(rt.alloc(), &error, writer, log)),
     }
 }
 
