@@ -17,7 +17,7 @@ find_kit() {
 }
 
 # Prints when each file whose path is in `$out/files` was last changed. A copy can keep an older time of writing, but not this one.
-times() { (cd "$root" && exec xargs -0 stat -Lc '%.9Z %n' --) < "$out/files" 2> /dev/null; }
+change_times() { (cd "$root" && exec xargs -0 stat -Lc '%.9Z %n' --) < "$out/files" 2> /dev/null; }
 
 # Neither a source nor rt was changed since ./build last compared the contents of the sources with those that the program was proved
 # from. It takes a few milliseconds. If it fails, `./build --done` compares the contents again.
@@ -26,5 +26,5 @@ is_unchanged() {
   [ -x "$program" ] && [ -f "$out/times" ] || return 1
   find_kit
   if [ -n "$kit" ]; then read -r known < "$out/kit" && [ "$kit" = "$known" ] || return 1; fi
-  cmp -s "$out/times" <(times)
+  cmp -s "$out/times" <(change_times)
 }
