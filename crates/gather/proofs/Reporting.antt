@@ -118,6 +118,14 @@ not_tabulated rounds most source tree same narrow (Err why) limit cause =
     no_report source rounds most why narrow (λ is. elim cause [ inl memory ↦ cc | inr edges ↦ (let named = edges.1 in cc) ])
     (λ q is. subst (λ (t : Tree). HasMoreEdges (sequential_of t) q most) same (limit q (ap Err is)))
 
+-- what tabulates without a board has neither refused a thread nor used up calls
+pub alone : (r : Result Effects NoVerdict)
+    → IfErr r (λ e. (e ≡ verdict.Memory) ⊎ ((q : ℕ) × (e ≡ verdict.EdgeLimit q)))
+    → IfErr r (λ e. (e ≢ verdict.NoWorker) × (e ≢ verdict.Spent))
+alone (Ok s) cause = tt
+alone (Err why) (inl memory) = (λ same. cc, λ same. cc)
+alone (Err why) (inr edges) = let named = edges.1 in (λ same. cc, λ same. cc)
+
 -- the images of images
 map_twice : {X Y Z : Type 0} (f : Y → Z) (h : X → Y) (xs : List X) → map f (map h xs) ≡ map (λ x. f (h x)) xs
 map_twice f h [] = refl
