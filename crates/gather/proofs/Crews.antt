@@ -24,11 +24,11 @@ use Rattle.procedure_worker.specs.declared.outcome.Outcome.{Outcome}
 use Rattle.procedure_worker.specs.Works.{Start, begun, IsPassOf, IsFresh, EndsSo}
 use Rattle.procedure_worker.proofs.Works.{new_fresh}
 use Rattle.gather.specs.declared.lane.Lane.{Lane}
-use Rattle.gather.specs.Ends.{LaneEnds, HaveEnded, IsCrew}
+use Rattle.gather.specs.Ends.{LaneEnds, HaveEnded, HasWorked, WasDeclined, HaveReturned, IsCrew}
 use Rattle.jobs.specs.declared.jobs.Came.{Came}
 use Rattle.jobs.specs.declared.jobs.Came.TheVariants.{Run, Declined}
 use Rattle.jobs.specs.Jobs.{first_of, second_of, CameOf, HaveCome}
-use Rattle.gather.specs.Lanes.{start_of, MayWork, HasWorked, WasDeclined, AreOwn, AreLanes}
+use Rattle.gather.specs.Lanes.{start_of, MayWork, RunsSo, DeclinesSo, AreOwn, AreLanes}
 use Rattle.gather.proofs.Full.{got_map}
 
 -- a pass of a new board
@@ -101,30 +101,42 @@ module _ {R G A S B K P : Type 0} (identity : B → TableId) (sight : P → Sigh
             (subst (λ k. start_of identity sight l ≡ begun graphs k limit board) (sym many ∙ sym last.0) starts, may)
       ]
 
-  -- the result of a lane is that it has ended
-  came_end : (members : S → List Triple) (l : Lane R P G A B S K) (n : ℕ) (c : Came (P × Outcome G A S))
-      → CameOf (HasWorked identity sight members l) (WasDeclined identity sight l) n c
-      → LaneEnds members (start_of identity sight l) (sight (first_of c)) (second_of c)
-  came_end members l n (Run b) come = inl come
-  came_end members l n (Declined b none) come = inr come.0
+  -- each lane has returned what the lane of its procedure returns
+  pub all_returned : (members : S → List Triple) (lanes : List (Lane R P G A B S K))
+      (cames : List (Came (P × Outcome G A S))) → AreLanes identity sight graphs limit board lanes
+      → HaveCome (RunsSo identity sight members) (DeclinesSo identity sight members) lanes cames
+      → HaveReturned members sight graphs limit board cames
+  all_returned members lanes cames are come = record {
+    all = come.all ∙ are.all;
+    each = λ q c here.
+        let (l, lane) = element_at lanes q (subst (λ n. q < n) come.all (slice_get_within cames q c here)) in
+        subst (λ b. CameOf (HasWorked members sight b) (WasDeclined members sight b) q c) (are.own q l lane).0
+        (come.each q l c lane here);
+    behind = come.behind;
+  }
 
-  -- if each lane has come back, all have ended
-  pub all_ended : (members : S → List Triple) (lanes : List (Lane R P G A B S K)) (cames : List (Came (P × Outcome G A S)))
-      → AreLanes identity sight graphs limit board lanes
-      → HaveCome (HasWorked identity sight members) (WasDeclined identity sight) lanes cames
+module _ {G A S P : Type 0} (members : S → List Triple) (sight : P → Sight Due (Graphs G)) (graphs : Graphs G)
+    (limit : EdgeLimit) (board : TableId) where
+  -- a lane that has returned has ended
+  came_end : (b : Start G) (n : ℕ) (c : Came (P × Outcome G A S))
+      → CameOf (HasWorked members sight b) (WasDeclined members sight b) n c
+      → LaneEnds members b (sight (first_of c)) (second_of c)
+  came_end b n (Run r) come = inl come
+  came_end b n (Declined r none) come = inr come.0
+
+  -- if each lane has returned, all have ended
+  pub all_ended : (cames : List (Came (P × Outcome G A S))) → HaveReturned members sight graphs limit board cames
       → HaveEnded members graphs limit board (map (λ (c : Came (P × Outcome G A S)). sight (first_of c)) cames)
       (map (second_of {P = P} {O = Outcome G A S}) cames)
-  all_ended members lanes cames are come = record {
-    each_pass = length-map cames (λ (c : Came (P × Outcome G A S)). sight (first_of c)) ∙ (come.all ∙ are.all);
-    each_outcome = length-map cames (second_of {P = P} {O = Outcome G A S}) ∙ (come.all ∙ are.all);
+  all_ended cames returned = record {
+    each_pass = length-map cames (λ (c : Came (P × Outcome G A S)). sight (first_of c)) ∙ returned.all;
+    each_outcome = length-map cames (second_of {P = P} {O = Outcome G A S}) ∙ returned.all;
     ends = λ q s o at there.
         let (c, here, pass) = got_map (λ (c : Came (P × Outcome G A S)). sight (first_of c)) cames q s at in
         let (c', here', outcome) = got_map (second_of {P = P} {O = Outcome G A S}) cames q o there in
-        let (l, lane) = element_at lanes q (subst (λ n. q < n) come.all (slice_get_within cames q c here)) in
-        let ended = came_end members l q c (come.each q l c lane here) in
+        let ended = came_end (begun graphs q limit board) q c (returned.each q c here) in
         let one : c' ≡ c = same_Some c' c (sym here' ∙ here) in
         let same : (second_of c) ≡ o = ap (λ (x : Came (P × Outcome G A S)). (second_of x)) (sym one) ∙ outcome in
-        subst (λ z. LaneEnds members z s o) (are.own q l lane).0
-        (subst (λ z. LaneEnds members (start_of identity sight l) z o) pass
-        (subst (LaneEnds members (start_of identity sight l) (sight (first_of c))) same ended));
+        subst (λ z. LaneEnds members (begun graphs q limit board) z o) pass
+        (subst (LaneEnds members (begun graphs q limit board) (sight (first_of c))) same ended);
   }

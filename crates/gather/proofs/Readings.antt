@@ -1,9 +1,7 @@
 -- What readings return is read off their tables.
 use Rattle.std.proofs.Common.{◌≡◌, ℕ, List, Some, map, slice_get, length, sym, ap, ◌∙◌, subst}
-use Rattle.std.specs.Prelude.{Result, Ok, IfOk}
-use Rattle.std.proofs.lemmas.Option.{slice_get_within}
+use Rattle.std.specs.Prelude.{Result, IfOk}
 use Rattle.std.proofs.lemmas.List.{length-map}
-use Rattle.post_ledger.proofs.Orders.{element_at}
 use Rattle.summaries.specs.declared.table.Table.{Table}
 use Rattle.summaries.specs.Effects.{Effect}
 use Rattle.summaries.specs.Together.{IsReadOff, AreReadOff}

@@ -1,5 +1,5 @@
 -- How the lanes of a board end.
-use Rattle.std.specs.Prelude.{◌≡◌, ◌≢◌, ◌⊎◌, ℕ, Bool, true, List, [], None, Some, length, slice_get}
+use Rattle.std.specs.Prelude.{◌≡◌, ◌≢◌, ◌⊎◌, ◌≤◌, ℕ, Bool, true, List, [], None, Some, length, slice_get}
 use Rattle.atomic_table.specs.Seated.{TableId}
 use Rattle.post_ledger.specs.declared.event.Event.{Event}
 use Rattle.post_ledger.specs.Orders.{own}
@@ -18,6 +18,8 @@ use Rattle.switchboard.specs.Promises.{Settles}
 use Rattle.procedure_worker.specs.declared.outcome.End.TheVariants.{Failed}
 use Rattle.procedure_worker.specs.declared.outcome.Outcome.{Outcome}
 use Rattle.procedure_worker.specs.Works.{Start, begun, IsPassOf, IsFresh, HasEnded}
+use Rattle.jobs.specs.declared.jobs.Came.{Came}
+use Rattle.jobs.specs.Jobs.{CameOf, IsDeclined}
 
 -- The lane had no thread: its pass made no event, and aborted the board for that cause, unless another pass aborted it
 -- before.
@@ -57,6 +59,25 @@ module _ {G A S : Type 0} (members : S → List Triple) where
     pub passes : List (Sight Due (Graphs G))
     pub ended : HaveEnded graphs limit board passes outcomes
     pub settled : Settles FitsIn (length (graphs_of graphs)) passes histories closed
+
+module _ {G A S P : Type 0} (members : S → List Triple) (sight : P → Sight Due (Graphs G)) where
+  -- a lane that ran returned its pass and the outcome of its worker, which has ended
+  abbrev pub HasWorked : Start G → P × Outcome G A S → Type 0
+  HasWorked b r = HasEnded b members (sight r.0) r.1
+
+  -- a lane that was declined returned its pass and an outcome without a table: it had no thread
+  abbrev pub WasDeclined : Start G → P × Outcome G A S → Type 0
+  WasDeclined b r = HadNoThread b (sight r.0) r.1
+
+  -- What the lanes of all procedures returned, by number. A lane that ran has worked. For a lane that was declined there
+  -- is evidence that its start was refused, or that of a lane before it; after such a lane all were declined.
+  pub record HaveReturned (graphs : Graphs G) (limit : EdgeLimit) (board : TableId)
+      (cames : List (Came (P × Outcome G A S))) : Type 0 where
+    pub all : length cames ≡ length (graphs_of graphs)
+    pub each : (q : ℕ) (c : Came (P × Outcome G A S)) → slice_get cames q ≡ Some c
+        → CameOf (HasWorked (begun graphs q limit board)) (WasDeclined (begun graphs q limit board)) q c
+    pub behind : (i k : ℕ) (c d : Came (P × Outcome G A S)) → i ≤ k → slice_get cames i ≡ Some c → slice_get cames k ≡ Some d
+        → IsDeclined c → IsDeclined d
 
 -- The graphs are some program's, and the passes are those of all its procedures, by number, as given by a board that
 -- the starter's message opened.

@@ -1,6 +1,6 @@
 //! The crew of a board: a worker for each mailbox.
 ghost use Rattle.std.specs.Prelude.{◌≡◌, ◌≤◌, [], length, map, vec_capacity, IfOk};
-ghost use Rattle.gather.specs.Ends.{IsCrew, HaveEnded};
+ghost use Rattle.gather.specs.Ends.{IsCrew, HaveReturned};
 ghost use Rattle.jobs.specs.Jobs.{first_of, second_of};
 ghost use Rattle.gather.specs.Lanes.{AreLanes};
 
@@ -51,7 +51,8 @@ where
 
 /// Runs a worker for each procedure, each in a thread of its own, until all have ended, and returns each pass with
 /// its outcome, in the order of the mailboxes. If a start is refused, the passes of that lane and of those after it
-/// abort the board for that. An error is lack of memory, before any thread was started.
+/// abort the board for that, and each comes with evidence of the refusal. An error is lack of memory, before any thread
+/// was started.
 pub(crate) fn work_all<'c, 'g, R, B, S, K, H>(
     rt: &'c R,
     alloc: S::Heap,
@@ -69,8 +70,8 @@ where
     K: Gate + Sync,
     H: Hire,
     requires { IsCrew graphs.now limit (B.identity board.now) (map B.sight passes.items) }
-    ensures { IfOk result (λ cames. HaveEnded S.members graphs.now limit (B.identity board.now)
-        (map (λ c. B.sight (first_of c)) cames.items) (map second_of cames.items)) }
+    ensures { IfOk result (λ cames. HaveReturned S.members B.sight graphs.now limit
+        (B.identity board.now) cames.items) }
 {
     let lanes = lanes_of::<R, B, S, K>(rt, alloc, board, passes, graphs, limit, gate)?;
     run_all(rt, alloc, lanes, hire)

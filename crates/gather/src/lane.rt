@@ -29,15 +29,15 @@ impl<'c, 'g, R: Wait, B: WorkBoard, S: WorkSet, K: Gate> Job
 where
     B::Pass: Drop,
 {
-    ghost use Rattle.gather.specs.Lanes.{MayWork, HasWorked, WasDeclined};
+    ghost use Rattle.gather.specs.Lanes.{MayWork, RunsSo, DeclinesSo};
 
     type Back = (B::Pass, Outcome<'g, B::Heap, S::Heap, S>);
 
     ghost can_run = { MayWork B.identity B.sight };
 
-    ghost runs = { HasWorked B.identity B.sight S.members };
+    ghost runs = { RunsSo B.identity B.sight S.members };
 
-    ghost declines = { WasDeclined B.identity B.sight };
+    ghost declines = { DeclinesSo B.identity B.sight S.members };
 
     fn run(self) -> (B::Pass, Outcome<'g, B::Heap, S::Heap, S>) {
         let Lane {

@@ -2,7 +2,7 @@
 use Rattle.std.proofs.Common.{◌∙◌, map}
 use Rattle.std.proofs.lemmas.Result.{err_from_is_err_and}
 use Rattle.summaries.proofs.Steps.{opening_fits}
-use Rattle.gather.proofs.Crews.{new_crew, all_passes}
+use Rattle.gather.proofs.Crews.{new_crew, all_ended, all_passes}
 use Rattle.gather.proofs.Reporting.{parted, of_board, found, limit_passed, not_wide}
 use Rattle.gather.specs.Ends.{HaveEnded}
 use Rattle.gather.specs.Gathered.{ends_of}
@@ -24,7 +24,8 @@ ended : (g : Over) (c : After-back-2-1 g) → HaveEnded g.S.PathSet.members c.ar
     (g.B-Board.identity c.in_ok-board.board) (map g.B-Board.sight c.in_ok-back.back.items) c.in_ok-back.outcomes.items
 ended g c = parted g.S.PathSet.members c.args.graphs.now c.args.limit (g.B-Board.identity c.in_ok-board.board)
     g.B-Board.sight c.in_ok-ended.ended.items c.in_ok-back.back.items c.in_ok-back.outcomes.items c.in_ok-back.ensures.0
-    c.in_ok-back.ensures.1 c.in_ok-ended.ensures
+    c.in_ok-back.ensures.1 (all_ended g.S.PathSet.members g.B-Board.sight c.args.graphs.now c.args.limit
+    (g.B-Board.identity c.in_ok-board.board) c.in_ok-ended.ended.items c.in_ok-ended.ensures)
 
 pub into_ledger-ledger-requires : goal.into_ledger-ledger-requires
 into_ledger-ledger-requires g c =
