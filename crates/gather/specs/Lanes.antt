@@ -9,8 +9,8 @@ use Rattle.flow_graph.specs.Graphs.{AreDrawnFrom}
 use Rattle.summaries.specs.declared.due.Due.{Due}
 use Rattle.path_sets.specs.declared.edge_limit.EdgeLimit.{EdgeLimit}
 use Rattle.switchboard.specs.Sights.{Sight}
-use Rattle.procedure_worker.specs.declared.outcome.Outcome.{Outcome}
 use Rattle.procedure_worker.specs.Works.{Start, begun, IsFresh}
+use Rattle.gather.specs.declared.finding.Finding.{Finding}
 use Rattle.gather.specs.declared.lane.Lane.{Lane}
 use Rattle.gather.specs.Ends.{HasWorked, WasDeclined}
 
@@ -26,11 +26,11 @@ module _ {R G A S B K P : Type 0} (identity : B → TableId) (sight : P → Sigh
     pub fresh : IsFresh (start_of l) (sight l.pass)
 
   -- what came back is what a lane returns that began so and ran
-  abbrev pub RunsSo : (S → List Triple) → Lane R P G A B S K → P × Outcome G A S → Type 0
+  abbrev pub RunsSo : (S → List Triple) → Lane R P G A B S K → P × Finding A → Type 0
   RunsSo members l = HasWorked members sight (start_of l)
 
   -- what came back is what a lane returns that began so and was declined
-  abbrev pub DeclinesSo : (S → List Triple) → Lane R P G A B S K → P × Outcome G A S → Type 0
+  abbrev pub DeclinesSo : (S → List Triple) → Lane R P G A B S K → P × Finding A → Type 0
   DeclinesSo members l = WasDeclined members sight (start_of l)
 
   -- each lane is that of the procedure with its number, and its worker may begin
