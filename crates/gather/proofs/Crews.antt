@@ -1,6 +1,7 @@
 -- From an opened board to a crew and its lanes, and from lanes that have ended to the passes of their board.
-use Rattle.std.proofs.Common.{◌≡◌, inl, inr, ℕ, zero, suc, ◌+◌, ◌<◌, List, [], ◌∷◌, ◌++◌, Some, map, slice_get, length}
-use Rattle.std.proofs.Common.{sym, ap, ◌∙◌, subst, arith}
+use Rattle.std.proofs.Common.{◌≡◌, inl, inr, ℕ, zero, suc, ◌+◌, ◌<◌, List, [], ◌∷◌, ◌++◌, None, Some, map, slice_get, length}
+use Rattle.std.proofs.Common.{refl, sym, ap, ◌∙◌, subst, arith}
+use Rattle.std.specs.Prelude.{Option}
 use Rattle.std.proofs.lemmas.Option.{none-some, same_Some, slice_get_within}
 use Rattle.std.proofs.lemmas.List.{length-map}
 use Rattle.atomic_table.specs.Seated.{TableId}
@@ -23,12 +24,16 @@ use Rattle.procedure_worker.specs.declared.outcome.End.TheVariants.{Closed, Abor
 use Rattle.procedure_worker.specs.declared.outcome.Outcome.{Outcome}
 use Rattle.procedure_worker.specs.Works.{Start, begun, IsPassOf, IsFresh, EndsSo}
 use Rattle.procedure_worker.proofs.Works.{new_fresh}
+use Rattle.procedure_worker.specs.declared.room.NoRoom.{NoRoom}
+use Rattle.gather.specs.declared.finding.Finding.{Finding}
+use Rattle.gather.specs.declared.finding.Finding.TheVariants as finding
+use Rattle.gather.specs.Findings.{end_of, IsLeftOf}
 use Rattle.gather.specs.declared.lane.Lane.{Lane}
-use Rattle.gather.specs.Ends.{LaneEnds, HaveEnded, IsCrew}
+use Rattle.gather.specs.Ends.{LaneEnds, HaveEnded, HaveLeft, HasWorked, WasDeclined, HaveReturned, IsCrew}
 use Rattle.jobs.specs.declared.jobs.Came.{Came}
 use Rattle.jobs.specs.declared.jobs.Came.TheVariants.{Run, Declined}
 use Rattle.jobs.specs.Jobs.{first_of, second_of, CameOf, HaveCome}
-use Rattle.gather.specs.Lanes.{start_of, MayWork, HasWorked, WasDeclined, AreOwn, AreLanes}
+use Rattle.gather.specs.Lanes.{start_of, MayWork, RunsSo, DeclinesSo, AreOwn, AreLanes}
 use Rattle.gather.proofs.Full.{got_map}
 
 -- a pass of a new board
@@ -101,30 +106,82 @@ module _ {R G A S B K P : Type 0} (identity : B → TableId) (sight : P → Sigh
             (subst (λ k. start_of identity sight l ≡ begun graphs k limit board) (sym many ∙ sym last.0) starts, may)
       ]
 
-  -- the result of a lane is that it has ended
-  came_end : (members : S → List Triple) (l : Lane R P G A B S K) (n : ℕ) (c : Came (P × Outcome G A S))
-      → CameOf (HasWorked identity sight members l) (WasDeclined identity sight l) n c
-      → LaneEnds members (start_of identity sight l) (sight (first_of c)) (second_of c)
-  came_end members l n (Run b) come = inl come
-  came_end members l n (Declined b none) come = inr come.0
-
-  -- if each lane has come back, all have ended
-  pub all_ended : (members : S → List Triple) (lanes : List (Lane R P G A B S K)) (cames : List (Came (P × Outcome G A S)))
-      → AreLanes identity sight graphs limit board lanes
-      → HaveCome (HasWorked identity sight members) (WasDeclined identity sight) lanes cames
-      → HaveEnded members graphs limit board (map (λ (c : Came (P × Outcome G A S)). sight (first_of c)) cames)
-      (map (second_of {P = P} {O = Outcome G A S}) cames)
-  all_ended members lanes cames are come = record {
-    each_pass = length-map cames (λ (c : Came (P × Outcome G A S)). sight (first_of c)) ∙ (come.all ∙ are.all);
-    each_outcome = length-map cames (second_of {P = P} {O = Outcome G A S}) ∙ (come.all ∙ are.all);
-    ends = λ q s o at there.
-        let (c, here, pass) = got_map (λ (c : Came (P × Outcome G A S)). sight (first_of c)) cames q s at in
-        let (c', here', outcome) = got_map (second_of {P = P} {O = Outcome G A S}) cames q o there in
+  -- each lane has returned what the lane of its procedure returns
+  pub all_returned : (members : S → List Triple) (lanes : List (Lane R P G A B S K))
+      (cames : List (Came (P × Finding A))) → AreLanes identity sight graphs limit board lanes
+      → HaveCome (RunsSo identity sight members) (DeclinesSo identity sight members) lanes cames
+      → HaveReturned members sight graphs limit board cames
+  all_returned members lanes cames are come = record {
+    all = come.all ∙ are.all;
+    each = λ q c here.
         let (l, lane) = element_at lanes q (subst (λ n. q < n) come.all (slice_get_within cames q c here)) in
-        let ended = came_end members l q c (come.each q l c lane here) in
-        let one : c' ≡ c = same_Some c' c (sym here' ∙ here) in
-        let same : (second_of c) ≡ o = ap (λ (x : Came (P × Outcome G A S)). (second_of x)) (sym one) ∙ outcome in
-        subst (λ z. LaneEnds members z s o) (are.own q l lane).0
-        (subst (λ z. LaneEnds members (start_of identity sight l) z o) pass
-        (subst (LaneEnds members (start_of identity sight l) (sight (first_of c))) same ended));
+        subst (λ b. CameOf (HasWorked members sight b) (WasDeclined members sight b) q c) (are.own q l lane).0
+        (come.each q l c lane here);
+    behind = come.behind;
   }
+
+-- of two lists with one more item each
+pair_at : {X Y : Type 0} (R : ℕ → X → Y → Type 0) (x : X) (y : Y) (xs : List X) (ys : List Y) → R 0 x y
+    → ((q : ℕ) (a : X) (b : Y) → slice_get xs q ≡ Some a → slice_get ys q ≡ Some b → R (suc q) a b)
+    → (q : ℕ) (a : X) (b : Y) → slice_get (x ∷ xs) q ≡ Some a → slice_get (y ∷ ys) q ≡ Some b → R q a b
+pair_at R x y xs ys first rest zero a b at there =
+    subst (λ z. R 0 z b) (same_Some x a at) (subst (R 0 x) (same_Some y b there) first)
+pair_at R x y xs ys first rest (suc q) a b at there = rest q a b at there
+
+-- if each item of a list has a partner, there is a list of the partners
+partners : {X Y : Type 0} (R : ℕ → X → Y → Type 0) (xs : List X)
+    → ((q : ℕ) (x : X) → slice_get xs q ≡ Some x → (y : Y) × R q x y)
+    → (ys : List Y) × (length ys ≡ length xs)
+    × ((q : ℕ) (x : X) (y : Y) → slice_get xs q ≡ Some x → slice_get ys q ≡ Some y → R q x y)
+partners R [] has = ([], refl, λ q x y at there. absurd (none-some x at))
+partners R (x ∷ xs) has =
+    let (y, first) = has 0 x refl in
+    let (ys, all, each) = partners (λ q. R (suc q)) xs (λ q. has (suc q)) in
+    (y ∷ ys, ap suc all, pair_at R x y xs ys first each)
+
+-- the evidence with which a lane failed
+abbrev lack_in : {A : Type 0} → Finding A → Option NoRoom
+lack_in (finding.Closed s) = None
+lack_in (finding.Unread error) = None
+lack_in finding.Aborted = None
+lack_in (finding.Failed c lack) = lack
+
+module _ {G A S P : Type 0} (members : S → List Triple) (sight : P → Sight Due (Graphs G)) (graphs : Graphs G)
+    (limit : EdgeLimit) (board : TableId) where
+  -- what a lane has returned is left of an outcome with which it has ended
+  came_end : (b : Start G) (n : ℕ) (c : Came (P × Finding A))
+      → CameOf (HasWorked members sight b) (WasDeclined members sight b) n c
+      → (o : Outcome G A S) × (LaneEnds members b (sight (first_of c)) o × IsLeftOf o (second_of c))
+  came_end b n (Run r) come = (come.0, (inl come.1, come.2))
+  came_end b n (Declined r none) come = (
+    record { table = None; end = end_of r.1; lack = lack_in r.1 },
+    (
+      inr come.0,
+      record { ended = refl; lack = λ c l is. ap lack_in is; found = λ t s there is. absurd (none-some t there) },
+    ),
+  )
+
+  -- if each lane has returned, all have ended, and this is what they left
+  pub all_left : (cames : List (Came (P × Finding A))) → HaveReturned members sight graphs limit board cames
+      → HaveLeft members graphs limit board (map (λ (c : Came (P × Finding A)). sight (first_of c)) cames)
+      (map (second_of {P = P} {O = Finding A}) cames)
+  all_left cames returned =
+      let (outcomes, all, each) = partners (λ q (c : Came (P × Finding A)) (o : Outcome G A S).
+      LaneEnds members (begun graphs q limit board) (sight (first_of c)) o × IsLeftOf o (second_of c)) cames
+      (λ q c here. came_end (begun graphs q limit board) q c (returned.each q c here)) in
+      record {
+        outcomes = outcomes;
+        ended = record {
+          each_pass = length-map cames (λ (c : Came (P × Finding A)). sight (first_of c)) ∙ returned.all;
+          each_outcome = all ∙ returned.all;
+          ends = λ q s o at there.
+              let (c, here, pass) = got_map (λ (c : Came (P × Finding A)). sight (first_of c)) cames q s at in
+              subst (λ z. LaneEnds members (begun graphs q limit board) z o) pass (each q c o here there).0;
+        };
+        left = record {
+          all = length-map cames (second_of {P = P} {O = Finding A}) ∙ sym all;
+          each = λ q o f there at.
+              let (c, here, is) = got_map (second_of {P = P} {O = Finding A}) cames q f at in
+              subst (IsLeftOf o) is (each q c o here there).1;
+        };
+      }

@@ -39,11 +39,11 @@ use Rattle.switchboard.specs.Promises.{Settles}
 use Rattle.procedure_worker.specs.declared.outcome.Outcome.{Outcome}
 use Rattle.procedure_worker.specs.Own.{taken_in, posted_in}
 use Rattle.gather.specs.Ends.{HaveEnded}
-use Rattle.gather.specs.Gathered.{ends_of, NoneFailed}
+use Rattle.gather.specs.Gathered.{NoneFailed}
 use Rattle.gather.specs.Reports.{posted_to, sender_of, AreDueOnce}
 use Rattle.gather.proofs.Lists.{place_of, member_at, in_own, take_there}
 use Rattle.gather.proofs.Posts.{none_twice_of_map, posted_member, post_there, posted_once, taken_part, own_nothing}
-use Rattle.gather.proofs.Full.{Served, outcome_at, served, some_procedure, order_closed, has_tables, table_at, ts, full}
+use Rattle.gather.proofs.Full.{ends_of, Served, outcome_at, served, some_procedure, order_closed, has_tables, table_at, ts, full}
 
 -- the procedure whose flow graph sends a message is its sender
 sends_own : {A : Type 0} (graph : Graph A) (c : ℕ) (M : NumberedMessage → Type 0) (n s : ℕ) (k : NumberedMessage)

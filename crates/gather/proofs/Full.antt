@@ -45,7 +45,7 @@ use Rattle.procedure_worker.specs.declared.outcome.Outcome.{Outcome}
 use Rattle.procedure_worker.specs.Own.{taken_in, posted_in}
 use Rattle.procedure_worker.specs.Works.{Start, begun, mails_of, EndsSo, HasServed}
 use Rattle.gather.specs.Ends.{HaveEnded}
-use Rattle.gather.specs.Gathered.{beside, tables_in, ends_of, NoneFailed, AllClosed}
+use Rattle.gather.specs.Gathered.{NoneFailed, AllClosed}
 use Rattle.gather.specs.Through.{AreThrough}
 use Rattle.gather.proofs.Lists.{member_at, place_of, posted_part, post_in, take_own}
 
@@ -69,6 +69,20 @@ some_abort None h = cc
 some_abort (Some a) h = (a, refl)
 
 module _ {G A S : Type 0} where
+  -- how the workers have ended
+  abbrev pub ends_of : List (Outcome G A S) → List End
+  ends_of outcomes = map (λ o. o.end) outcomes
+
+  -- the tables, with this one in front, if there is one
+  abbrev beside : Option (Table G A S) → List (Table G A S) → List (Table G A S)
+  beside None ts = ts
+  beside (Some t) ts = t ∷ ts
+
+  -- the tables that the outcomes have, in their order
+  abbrev pub tables_in : List (Outcome G A S) → List (Table G A S)
+  tables_in [] = []
+  tables_in (o ∷ os) = beside o.table (tables_in os)
+
   -- each outcome has a table
   abbrev pub HaveTables : List (Outcome G A S) → Type 0
   HaveTables os = (q : ℕ) (o : Outcome G A S) → slice_get os q ≡ Some o → (t : Table G A S) × (o.table ≡ Some t)
@@ -197,7 +211,7 @@ module _ {G A S : Type 0} where
         tables_all = as_long outcomes has_tables ∙ ended.each_outcome
 
         -- a table, with the outcome that it is of
-        outcome_of : (q : ℕ) (t : Table G A S) → slice_get ts q ≡ Some t
+        pub outcome_of : (q : ℕ) (t : Table G A S) → slice_get ts q ≡ Some t
             → (o : Outcome G A S) × (there : slice_get outcomes q ≡ Some o) × ((served q o there).table ≡ t)
         outcome_of q t is =
             let (o, there) = outcome_at q (subst (λ n. q < n) tables_all (slice_get_within ts q t is)) in

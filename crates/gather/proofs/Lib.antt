@@ -1,5 +1,4 @@
 pub mod Lists
-pub mod Tables
 pub mod Posts
 pub mod Full
 pub mod Found

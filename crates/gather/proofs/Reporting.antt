@@ -1,4 +1,4 @@
--- From outcomes to what a report says.
+-- From findings to what a report says.
 use Rattle.std.proofs.Common.{◌≡◌, ◌≢◌, ◌⊎◌, ◌<◌, Result, Ok, Err, inl, inr, ℕ, List, [], ◌∷◌, map, length, codes}
 use Rattle.std.proofs.Common.{Some, refl, sym, ap, ◌∙◌, slice_get, subst}
 use Rattle.std.specs.Prelude.{Bool, ◌↔◌, IfOk, IfErr}
@@ -37,11 +37,14 @@ use Rattle.procedure_worker.specs.declared.outcome.Outcome.{Outcome}
 use Rattle.procedure_worker.specs.Works.{begun, EndsSo}
 use Rattle.jobs.specs.declared.jobs.Came.{Came}
 use Rattle.jobs.specs.Jobs.{first_of, second_of}
-use Rattle.gather.specs.Ends.{HaveEnded, AreOfBoard}
-use Rattle.gather.specs.Gathered.{verdict_for, ends_of, NoneFailed, AllClosed, IsCause, IsGathered}
+use Rattle.gather.specs.declared.finding.Finding.{Finding}
+use Rattle.gather.specs.Findings.{ends_in}
+use Rattle.gather.specs.Ends.{HaveEnded, HaveLeft, AreOfBoard}
+use Rattle.gather.specs.Gathered.{verdict_for, NoneFailed, AllClosed, IsCause, IsGathered}
 use Rattle.gather.specs.Reports.{AreDueOnce, IsFound, IsNoReport, IsTabulated}
 use Rattle.gather.specs.Through.{AreThrough}
-use Rattle.gather.proofs.Full.{got_map, through}
+use Rattle.gather.proofs.Full.{ends_of, got_map, through}
+use Rattle.gather.proofs.Readings.{same_ends}
 use Rattle.gather.proofs.Found.{due_once}
 
 -- if every end is at the close, none names a cause
@@ -118,6 +121,14 @@ not_tabulated rounds most source tree same narrow (Err why) limit cause =
     no_report source rounds most why narrow (λ is. elim cause [ inl memory ↦ cc | inr edges ↦ (let named = edges.1 in cc) ])
     (λ q is. subst (λ (t : Tree). HasMoreEdges (sequential_of t) q most) same (limit q (ap Err is)))
 
+-- what tabulates without a board has neither refused a thread nor used up calls
+pub alone : (r : Result Effects NoVerdict)
+    → IfErr r (λ e. (e ≡ verdict.Memory) ⊎ ((q : ℕ) × (e ≡ verdict.EdgeLimit q)))
+    → IfErr r (λ e. (e ≢ verdict.NoWorker) × (e ≢ verdict.Spent))
+alone (Ok s) cause = tt
+alone (Err why) (inl memory) = (λ same. cc, λ same. cc)
+alone (Err why) (inr edges) = let named = edges.1 in (λ same. cc, λ same. cc)
+
 -- the images of images
 map_twice : {X Y Z : Type 0} (f : Y → Z) (h : X → Y) (xs : List X) → map f (map h xs) ≡ map (λ x. f (h x)) xs
 map_twice f h [] = refl
@@ -127,19 +138,28 @@ other_cause : Failed cause.EdgeLimit ≡ Failed cause.NoWorker → ⊥
 other_cause same = cc
 
 module _ {G A S : Type 0} (members : S → List Triple) (graphs : Graphs G) (limit : EdgeLimit) (board : TableId) where
-  -- what has ended, split into passes and outcomes
-  pub parted : {P : Type 0} (sight : P → Sight Due (Graphs G)) (cames : List (Came (P × Outcome G A S))) (passes : List P)
-      (outcomes : List (Outcome G A S)) → passes ≡ map first_of cames
-      → outcomes ≡ map second_of cames
-      → HaveEnded members graphs limit board (map (λ c. sight (first_of c)) cames) (map second_of cames)
-      → HaveEnded members graphs limit board (map sight passes) outcomes
-  parted sight cames passes outcomes firsts seconds ended =
-      subst (HaveEnded members graphs limit board (map sight passes)) (sym seconds)
-      (subst (λ l. HaveEnded members graphs limit board l (map second_of cames))
-      (sym (ap (map sight) firsts ∙ map_twice sight first_of cames)) ended)
+  -- what lanes returned, split into passes and findings
+  pub parted : {P : Type 0} (sight : P → Sight Due (Graphs G)) (cames : List (Came (P × Finding A))) (passes : List P)
+      (findings : List (Finding A)) → passes ≡ map first_of cames
+      → findings ≡ map second_of cames
+      → HaveLeft members graphs limit board (map (λ c. sight (first_of c)) cames) (map second_of cames)
+      → HaveLeft members graphs limit board (map sight passes) findings
+  parted sight cames passes findings firsts seconds lanes =
+      subst (HaveLeft members graphs limit board (map sight passes)) (sym seconds)
+      (subst (λ l. HaveLeft members graphs limit board l (map second_of cames))
+      (sym (ap (map sight) firsts ∙ map_twice sight first_of cames)) lanes)
 
-  module _ (passes : List (Sight Due (Graphs G))) (outcomes : List (Outcome G A S))
-      (ended : HaveEnded members graphs limit board passes outcomes) where
+  module _ (passes : List (Sight Due (Graphs G))) (findings : List (Finding A))
+      (lanes : HaveLeft members graphs limit board passes findings) where
+    abbrev outcomes : List (Outcome G A S)
+    outcomes = lanes.outcomes
+
+    abbrev ended : HaveEnded members graphs limit board passes outcomes
+    ended = lanes.ended
+
+    same : ends_in findings ≡ ends_of outcomes
+    same = same_ends outcomes findings lanes.left
+
     passed_by : (p : Program) → AreDrawnFrom p (graphs_of graphs) → (q : ℕ) (s : Sight Due (Graphs G)) (e : End)
         (t : Table G A S) (took : List Due) (sent : List (ℕ × Due)) → e ≡ Failed cause.EdgeLimit
         → EndsSo (begun graphs q limit board) members e s t took sent → HasMoreEdges p q (most_of limit)
@@ -147,16 +167,16 @@ module _ {G A S : Type 0} (members : S → List Triple) (graphs : Graphs G) (lim
         (subst (λ z. EndsSo (begun graphs q limit board) members z s t took sent) is so).1.stood p drawn
 
     -- a procedure that is named for the limit has more path edges
-    pub limit_passed : (why : NoVerdict) (q : ℕ) → IsCause (ends_of outcomes) why → why ≡ verdict.EdgeLimit q → (p : Program)
+    pub limit_passed : (why : NoVerdict) (q : ℕ) → IsCause (ends_in findings) why → why ≡ verdict.EdgeLimit q → (p : Program)
         → AreDrawnFrom p (graphs_of graphs) → HasMoreEdges p q (most_of limit)
     limit_passed why q named is p drawn =
-        let at = limit_named (ends_of outcomes) why q named is in
-        let (o, there, same) = got_map (λ (x : Outcome G A S). x.end) outcomes q (Failed cause.EdgeLimit) at in
+        let at = limit_named (ends_of outcomes) why q (subst (λ ends. IsCause ends why) same named) is in
+        let (o, there, end) = got_map (λ (x : Outcome G A S). x.end) outcomes q (Failed cause.EdgeLimit) at in
         let near = subst (λ n. q < n) (ended.each_outcome ∙ sym ended.each_pass) (slice_get_within outcomes q o there) in
         let (s, here) = element_at passes q near in
         elim (ended.ends q s o here there) [
-          | inl e ↦ passed_by p drawn q s o.end e.0 e.2.0 e.2.1 same e.2.2
-          | inr idle ↦ absurd (other_cause (sym same ∙ idle.named))
+          | inl e ↦ passed_by p drawn q s o.end e.0 e.2.0 e.2.1 end e.2.2
+          | inr idle ↦ absurd (other_cause (sym end ∙ idle.named))
         ]
 
     module _ (boxes : ℕ) (count : boxes ≡ length (graphs_of graphs)) (histories : List (List (Event Due))) (closed : Bool)
@@ -164,19 +184,19 @@ module _ {G A S : Type 0} (members : S → List Triple) (graphs : Graphs G) (lim
       abbrev settled : Settles FitsIn (length (graphs_of graphs)) passes histories closed
       settled = subst (λ n. Settles FitsIn n passes histories closed) count left
 
-      -- the outcomes are those of the board
-      abbrev pub of_board : AreOfBoard members graphs histories closed outcomes
-      of_board = record { limit = limit; board = board; passes = passes; ended = ended; settled = settled }
+      -- the findings are those of the board
+      abbrev pub of_board : AreOfBoard members graphs histories closed findings
+      of_board = record { limit = limit; board = board; passes = passes; lanes = lanes; settled = settled }
 
       -- what was gathered is what the workers have found
-      pub found : (s : Effects) → IsGathered graphs (most_of limit) closed (ends_of outcomes) s → (p : Program)
+      pub found : (s : Effects) → IsGathered graphs (most_of limit) closed (ends_in findings) s → (p : Program)
           → AreDrawnFrom p (graphs_of graphs) → IsFound p (most_of limit) histories s
       found s gathered p drawn = record {
         through = subst (λ n. AreThrough n histories) drawn.2.0
             (through FitsIn (length (graphs_of graphs)) passes histories closed settled gathered.shut);
         due = λ q h at. subst (AreDueOnce p q) (sym (settled.parts q h at))
             (due_once members graphs limit board passes outcomes histories closed ended settled
-            (none_failed (ends_of outcomes) gathered.ended) p drawn q
+            (none_failed (ends_of outcomes) (subst AllClosed same gathered.ended)) p drawn q
             (subst (λ n. q < n) settled.count (slice_get_within histories q h at)));
         summaries = gathered.summaries p drawn;
         few = gathered.few p drawn;

@@ -1,5 +1,5 @@
 -- How the lanes of a board end.
-use Rattle.std.specs.Prelude.{◌≡◌, ◌≢◌, ◌⊎◌, ℕ, Bool, true, List, [], None, Some, length, slice_get}
+use Rattle.std.specs.Prelude.{◌≡◌, ◌≢◌, ◌⊎◌, ◌≤◌, ℕ, Bool, true, List, [], Some, length, slice_get}
 use Rattle.atomic_table.specs.Seated.{TableId}
 use Rattle.post_ledger.specs.declared.event.Event.{Event}
 use Rattle.post_ledger.specs.Orders.{own}
@@ -15,26 +15,30 @@ use Rattle.switchboard.specs.declared.calls.Abort.{Abort}
 use Rattle.switchboard.specs.declared.calls.Cause.TheVariants.{NoWorker}
 use Rattle.switchboard.specs.Sights.{Sight}
 use Rattle.switchboard.specs.Promises.{Settles}
+use Rattle.procedure_worker.specs.declared.outcome.End.{End}
 use Rattle.procedure_worker.specs.declared.outcome.End.TheVariants.{Failed}
 use Rattle.procedure_worker.specs.declared.outcome.Outcome.{Outcome}
 use Rattle.procedure_worker.specs.Works.{Start, begun, IsPassOf, IsFresh, HasEnded}
+use Rattle.jobs.specs.declared.jobs.Came.{Came}
+use Rattle.jobs.specs.Jobs.{CameOf, IsDeclined}
+use Rattle.gather.specs.declared.finding.Finding.{Finding}
+use Rattle.gather.specs.Findings.{end_of, IsLeftOf, AreLeftOf}
 
--- The lane had no thread: its pass made no event, and aborted the board for that cause, unless another pass aborted it
--- before.
-pub record HadNoThread {G A S : Type 0} (b : Start G) (s : Sight Due (Graphs G)) (o : Outcome G A S) : Type 0 where
+-- The lane had no thread, and ended so: its pass made no event, and aborted the board for that cause, unless another
+-- pass aborted it before.
+pub record HadNoThread {G : Type 0} (b : Start G) (s : Sight Due (Graphs G)) (e : End) : Type 0 where
   pub pass : IsPassOf b s
   pub made : s.made ≡ true
   pub abort : Abort
   pub kept : s.seen.aborted ≡ Some abort
   pub first : (abort ≡ record { by = b.number; cause = NoWorker }) ⊎ (abort.by ≢ b.number)
   pub none : own b.number s.seen.order ≡ []
-  pub table : o.table ≡ None
-  pub named : o.end ≡ Failed NoWorker
+  pub named : e ≡ Failed NoWorker
 
 module _ {G A S : Type 0} (members : S → List Triple) where
   -- the lane's worker has ended, or it had no thread
   abbrev pub LaneEnds : Start G → Sight Due (Graphs G) → Outcome G A S → Type 0
-  LaneEnds b s o = HasEnded b members s o ⊎ HadNoThread b s o
+  LaneEnds b s o = HasEnded b members s o ⊎ HadNoThread b s o.end
 
   -- each lane for which there is a pass and an outcome has ended
   abbrev pub AllEnd : Graphs G → EdgeLimit → TableId → List (Sight Due (Graphs G)) → List (Outcome G A S) → Type 0
@@ -49,14 +53,40 @@ module _ {G A S : Type 0} (members : S → List Triple) where
     pub each_outcome : length outcomes ≡ length (graphs_of graphs)
     pub ends : AllEnd graphs limit board passes outcomes
 
-  -- The outcomes are those of the lanes of one board, which has left these histories.
+  -- The lanes of all procedures have ended, by number, and the findings are what they left.
+  pub record HaveLeft (graphs : Graphs G) (limit : EdgeLimit) (board : TableId) (passes : List (Sight Due (Graphs G)))
+      (findings : List (Finding A)) : Type 0 where
+    pub outcomes : List (Outcome G A S)
+    pub ended : HaveEnded graphs limit board passes outcomes
+    pub left : AreLeftOf outcomes findings
+
+  -- The findings are those of the lanes of one board, which has left these histories.
   pub record AreOfBoard (graphs : Graphs G) (histories : List (List (Event Due))) (closed : Bool)
-      (outcomes : List (Outcome G A S)) : Type 0 where
+      (findings : List (Finding A)) : Type 0 where
     pub limit : EdgeLimit
     pub board : TableId
     pub passes : List (Sight Due (Graphs G))
-    pub ended : HaveEnded graphs limit board passes outcomes
+    pub lanes : HaveLeft graphs limit board passes findings
     pub settled : Settles FitsIn (length (graphs_of graphs)) passes histories closed
+
+module _ {G A S P : Type 0} (members : S → List Triple) (sight : P → Sight Due (Graphs G)) where
+  -- a lane that ran returned its pass and what is left of the outcome of its worker, which has ended
+  abbrev pub HasWorked : Start G → P × Finding A → Type 0
+  HasWorked b r = (o : Outcome G A S) × HasEnded b members (sight r.0) o × IsLeftOf o r.1
+
+  -- a lane that was declined returned its pass, and that it had no thread
+  abbrev pub WasDeclined : Start G → P × Finding A → Type 0
+  WasDeclined b r = HadNoThread b (sight r.0) (end_of r.1)
+
+  -- What the lanes of all procedures returned, by number. A lane that ran has worked. For a lane that was declined there
+  -- is evidence that its start was refused, or that of a lane before it; after such a lane all were declined.
+  pub record HaveReturned (graphs : Graphs G) (limit : EdgeLimit) (board : TableId)
+      (cames : List (Came (P × Finding A))) : Type 0 where
+    pub all : length cames ≡ length (graphs_of graphs)
+    pub each : (q : ℕ) (c : Came (P × Finding A)) → slice_get cames q ≡ Some c
+        → CameOf (HasWorked (begun graphs q limit board)) (WasDeclined (begun graphs q limit board)) q c
+    pub behind : (i k : ℕ) (c d : Came (P × Finding A)) → i ≤ k → slice_get cames i ≡ Some c → slice_get cames k ≡ Some d
+        → IsDeclined c → IsDeclined d
 
 -- The graphs are some program's, and the passes are those of all its procedures, by number, as given by a board that
 -- the starter's message opened.

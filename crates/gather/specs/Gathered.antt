@@ -1,5 +1,5 @@
--- What is gathered of outcomes.
-use Rattle.std.specs.Prelude.{◌≡◌, ◌≤◌, ◌⊎◌, ◌↔◌, ℕ, Bool, true, List, [], ◌∷◌}
+-- What is gathered of findings.
+use Rattle.std.specs.Prelude.{◌≡◌, ◌≤◌, ◌⊎◌, ◌↔◌, ℕ, Bool, true, List}
 use Rattle.std.specs.Prelude.{Option, Some, None, map, Result, IfOk, IfErr, slice_get}
 use Rattle.post_ledger.specs.declared.event.Event.{Event}
 use Rattle.language.specs.Step.{Program}
@@ -11,18 +11,18 @@ use Rattle.flow_graph.specs.Drawn.{bad_of, graphs_of}
 use Rattle.flow_graph.specs.Graphs.{AreDrawnFrom}
 use Rattle.summaries.specs.declared.due.Due.{Due}
 use Rattle.path_sets.specs.EdgeLimits.{most_of}
-use Rattle.summaries.specs.Effects.{Effects}
+use Rattle.summaries.specs.Effects.{Effect, Effects}
 use Rattle.summaries.specs.Tabulated.{AreSummaries, SomePairBad, HasMoreEdges}
+use Rattle.gather.specs.declared.finding.Finding.{Finding}
+use Rattle.gather.specs.Findings.{closed_with, ends_in}
 use Rattle.gather.specs.Ends.{AreOfBoard}
 use Rattle.gather.specs.declared.gathering.Failure.{Failure}
 use Rattle.summaries.specs.declared.no_verdict.NoVerdict.{NoVerdict}
 use Rattle.summaries.specs.declared.no_verdict.NoVerdict.TheVariants as verdict
-use Rattle.summaries.specs.declared.table.Table.{Table}
 use Rattle.switchboard.specs.declared.calls.Cause.{Cause}
 use Rattle.switchboard.specs.declared.calls.Cause.TheVariants as cause
 use Rattle.procedure_worker.specs.declared.outcome.End.{End}
 use Rattle.procedure_worker.specs.declared.outcome.End.TheVariants.{Closed, Failed}
-use Rattle.procedure_worker.specs.declared.outcome.Outcome.{Outcome}
 
 -- the rank of a cause: `NoVerdict` lists them in this order
 abbrev pub rank_of : Cause → ℕ
@@ -42,21 +42,6 @@ verdict_for procedure cause.Spent = verdict.Spent
 abbrev pub verdict_of : Failure → NoVerdict
 verdict_of failure = verdict_for failure.procedure failure.cause
 
-module _ {G A S : Type 0} where
-  -- how the workers have ended
-  abbrev pub ends_of : List (Outcome G A S) → List End
-  ends_of outcomes = map (λ o. o.end) outcomes
-
-  -- the tables, with this one in front, if there is one
-  abbrev pub beside : Option (Table G A S) → List (Table G A S) → List (Table G A S)
-  beside None ts = ts
-  beside (Some t) ts = t ∷ ts
-
-  -- the tables that the outcomes have, in their order
-  abbrev pub tables_in : List (Outcome G A S) → List (Table G A S)
-  tables_in [] = []
-  tables_in (o ∷ os) = beside o.table (tables_in os)
-
 -- The worker of the procedure with this number has failed for this cause, and none has for one of a lesser rank.
 pub record IsLeastFailure (ends : List End) (failure : Failure) : Type 0 where
   pub named : slice_get ends failure.procedure ≡ Some (Failed failure.cause)
@@ -69,6 +54,10 @@ NoneFailed ends = (c : Cause) → Member (Failed c) ends → ⊥
 -- every worker has ended at the close
 abbrev pub AllClosed : List End → Type 0
 AllClosed ends = (e : End) → Member e ends → e ≡ Closed
+
+-- these were read off the tables of all lanes, in their order, if every worker has ended at the close
+abbrev pub AreRead : {A : Type 0} → List (Finding A) → List Effect → Type 0
+AreRead findings ss = AllClosed (ends_in findings) → findings ≡ map closed_with ss
 
 -- the failure is the least, if a worker has failed
 abbrev pub IsLeastOf : List End → Option Failure → Type 0
@@ -98,8 +87,8 @@ IsCause ends why =
     ⊎ ((why ≡ verdict.Memory) × AllClosed ends)
 
 module _ {G A S : Type 0} (members : S → List Triple) where
-  -- The outcomes are gathered, whichever board they are of.
-  abbrev pub Gathers : Graphs G → List (Outcome G A S) → Result Effects NoVerdict → Type 0
-  Gathers graphs outcomes r =
-      (histories : List (List (Event Due))) (closed : Bool) (of : AreOfBoard members graphs histories closed outcomes)
-      → IfOk r (IsGathered graphs (most_of of.limit) closed (ends_of outcomes)) × IfErr r (IsCause (ends_of outcomes))
+  -- The findings are gathered, whichever board they are of.
+  abbrev pub Gathers : Graphs G → List (Finding A) → Result Effects NoVerdict → Type 0
+  Gathers graphs findings r =
+      (histories : List (List (Event Due))) (closed : Bool) (of : AreOfBoard members graphs histories closed findings)
+      → IfOk r (IsGathered graphs (most_of of.limit) closed (ends_in findings)) × IfErr r (IsCause (ends_in findings))

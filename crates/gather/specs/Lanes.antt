@@ -9,10 +9,10 @@ use Rattle.flow_graph.specs.Graphs.{AreDrawnFrom}
 use Rattle.summaries.specs.declared.due.Due.{Due}
 use Rattle.path_sets.specs.declared.edge_limit.EdgeLimit.{EdgeLimit}
 use Rattle.switchboard.specs.Sights.{Sight}
-use Rattle.procedure_worker.specs.declared.outcome.Outcome.{Outcome}
-use Rattle.procedure_worker.specs.Works.{Start, begun, IsFresh, HasEnded}
+use Rattle.procedure_worker.specs.Works.{Start, begun, IsFresh}
+use Rattle.gather.specs.declared.finding.Finding.{Finding}
 use Rattle.gather.specs.declared.lane.Lane.{Lane}
-use Rattle.gather.specs.Ends.{HadNoThread}
+use Rattle.gather.specs.Ends.{HasWorked, WasDeclined}
 
 module _ {R G A S B K P : Type 0} (identity : B → TableId) (sight : P → Sight Due (Graphs G)) where
   -- what the lane's worker begins with
@@ -25,13 +25,13 @@ module _ {R G A S B K P : Type 0} (identity : B → TableId) (sight : P → Sigh
     pub near : l.number < length (graphs_of l.graphs.now)
     pub fresh : IsFresh (start_of l) (sight l.pass)
 
-  -- what came back is the pass and the outcome of the lane, whose worker has ended
-  abbrev pub HasWorked : (S → List Triple) → Lane R P G A B S K → P × Outcome G A S → Type 0
-  HasWorked members l r = HasEnded (start_of l) members (sight r.0) r.1
+  -- what came back is what a lane returns that began so and ran
+  abbrev pub RunsSo : (S → List Triple) → Lane R P G A B S K → P × Finding A → Type 0
+  RunsSo members l = HasWorked members sight (start_of l)
 
-  -- what came back is the pass and the outcome of the lane, which had no thread
-  abbrev pub WasDeclined : Lane R P G A B S K → P × Outcome G A S → Type 0
-  WasDeclined l r = HadNoThread (start_of l) (sight r.0) r.1
+  -- what came back is what a lane returns that began so and was declined
+  abbrev pub DeclinesSo : (S → List Triple) → Lane R P G A B S K → P × Finding A → Type 0
+  DeclinesSo members l = WasDeclined members sight (start_of l)
 
   -- each lane is that of the procedure with its number, and its worker may begin
   abbrev pub AreOwn : Graphs G → EdgeLimit → TableId → List (Lane R P G A B S K) → Type 0

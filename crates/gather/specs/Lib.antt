@@ -1,6 +1,6 @@
+pub mod Findings
 pub mod Ends
 pub mod Lanes
-pub mod Readings
 pub mod Gathered
 pub mod Through
 pub mod Reports

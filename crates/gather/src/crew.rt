@@ -1,14 +1,15 @@
 //! The crew of a board: a worker for each mailbox.
 ghost use Rattle.std.specs.Prelude.{◌≡◌, ◌≤◌, [], length, map, vec_capacity, IfOk};
-ghost use Rattle.gather.specs.Ends.{IsCrew, HaveEnded};
+ghost use Rattle.gather.specs.Ends.{IsCrew, HaveReturned};
 ghost use Rattle.jobs.specs.Jobs.{first_of, second_of};
 ghost use Rattle.gather.specs.Lanes.{AreLanes};
 
+use crate::finding::Finding;
 use crate::kinds::{CrewBoard, CrewSet, WorkBoard, WorkSet};
 use crate::lane::Lane;
 use flow_graph::Graphs;
 use jobs::{Came, Hire, run_all};
-use procedure_worker::{Gate, Outcome};
+use procedure_worker::Gate;
 use std::alloc::{AllocError, Allocator};
 use std::marker::PhantomData;
 use std::sync::Wait;
@@ -50,8 +51,9 @@ where
 }
 
 /// Runs a worker for each procedure, each in a thread of its own, until all have ended, and returns each pass with
-/// its outcome, in the order of the mailboxes. If a start is refused, the passes of that lane and of those after it
-/// abort the board for that. An error is lack of memory, before any thread was started.
+/// what its lane found, in the order of the mailboxes. If a start is refused, the passes of that lane and of those after it
+/// abort the board for that, and each comes with evidence of the refusal. An error is lack of memory, before any thread
+/// was started.
 pub(crate) fn work_all<'c, 'g, R, B, S, K, H>(
     rt: &'c R,
     alloc: S::Heap,
@@ -61,7 +63,7 @@ pub(crate) fn work_all<'c, 'g, R, B, S, K, H>(
     limit: EdgeLimit,
     gate: &'c K,
     hire: &H,
-) -> Result<Vec<Came<(B::Pass, Outcome<'g, B::Heap, S::Heap, S>)>, S::Heap>, AllocError>
+) -> Result<Vec<Came<(B::Pass, Finding<S::Heap>)>, S::Heap>, AllocError>
 where
     R: Wait + Threads + Sync,
     B: CrewBoard,
@@ -69,11 +71,13 @@ where
     K: Gate + Sync,
     H: Hire,
     requires { IsCrew graphs.now limit (B.identity board.now) (map B.sight passes.items) }
-    ensures { IfOk result (λ cames. HaveEnded S.members graphs.now limit (B.identity board.now)
-        (map (λ c. B.sight (first_of c)) cames.items) (map second_of cames.items)) }
+    ensures { IfOk result (λ cames. HaveReturned S.members B.sight graphs.now limit
+        (B.identity board.now) cames.items) }
 {
     let lanes = lanes_of::<R, B, S, K>(rt, alloc, board, passes, graphs, limit, gate)?;
-    run_all(rt, alloc, lanes, hire)
+    // By the borrow checker of the kit, a result that is returned as it comes would still borrow what the lanes did.
+    let cames = run_all(rt, alloc, lanes, hire)?;
+    Ok(cames)
 }
 
 /// Splits the pairs that came into two lists that have room for them.

@@ -1,16 +1,15 @@
-//! What workers found, gathered.
+//! What lanes left, gathered.
 ghost use Rattle.std.specs.Prelude.{◌≡◌, ◌∷◌, ◌++◌, [], List, IfOk, length};
-ghost use Rattle.gather.specs.Gathered.{rank_of, verdict_of, ends_of, tables_in, IsLeastOf};
-ghost use Rattle.gather.specs.Gathered.{IsLesser, Gathers};
+ghost use Rattle.gather.specs.Findings.{ends_in};
+ghost use Rattle.gather.specs.Gathered.{rank_of, verdict_of, IsLeastOf};
+ghost use Rattle.gather.specs.Gathered.{IsLesser, AreRead, Gathers};
 
-use crate::reading::read_all;
+use crate::finding::Finding;
 use flow_graph::Graphs;
 use path_sets::PathSet;
-use procedure_worker::{End, Outcome};
+use procedure_worker::End;
 use std::alloc::{AllocError, Allocator};
-use std::sync::Wait;
-use std::thread::Threads;
-use summaries::{NoVerdict, Summaries, Table, collect};
+use summaries::{NoVerdict, Summaries, Summary, collect};
 use switchboard::Cause;
 
 /// The failure of a worker: the number of its procedure, and the cause.
@@ -66,59 +65,52 @@ fn least_with(least: Option<Failure>, procedure: usize, end: End) -> Option<Fail
 }
 
 /// The failure of the least rank, if a worker has failed.
-fn least<G: Allocator, A: Allocator, S: PathSet<A>>(
-    outcomes: &[Outcome<'_, G, A, S>],
-) -> Option<Failure>
-    ensures { IsLeastOf (ends_of outcomes.now) result }
+fn least<A: Allocator>(findings: &[Finding<A>]) -> Option<Failure>
+    ensures { IsLeastOf (ends_in findings.now) result }
 {
     let mut least = None;
-    for procedure in 0..outcomes.len() {
-        least = least_with(least, procedure, outcomes[procedure].end);
+    for procedure in 0..findings.len() {
+        least = least_with(least, procedure, findings[procedure].end());
     }
     least
 }
 
-/// The tables of outcomes, in their order.
-fn tables_of<'g, G: Allocator, A: Allocator + Copy, S: PathSet<A>>(
+/// What was read off the tables, in the order of the lanes. An error is lack of memory, also that of a lane while it
+/// read its table off.
+fn summaries_in<A: Allocator + Copy>(
     alloc: A,
-    outcomes: Vec<Outcome<'g, G, A, S>, A>,
-) -> Result<Vec<Table<'g, G, A, S>, A>, AllocError>
-    ensures { IfOk result (λ ts. ts.items ≡ tables_in outcomes.entry.items) }
+    findings: Vec<Finding<A>, A>,
+) -> Result<Vec<Summary<A>, A>, AllocError>
+    ensures { IfOk result (λ ss. AreRead findings.items ss.items) }
 {
-    let mut tables = Vec::new(alloc);
-    for outcome in outcomes {
-        let Outcome {
-            table,
-            end: _,
-            lack: _,
-        } = outcome;
-        if let Some(table) = table {
-            tables.push(table)?;
+    let mut summaries = Vec::new(alloc);
+    for finding in findings {
+        match finding {
+            Finding::Closed(summary) => summaries.push(summary)?,
+            Finding::Unread(error) => return Err(error),
+            Finding::Aborted | Finding::Failed(..) => {}
         }
     }
-    Ok(tables)
+    Ok(summaries)
 }
 
-/// The summaries that the workers of a board have found, from their outcomes, if every worker ended at the close and
+/// The summaries of the program, from what the lanes of its board have left, if every worker ended at the close and
 /// memory suffices; otherwise the cause of the least rank that an end names. What it says holds for the ledger that
 /// the board leaves.
-pub fn gather<R, G, A, S>(
-    rt: &R,
+pub fn gather<G, A, S>(
     alloc: A,
     graphs: &Graphs<G>,
-    outcomes: Vec<Outcome<'_, G, A, S>, A>,
+    findings: Vec<Finding<A>, A>,
 ) -> Result<Summaries<A>, NoVerdict>
 where
-    R: Wait + Threads + Sync,
-    G: Allocator + Send + Sync,
-    A: Allocator + Copy + Send + Sync,
-    S: PathSet<A> + Send,
-    ensures { Gathers S.members graphs.now outcomes.entry.items result }
+    G: Allocator,
+    A: Allocator + Copy,
+    S: PathSet<A>,
+    ensures { Gathers S.members graphs.now findings.items result }
 {
-    if let Some(failure) = least(&outcomes) {
+    if let Some(failure) = least(&findings) {
         return Err(verdict_for(failure));
     }
-    let tables = tables_of(alloc, outcomes)?;
-    let summaries = read_all(rt, alloc, tables)?;
+    let summaries = summaries_in(alloc, findings)?;
     Ok(collect::<G, A, S>(graphs, summaries))
 }

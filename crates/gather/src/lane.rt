@@ -1,8 +1,9 @@
 //! A lane: the pass of one mailbox, and what its worker needs.
+use crate::finding::{Finding, finding_of};
 use crate::kinds::{WorkBoard, WorkSet};
 use flow_graph::Graphs;
 use jobs::Job;
-use procedure_worker::{End, Gate, Outcome, work};
+use procedure_worker::{Gate, Outcome, work};
 use std::alloc::Allocator;
 use std::marker::PhantomData;
 use std::sync::Wait;
@@ -29,17 +30,18 @@ impl<'c, 'g, R: Wait, B: WorkBoard, S: WorkSet, K: Gate> Job
 where
     B::Pass: Drop,
 {
-    ghost use Rattle.gather.specs.Lanes.{MayWork, HasWorked, WasDeclined};
+    ghost use Rattle.gather.specs.Lanes.{MayWork, RunsSo, DeclinesSo};
 
-    type Back = (B::Pass, Outcome<'g, B::Heap, S::Heap, S>);
+    type Back = (B::Pass, Finding<S::Heap>);
 
     ghost can_run = { MayWork B.identity B.sight };
 
-    ghost runs = { HasWorked B.identity B.sight S.members };
+    ghost runs = { RunsSo B.identity B.sight S.members };
 
-    ghost declines = { WasDeclined B.identity B.sight };
+    ghost declines = { DeclinesSo B.identity B.sight S.members };
 
-    fn run(self) -> (B::Pass, Outcome<'g, B::Heap, S::Heap, S>) {
+    /// Works, and reads the table off at the end, in the thread of the worker.
+    fn run(self) -> (B::Pass, Finding<S::Heap>) {
         let Lane {
             rt,
             alloc,
@@ -51,11 +53,14 @@ where
             gate,
             set: _,
         } = self;
-        work(rt, alloc, board, pass, graphs, number, limit, gate)
+        let (pass, outcome): (B::Pass, Outcome<'g, B::Heap, S::Heap, S>) = work(
+            rt, alloc, board, pass, graphs, number, limit, gate,
+        );
+        (pass, finding_of(alloc, outcome))
     }
 
     /// Aborts the board for the missing thread, since the others would wait for it.
-    fn decline(self) -> (B::Pass, Outcome<'g, B::Heap, S::Heap, S>) {
+    fn decline(self) -> (B::Pass, Finding<S::Heap>) {
         let Lane {
             rt,
             alloc: _,
@@ -69,11 +74,6 @@ where
         } = self;
         let mut pass = pass;
         board.abort(rt, &mut pass, None, Cause::NoWorker);
-        let outcome = Outcome {
-            table: None,
-            end: End::Failed(Cause::NoWorker),
-            lack: None,
-        };
-        (pass, outcome)
+        (pass, Finding::Failed(Cause::NoWorker, None))
     }
 }

@@ -2,13 +2,14 @@
 #![tactic(auto)]
 
 mod crew;
+mod finding;
 mod gathering;
 mod kinds;
 mod lane;
 mod one_thread;
-mod reading;
 mod report;
 
+pub use finding::Finding;
 pub use gathering::gather;
 pub use jobs::{Always, Hire};
 pub use kinds::{CrewBoard, CrewSet, WorkBoard, WorkSet};

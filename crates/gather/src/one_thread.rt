@@ -1,5 +1,5 @@
 //! The summaries of a program's rewriting by one thread.
-ghost use Rattle.std.specs.Prelude.{◌≡◌, ◌⊎◌, ◌↔◌, ℕ, codes, Err, IfErr, IfOk};
+ghost use Rattle.std.specs.Prelude.{◌≡◌, ◌≢◌, ◌⊎◌, ◌↔◌, ℕ, codes, Err, IfErr, IfOk};
 ghost use Rattle.language.specs.Resolve.{number_of};
 ghost use Rattle.language.specs.Sequential.{SomeBad, sequential_of};
 ghost use Rattle.language.specs.Step.{Program};
@@ -41,7 +41,8 @@ fn by_graphs<S: PathSet<A>, A: Allocator + Copy>(
 
 /// The summaries of a checked program's rewriting for K rounds, tabulated by one thread and without a board: some
 /// pair of `main__` is bad (`Summaries::bad`) if and only if some run of at most K rounds fails an assert. The path
-/// edges are kept in sets of the type `S`. `TooWide` and `EdgeLimit` are returned as by `check_rounds`.
+/// edges are kept in sets of the type `S`. `TooWide` and `EdgeLimit` are returned as by `check_rounds`, and `NoWorker` and
+/// `Spent` never.
 pub fn tabulate_rounds<S, A, N>(
     alloc: A,
     program: &Checked<N>,
@@ -56,6 +57,7 @@ where
         (IsTabulated (checked_tree program.now) (count_of rounds) (most_of limit)) }
     ensures none { IfErr result
         (IsNoReport (checked_tree program.now) (count_of rounds) (most_of limit)) }
+    ensures alone { IfErr result (λ e. (e ≢ NoVerdict.NoWorker) × (e ≢ NoVerdict.Spent)) }
 {
     let sequential = match rewrite(&alloc, program, rounds) {
         Ok(sequential) => sequential,

@@ -82,9 +82,9 @@ where
     let boxes = graphs.len() as u8;
     let (board, passes) = B::open_with_budget(heap, graphs, boxes, 0, opening, budget)?;
     let ended = work_all::<R, B, S, K, H>(rt, alloc, &board, passes, graphs, limit, gate, hire)?;
-    let (mut back, outcomes) = parted(heap, alloc, ended)?;
+    let (mut back, findings) = parted(heap, alloc, ended)?;
     let ledger = board.into_ledger(&mut back);
-    let summaries = gather(rt, alloc, graphs, outcomes)?;
+    let summaries = gather::<B::Heap, S::Heap, S>(alloc, graphs, findings)?;
     Ok((ledger, summaries))
 }
 

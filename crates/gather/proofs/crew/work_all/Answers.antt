@@ -1,13 +1,12 @@
--- If all lanes have come back, they have ended.
+-- Each lane has returned what the lane of its procedure returns.
 use Rattle.std.proofs.Common.{arith}
-use Rattle.std.proofs.lemmas.Result.{IfOk-weaker}
-use Rattle.gather.proofs.Crews.{all_ended}
+use Rattle.gather.proofs.Crews.{all_returned}
 use Rattle.gather.proofs.crew.work_all.Goals as goal
 
 pub returns : goal.returns
-returns g c = IfOk-weaker c.run_all.result _ _ (λ cames come.
-    all_ended g.B-Board.identity g.B-Board.sight c.args.graphs.now c.args.limit (g.B-Board.identity c.args.board.now)
-    g.S.PathSet.members c.in_ok-lanes.lanes.items cames.items c.in_ok-lanes.ensures come) c.run_all.ensures
+returns g c = all_returned g.B-Board.identity g.B-Board.sight c.args.graphs.now c.args.limit
+    (g.B-Board.identity c.args.board.now) g.S.PathSet.members c.in_ok-lanes.lanes.items c.in_ok-cames.cames.items
+    c.in_ok-lanes.ensures c.in_ok-cames.ensures
 
 pub run_all-requires-clause-few : goal.run_all-requires-clause-few
 run_all-requires-clause-few g c κs within = omega (arith, c.in_ok-lanes.ensures.all, c.args.graphs.now.few)

@@ -3,7 +3,8 @@ use Rattle.std.proofs.Common.{◌≡◌, ◌+◌, ◌++◌, ◌<◌, ◌≤◌, 
 use Rattle.std.proofs.lemmas.Option.{slice_get-get_or}
 use Rattle.std.proofs.lemmas.List.{length-map, map-append}
 use Rattle.post_ledger.proofs.Histories.{split_at_element}
-use Rattle.gather.specs.Gathered.{ends_of, IsLeastOf}
+use Rattle.gather.specs.Findings.{end_of, ends_in}
+use Rattle.gather.specs.Gathered.{IsLeastOf}
 use Rattle.gather.proofs.Causes.{none_least}
 use Rattle.jobs.proofs.Coming.{take_whole}
 use Rattle.gather.proofs.gathering.least.Goals as goal
@@ -13,20 +14,22 @@ loop-procedure-init g c = none_least
 
 pub loop-procedure-preserved : goal.loop-procedure-preserved
 loop-procedure-preserved g c =
-    let all = c.args.outcomes.now in
+    let all = c.args.findings.now in
     let i = c.loop-procedure.procedure in
-    let item = get_or all i c.index-outcomes-procedure.result in
+    let item = get_or all i c.index-findings-procedure.result in
     let within : i < length all = c.loop-procedure-test.true in
-    let is = slice_get-get_or all i c.index-outcomes-procedure.result within in
+    let is = slice_get-get_or all i c.index-findings-procedure.result within in
     let (rest, whole, longer) = split_at_element all i item is in
     let one : i + 1 ≡ suc i = omega arith in
     let next : take (i + 1) all ≡ take i all ++ item ∷ [] = ap (λ n. take n all) one ∙ longer in
     let short : i ≤ length all = omega (arith, within) in
-    let count : length (ends_of (take i all)) ≡ i = length-map (take i all) _ ∙ length-take-le i all short in
+    let count : length (ends_in (take i all)) ≡ i = length-map (take i all) _ ∙ length-take-le i all short in
     subst (λ l. IsLeastOf l c.least_with-least.result)
-    (sym (ap ends_of next ∙ map-append _ (take i all) (item ∷ [])))
-    (c.least_with-least.ensures (ends_of (take i all)) count c.loop-procedure.invariant)
+    (sym (ap ends_in next ∙ map-append _ (take i all) (item ∷ [])))
+    (subst (λ e. IsLeastOf (ends_in (take i all) ++ e ∷ []) c.least_with-least.result)
+    (c.end.ensures ∙ ap end_of c.index-findings-procedure.is)
+    (c.least_with-least.ensures (ends_in (take i all)) count c.loop-procedure.invariant))
 
 pub returns : goal.returns
-returns g c = subst (λ l. IsLeastOf (ends_of l) c.loop-procedure.least)
-    (take_whole c.args.outcomes.now c.loop-procedure.procedure c.loop-procedure-test.false) c.loop-procedure.invariant
+returns g c = subst (λ l. IsLeastOf (ends_in l) c.loop-procedure.least)
+    (take_whole c.args.findings.now c.loop-procedure.procedure c.loop-procedure-test.false) c.loop-procedure.invariant

@@ -5,7 +5,7 @@ use Rattle.resolved.specs.Programs.{sequential_tree}
 use Rattle.round_rewrite.specs.Programs.{count_of}
 use Rattle.checked.specs.Programs.{checked_tree}
 use Rattle.path_sets.specs.EdgeLimits.{most_of}
-use Rattle.gather.proofs.Reporting.{tabulated, not_tabulated}
+use Rattle.gather.proofs.Reporting.{alone, tabulated, not_tabulated}
 use Rattle.gather.proofs.one_thread.tabulate_rounds.Goals as goal
 
 pub returns-clause-tabulated : goal.returns-clause-tabulated
@@ -21,3 +21,6 @@ returns-clause-none g c =
     not_tabulated (count_of c.args.rounds) (most_of c.args.limit) (checked_tree c.args.program.now)
     (sequential_tree c.in-Ok.sequential) same (subst AllNarrow same c.in-Ok.sequential.narrow)
     c.by_graphs.result c.by_graphs.ensures.limit c.by_graphs.ensures.cause
+
+pub returns-clause-alone : goal.returns-clause-alone
+returns-clause-alone g c = alone c.by_graphs.result c.by_graphs.ensures.cause

@@ -2,10 +2,10 @@
 use Rattle.std.proofs.Common.{◌∙◌, map}
 use Rattle.std.proofs.lemmas.Result.{err_from_is_err_and}
 use Rattle.summaries.proofs.Steps.{opening_fits}
-use Rattle.gather.proofs.Crews.{new_crew, all_passes}
+use Rattle.gather.proofs.Crews.{new_crew, all_left, all_passes}
 use Rattle.gather.proofs.Reporting.{parted, of_board, found, limit_passed, not_wide}
-use Rattle.gather.specs.Ends.{HaveEnded}
-use Rattle.gather.specs.Gathered.{ends_of}
+use Rattle.gather.specs.Ends.{HaveLeft}
+use Rattle.gather.specs.Findings.{ends_in}
 use Rattle.gather.proofs.report.analyse.Given.{Over}
 use Rattle.gather.proofs.report.analyse.Goals as goal
 use Rattle.gather.proofs.report.analyse.Goals.{After-back-2-1}
@@ -19,17 +19,18 @@ work_all-requires-after_bounds g c κs within =
     c.len-boxes.ensures (map g.B-Board.sight c.in_ok-board.passes.items)
     c.in_ok-board.ensures.1
 
--- the lanes, split into passes and outcomes, have ended
-ended : (g : Over) (c : After-back-2-1 g) → HaveEnded g.S.PathSet.members c.args.graphs.now c.args.limit
-    (g.B-Board.identity c.in_ok-board.board) (map g.B-Board.sight c.in_ok-back.back.items) c.in_ok-back.outcomes.items
-ended g c = parted g.S.PathSet.members c.args.graphs.now c.args.limit (g.B-Board.identity c.in_ok-board.board)
-    g.B-Board.sight c.in_ok-ended.ended.items c.in_ok-back.back.items c.in_ok-back.outcomes.items c.in_ok-back.ensures.0
-    c.in_ok-back.ensures.1 c.in_ok-ended.ensures
+-- what the lanes returned, split into passes and findings
+lanes : (g : Over) (c : After-back-2-1 g) → HaveLeft g.S.PathSet.members c.args.graphs.now c.args.limit
+    (g.B-Board.identity c.in_ok-board.board) (map g.B-Board.sight c.in_ok-back.back.items) c.in_ok-back.findings.items
+lanes g c = parted g.S.PathSet.members c.args.graphs.now c.args.limit (g.B-Board.identity c.in_ok-board.board)
+    g.B-Board.sight c.in_ok-ended.ended.items c.in_ok-back.back.items c.in_ok-back.findings.items c.in_ok-back.ensures.0
+    c.in_ok-back.ensures.1 (all_left g.S.PathSet.members g.B-Board.sight c.args.graphs.now c.args.limit
+    (g.B-Board.identity c.in_ok-board.board) c.in_ok-ended.ended.items c.in_ok-ended.ensures)
 
 pub into_ledger-ledger-requires : goal.into_ledger-ledger-requires
 into_ledger-ledger-requires g c =
     all_passes g.S.PathSet.members c.args.graphs.now c.args.limit (g.B-Board.identity c.in_ok-board.board)
-    (map g.B-Board.sight c.in_ok-back.back.items) c.in_ok-back.outcomes.items (ended g c)
+    (map g.B-Board.sight c.in_ok-back.back.items) (lanes g c).outcomes (lanes g c).ended
     (g.B-Board.mailboxes c.in_ok-board.board) (c.in_ok-board.ensures.0 ∙ c.len-boxes.ensures)
 
 pub returns-in_err-summaries-clause-limit : goal.returns-in_err-summaries-clause-limit
@@ -37,9 +38,9 @@ returns-in_err-summaries-clause-limit g c = λ p drawn q is.
     let a = (goal.at.returns-in_err-summaries-clause-limit g c).After-back-2-1 in
     let e = err_from_is_err_and c.from_residual-in_err-summaries.result c.from_residual-in_err-summaries.ensures.1 in
     let of =
-    of_board _ _ _ _ _ _ (ended g a) _ (c.in_ok-board.ensures.0 ∙ c.len-boxes.ensures) _ _ c.into_ledger-ledger.ensures.settles in
+    of_board _ _ _ _ _ _ (lanes g a) _ (c.in_ok-board.ensures.0 ∙ c.len-boxes.ensures) _ _ c.into_ledger-ledger.ensures.settles in
     limit_passed g.S.PathSet.members c.args.graphs.now c.args.limit (g.B-Board.identity c.in_ok-board.board)
-    (map g.B-Board.sight c.in_ok-back.back.items) c.in_ok-back.outcomes.items (ended g a) c.in_err-summaries.field-0.0
+    (map g.B-Board.sight c.in_ok-back.back.items) c.in_ok-back.findings.items (lanes g a) c.in_err-summaries.field-0.0
     q (c.in_err-summaries.ensures c.into_ledger-ledger.result.histories.items c.into_ledger-ledger.result.closed of).1
     (let at = e.1 in let same = e.2 in cc) p drawn
 
@@ -48,8 +49,8 @@ returns-in_err-summaries-clause-cause g c =
     let a = (goal.at.returns-in_err-summaries-clause-cause g c).After-back-2-1 in
     let e = err_from_is_err_and c.from_residual-in_err-summaries.result c.from_residual-in_err-summaries.ensures.1 in
     let of =
-    of_board _ _ _ _ _ _ (ended g a) _ (c.in_ok-board.ensures.0 ∙ c.len-boxes.ensures) _ _ c.into_ledger-ledger.ensures.settles in
-    rw (e.1, e.2) (not_wide (ends_of c.in_ok-back.outcomes.items) c.in_err-summaries.field-0.0
+    of_board _ _ _ _ _ _ (lanes g a) _ (c.in_ok-board.ensures.0 ∙ c.len-boxes.ensures) _ _ c.into_ledger-ledger.ensures.settles in
+    rw (e.1, e.2) (not_wide (ends_in c.in_ok-back.findings.items) c.in_err-summaries.field-0.0
     (c.in_err-summaries.ensures c.into_ledger-ledger.result.histories.items c.into_ledger-ledger.result.closed of).1)
 
 pub returns-clause-found : goal.returns-clause-found
@@ -62,21 +63,21 @@ returns-clause-found g c = λ p drawn.
     let id = g.B-Board.identity c.in_ok-board.board in
     let passes = map g.B-Board.sight c.in_ok-back.back.items in
     let boxes = g.B-Board.mailboxes c.in_ok-board.board in
-    let of = of_board g.S.PathSet.members c.args.graphs.now c.args.limit id passes c.in_ok-back.outcomes.items (ended g a)
+    let of = of_board g.S.PathSet.members c.args.graphs.now c.args.limit id passes c.in_ok-back.findings.items (lanes g a)
     boxes count histories closed left in
-    found g.S.PathSet.members c.args.graphs.now c.args.limit id passes c.in_ok-back.outcomes.items (ended g a) boxes count
+    found g.S.PathSet.members c.args.graphs.now c.args.limit id passes c.in_ok-back.findings.items (lanes g a) boxes count
     histories closed left c.in_ok-summaries.summaries (c.in_ok-summaries.ensures histories closed of).0 p drawn
 
 pub returns-clause-closed : goal.returns-clause-closed
 returns-clause-closed g c =
     let a = (goal.at.returns-clause-closed g c).After-back-2-1 in
     let of =
-    of_board _ _ _ _ _ _ (ended g a) _ (c.in_ok-board.ensures.0 ∙ c.len-boxes.ensures) _ _ c.into_ledger-ledger.ensures.settles in
+    of_board _ _ _ _ _ _ (lanes g a) _ (c.in_ok-board.ensures.0 ∙ c.len-boxes.ensures) _ _ c.into_ledger-ledger.ensures.settles in
     (c.in_ok-summaries.ensures c.into_ledger-ledger.result.histories.items c.into_ledger-ledger.result.closed of).0.shut
 
 pub returns-clause-bad : goal.returns-clause-bad
 returns-clause-bad g c = λ p drawn.
     let a = (goal.at.returns-clause-bad g c).After-back-2-1 in
     let of =
-    of_board _ _ _ _ _ _ (ended g a) _ (c.in_ok-board.ensures.0 ∙ c.len-boxes.ensures) _ _ c.into_ledger-ledger.ensures.settles in
+    of_board _ _ _ _ _ _ (lanes g a) _ (c.in_ok-board.ensures.0 ∙ c.len-boxes.ensures) _ _ c.into_ledger-ledger.ensures.settles in
     (c.in_ok-summaries.ensures c.into_ledger-ledger.result.histories.items c.into_ledger-ledger.result.closed of).0.bad p drawn

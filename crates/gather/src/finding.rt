@@ -1,0 +1,57 @@
+//! What a lane leaves beside its pass.
+ghost use Rattle.std.specs.Prelude.{◌≡◌, Some};
+ghost use Rattle.summaries.specs.declared.table.Table.{Table};
+ghost use Rattle.gather.specs.Findings.{end_of, IsLeftOf};
+
+use path_sets::PathSet;
+use procedure_worker::{End, NoRoom, Outcome};
+use std::alloc::{AllocError, Allocator};
+use summaries::{Summary, read_off};
+use switchboard::Cause;
+
+/// What a lane leaves beside its pass: what its table found, or why that is not known.
+#[derive(Drop)]
+pub enum Finding<A: Allocator> {
+    /// Its worker ended at the close, and this was read off its table.
+    Closed(Summary<A>),
+    /// Its worker ended at the close, but memory was refused while its table was read off.
+    Unread(AllocError),
+    /// Its worker ended at the abort of another pass.
+    Aborted,
+    /// Its pass aborted the board for this cause; for lack of memory there is evidence that memory was refused.
+    Failed(Cause, Option<NoRoom>),
+}
+
+impl<A: Allocator> Finding<A> {
+    /// How the lane ended.
+    pub fn end(&self) -> End
+        ensures { result ≡ end_of self.now }
+    {
+        match self {
+            Finding::Closed(_) | Finding::Unread(_) => End::Closed,
+            Finding::Aborted => End::Aborted,
+            Finding::Failed(cause, _) => End::Failed(*cause),
+        }
+    }
+}
+
+/// What is left of the outcome of a worker. Its table is read off if the worker ended at the close; otherwise it is of no
+/// use, since what it found need not be all.
+pub(crate) fn finding_of<G: Allocator, A: Allocator + Copy, S: PathSet<A>>(
+    alloc: A,
+    outcome: Outcome<'_, G, A, S>,
+) -> Finding<A>
+    requires { (t : Table G A S) × (outcome.table ≡ Some t) }
+    ensures { IsLeftOf outcome.entry result }
+{
+    let Outcome { table, end, lack } = outcome;
+    let Some(table) = table else { unreachable!() };
+    match end {
+        End::Closed => match read_off(alloc, table) {
+            Ok(summary) => Finding::Closed(summary),
+            Err(error) => Finding::Unread(error),
+        },
+        End::Aborted => Finding::Aborted,
+        End::Failed(cause) => Finding::Failed(cause, lack),
+    }
+}
