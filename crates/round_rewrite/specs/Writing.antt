@@ -83,7 +83,7 @@ deed_needs is_shared deed =
 abbrev pub procedure_needs : tree.Procedure → ℕ
 procedure_needs procedure = temporaries (names (procedure.formals ++ procedure.locals)).is_shared procedure.body
 
--- no procedure needs more than 64 temporaries
+-- no procedure needs more temporaries than it may have places
 abbrev pub AreFew : List tree.Procedure → Type 0
 AreFew [] = Unit {0}
 AreFew (procedure ∷ procedures) = (procedure_needs procedure ≤ most_places) × AreFew procedures
