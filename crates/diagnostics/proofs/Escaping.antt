@@ -1,33 +1,37 @@
 -- What is written for a name has no control character.
-use Rattle.std.proofs.Common.{◌≡◌, ◌++◌, ◌<◌, ◌≤◌, ◌/◌, ◌%◌, ◌==◌, ◌&&◌, ℕ, Bool, true, false, List, [], ◌∷◌, ap, arith, refl, subst, ◌∙◌}
-use Rattle.std.proofs.Common.{append-nil, if◌then◌else◌, lit<, lit≤}
+use Rattle.std.proofs.Common.{◌≡◌, ◌<◌, ◌≤◌, ◌/◌, ◌%◌, ◌==◌, ◌&&◌, ℕ, Bool, true, false, List}
+use Rattle.std.proofs.Common.{[], ◌∷◌, ◌++◌, ap, append-nil, arith, if◌then◌else◌, lit<, lit≤, refl, subst, ◌∙◌}
 use Rattle.std.specs.Prelude.{codes}
 use Rattle.std.specs.Char.{encode_utf8, is_control}
 use Rattle.std.specs.Fmt.{digit_glyph}
 use Rattle.std.specs.List.{All, flat_map}
 use Rattle.std.specs.Str.{IsAscii, IsUtf8, chars}
-use Rattle.std.proofs.lemmas.Bool.Decides.{nat_tests}
-use Rattle.std.proofs.lemmas.List.Elements.{All-append, All-cons, All-nil, All-tail}
-use Rattle.std.proofs.lemmas.Bool.{cond_both}
-use Rattle.std.proofs.lemmas.List.Concat.{flat_map-cons}
-use Rattle.std.proofs.lemmas.Str.{IsUtf8-from_ascii, chars-IsAscii, chars-append, chars-encodes, chars-nil, encodes-chars, scalars-chars}
-use Rattle.std.proofs.lemmas.Str.Ascii.{IsAscii-from_all}
 use Rattle.std.proofs.Math.Utf8.{encodes, scalar, scalars}
+use Rattle.std.proofs.lemmas.Bool.{cond_both}
+use Rattle.std.proofs.lemmas.Bool.Decides.{nat_tests}
+use Rattle.std.proofs.lemmas.List.Concat.{flat_map-cons}
+use Rattle.std.proofs.lemmas.List.Elements.{All-append, All-cons, All-nil, All-tail}
+use Rattle.std.proofs.lemmas.Str.{IsUtf8-from_ascii, chars-IsAscii, chars-append, chars-encodes, chars-nil}
+use Rattle.std.proofs.lemmas.Str.{encodes-chars, scalars-chars}
+use Rattle.std.proofs.lemmas.Str.Ascii.{IsAscii-from_all}
 use Rattle.diagnostics.specs.Name.{HasNoControl, by_code, escape, escaped, written}
 
+-- the character is no control character
 abbrev IsNoControl : ℕ → Type 0
 IsNoControl c = is_control c ≡ false
 
+-- the byte is a printable ASCII character
 abbrev IsPrintable : ℕ → Type 0
 IsPrintable b = (32 ≤ b) × (b < 127)
 
--- each byte is a printable character
+-- each byte is one
 abbrev Printable : List ℕ → Type 0
 Printable bs = All IsPrintable bs
 
 glyph : (d : ℕ) → d < 16 → IsPrintable (digit_glyph false d)
 glyph d small = grind (arith, nat_tests)
 
+-- what is printable has no control character
 ascii : (bs : List ℕ) → Printable bs → IsAscii bs
 ascii bs p = IsAscii-from_all bs (λ k d h. omega (arith, (p k d h).1))
 
@@ -37,6 +41,7 @@ plain b p = grind (arith, nat_tests)
 no_control : (bs : List ℕ) → Printable bs → HasNoControl bs
 no_control bs p = rw (chars-IsAscii bs (ascii bs p)) (λ k d h. plain _ (p k d h))
 
+-- an escape is printable
 two : (a b : ℕ) → IsPrintable a → IsPrintable b → Printable (a ∷ b ∷ [])
 two a b p q = All-cons IsPrintable a (b ∷ []) p (All-cons IsPrintable b [] q (All-nil IsPrintable))
 
@@ -45,8 +50,8 @@ letter b p = two 92 b (lit≤ tt, lit< tt) p
 
 printable_code : (c : ℕ) → c < 256 → Printable (by_code c)
 printable_code c small =
-    All-append IsPrintable (codes "\\x") (digit_glyph false (c / 16) ∷ digit_glyph false (c % 16) ∷ []) (letter 120 (lit≤ tt, lit< tt))
-    (two _ _ (glyph (c / 16) (omega arith)) (glyph (c % 16) (omega arith)))
+    All-append IsPrintable (codes "\\x") (digit_glyph false (c / 16) ∷ digit_glyph false (c % 16) ∷ [])
+    (letter 120 (lit≤ tt, lit< tt)) (two _ _ (glyph (c / 16) (omega arith)) (glyph (c % 16) (omega arith)))
 
 printable_escape : (c : ℕ) → c < 256 → Printable (escape c)
 printable_escape c small =
@@ -81,6 +86,7 @@ both : (a b : Bool) → (a && b) ≡ true → (a ≡ true) × (b ≡ true)
 both true b h = (refl, h)
 both false b h = absurd (cc h)
 
+-- so is what is written for several characters
 all_shown : (cs : List ℕ) → scalars cs ≡ true → HasNoControl (flat_map written cs)
 all_shown [] ok = rw chars-nil (All-nil IsNoControl)
 all_shown (c ∷ cs) ok =
@@ -93,6 +99,7 @@ pub escaped_shown : (name : List ℕ) → IsUtf8 name → HasNoControl (escaped 
 unfolding escaped
 escaped_shown name text = all_shown (chars name) (scalars-chars name text)
 
+-- without a control character nothing changes
 unchanged : (cs : List ℕ) → All IsNoControl cs → flat_map written cs ≡ encodes cs
 unchanged [] plain = refl
 unchanged (c ∷ cs) plain =

@@ -14,8 +14,8 @@ use std::rt::Files;
 use std::sync::Wait;
 use std::thread::Threads;
 
-/// The files that rows of `file` can open. Each has the text of the row. The last three have control characters in their
-/// names.
+/// The names of the files that rows of `file` can open, each of which has the text of the row. All but the first have
+/// control characters.
 const FILES: &[&str] = &[
     "a.bp",
     "a\nb.bp",
@@ -101,7 +101,7 @@ fn spelled(alloc: Global, word: &str) -> Result<String, AllocError> {
     Ok(spelled)
 }
 
-/// A file that has this text.
+/// One of `FILES`, which has this text.
 fn opened<'a>(text: &'a [u8], path: &str) -> io::Result<&'a [u8]> {
     if FILES.contains(&path) {
         Ok(text)

@@ -14,6 +14,8 @@ two_digits d s n m same small output spec =
 
 pub returns : goal.returns
 returns g c =
-    let e = two_digits c.in_radix.result c.laid_out.result c.args.character c.from.result c.from.ensures c.requires c.in_radix.ensures c.laid_out.ensures in
-    subst (λ o. OnOk c.write.result (AppendsText (string_bytes c.args.message.now) (string_bytes c.write.new.self) (Some (codes "\\x") ++? o)))
-    e c.write.ensures.bytes
+    let old = string_bytes c.args.message.now in
+    let new = string_bytes c.write.new.self in
+    let digits = two_digits c.in_radix.result c.laid_out.result c.args.character c.from.result c.from.ensures c.requires
+    c.in_radix.ensures c.laid_out.ensures in
+    subst (λ o. OnOk c.write.result (AppendsText old new (Some (codes "\\x") ++? o))) digits c.write.ensures.bytes

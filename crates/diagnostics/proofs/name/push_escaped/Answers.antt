@@ -10,6 +10,8 @@ use Rattle.diagnostics.proofs.name.push_escaped.Goals as goal
 pub returns : goal.returns
 unfolding escaped
 returns g c =
-    let t = YieldsList-end (YieldsList-from_chars c.args.name.now c.utf8.name cc) c.loop-character.yielded _ c.loop-character.yielded_by _ _ c.in-None.is c.next.ensures.steps in
-    c.loop-character.invariant
-    ∙ ap (λ cs. string_bytes c.args.message.now ++ flat_map written cs) (sym (map-id c.loop-character.yielded) ∙ t.0)
+    let all = YieldsList-from_chars c.args.name.now c.utf8.name cc in
+    let loop = c.loop-character in
+    let t = YieldsList-end all loop.yielded _ loop.yielded_by _ _ c.in-None.is c.next.ensures.steps in
+    loop.invariant
+    ∙ ap (λ cs. string_bytes c.args.message.now ++ flat_map written cs) (sym (map-id loop.yielded) ∙ t.0)
