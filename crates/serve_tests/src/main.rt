@@ -3,12 +3,8 @@
 //! | Line | What is printed under it |
 //! |---|---|
 //! | `program: WORDS` | what the program does for the words: the status, and what the standard output and the standard error took |
-<<<<<<< ours
-//! | `file: WORDS \| TEXT` | the same if `a.bp`, and three files that have control characters in their names, are all there is, each with this text, in which `\n` stands for a line feed |
-//! | `a word is no UTF-8: ..`, `no memory for the words: ..` | the same if the system does not pass on the words for this reason |
-=======
 //! | `file: WORDS \| TEXT` | the same; the only files are `FILES` of `case.rt`, with this text, in which `\n` stands for a line feed |
->>>>>>> theirs
+//! | `a word is no UTF-8: ..`, `no memory for the words: ..` | the same if the system does not pass on the words for this reason |
 //! | `broken COUNT: WORDS \| FILES` | how many lines of each kind `serve` writes for COUNT broken texts, made from these files in turn |
 //! | `HOW: WORDS \| TEXT` | the status that `serve` gives, and what the writer took; for a stream, what the log took too |
 //!
