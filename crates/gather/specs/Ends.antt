@@ -78,8 +78,8 @@ module _ {G A S P : Type 0} (members : S → List Triple) (sight : P → Sight D
   abbrev pub WasDeclined : Start G → P × Finding A → Type 0
   WasDeclined b r = HadNoThread b (sight r.0) (end_of r.1)
 
-  -- What the lanes of all procedures returned, by number. A lane that ran has worked. For a lane that was declined there
-  -- is evidence that its start was refused, or that of a lane before it; after such a lane all were declined.
+  -- What the lanes of all procedures returned, by number. A lane that ran has worked. For a lane that was declined
+  -- there is evidence that its start was refused, or that of a lane before it; after such a lane all were declined.
   pub record HaveReturned (graphs : Graphs G) (limit : EdgeLimit) (board : TableId)
       (cames : List (Came (P × Finding A))) : Type 0 where
     pub all : length cames ≡ length (graphs_of graphs)

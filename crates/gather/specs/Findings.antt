@@ -27,8 +27,8 @@ module _ {A : Type 0} where
   abbrev pub ends_in : List (Finding A) → List End
   ends_in findings = map end_of findings
 
--- The finding is what is left of a worker's outcome: how the worker ended, the evidence with which it failed, and what was
--- read off its table.
+-- The finding is what is left of a worker's outcome: how the worker ended, the evidence with which it failed, and what
+-- was read off its table.
 pub record IsLeftOf {G A S : Type 0} (o : Outcome G A S) (f : Finding A) : Type 0 where
   pub ended : o.end ≡ end_of f
   pub lack : (c : Cause) (l : Option NoRoom) → f ≡ Failed c l → o.lack ≡ l

@@ -9,7 +9,7 @@ use Rattle.flow_graph.specs.Graphs.{AreDrawnFrom}
 use Rattle.summaries.specs.declared.due.Due.{Due}
 use Rattle.path_sets.specs.declared.edge_limit.EdgeLimit.{EdgeLimit}
 use Rattle.switchboard.specs.Sights.{Sight}
-use Rattle.procedure_worker.specs.Works.{Start, begun, IsFresh}
+use Rattle.procedure_worker.specs.Works.{Start, begun, begun_in, IsFresh}
 use Rattle.gather.specs.declared.finding.Finding.{Finding}
 use Rattle.gather.specs.declared.lane.Lane.{Lane}
 use Rattle.gather.specs.Ends.{HasWorked, WasDeclined}
@@ -17,12 +17,12 @@ use Rattle.gather.specs.Ends.{HasWorked, WasDeclined}
 module _ {R G A S B K P : Type 0} (identity : B → TableId) (sight : P → Sight Due (Graphs G)) where
   -- what the lane's worker begins with
   abbrev pub start_of : Lane R P G A B S K → Start G
-  start_of l = begun l.graphs.now l.number l.limit (identity l.board.now)
+  start_of l = begun_in identity l.context.now l.number
 
   -- The lane's worker may begin: the graphs are some program's, and the pass is fresh.
   pub record MayWork (l : Lane R P G A B S K) : Type 0 where
-    pub drawn : (p : Program) × AreDrawnFrom p (graphs_of l.graphs.now)
-    pub near : l.number < length (graphs_of l.graphs.now)
+    pub drawn : (p : Program) × AreDrawnFrom p (graphs_of l.context.now.graphs.now)
+    pub near : l.number < length (graphs_of l.context.now.graphs.now)
     pub fresh : IsFresh (start_of l) (sight l.pass)
 
   -- what came back is what a lane returns that began so and ran

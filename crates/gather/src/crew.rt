@@ -7,61 +7,48 @@ ghost use Rattle.gather.specs.Lanes.{AreLanes};
 use crate::finding::Finding;
 use crate::kinds::{CrewBoard, CrewSet, WorkBoard, WorkSet};
 use crate::lane::Lane;
-use flow_graph::Graphs;
 use jobs::{Came, Hire, run_all};
-use procedure_worker::Gate;
+use procedure_worker::{Context, Gate};
 use std::alloc::{AllocError, Allocator};
 use std::marker::PhantomData;
 use std::sync::Wait;
 use std::thread::Threads;
-use summaries::EdgeLimit;
 
 /// The lanes of all passes, in their order.
 fn lanes_of<'c, 'g, R: Wait, B: WorkBoard, S: WorkSet, K: Gate>(
-    rt: &'c R,
+    context: &'c Context<'c, 'g, R, B::Heap, B, K>,
     alloc: S::Heap,
-    board: &'c B,
     passes: Vec<B::Pass, B::Heap>,
-    graphs: &'g Graphs<B::Heap>,
-    limit: EdgeLimit,
-    gate: &'c K,
 ) -> Result<Vec<Lane<'c, 'g, R, B::Pass, B::Heap, S::Heap, B, S, K>, S::Heap>, AllocError>
 where
     B::Pass: Drop,
-    requires { IsCrew graphs.now limit (B.identity board.now) (map B.sight passes.items) }
-    ensures { IfOk result
-        (λ ls. AreLanes B.identity B.sight graphs.now limit (B.identity board.now) ls.items) }
+    requires { IsCrew context.now.graphs.now context.now.limit
+        (B.identity context.now.board.now) (map B.sight passes.items) }
+    ensures { IfOk result (λ ls. AreLanes B.identity B.sight context.now.graphs.now
+        context.now.limit (B.identity context.now.board.now) ls.items) }
 {
     let mut lanes = Vec::with_capacity(alloc, passes.len())?;
     for pass in passes {
         let number = lanes.len() as u8;
         lanes.push_reserved(Lane {
-            rt,
+            context,
             alloc,
-            board,
             pass,
-            graphs,
             number,
-            limit,
-            gate,
             set: PhantomData,
         });
     }
     Ok(lanes)
 }
 
-/// Runs a worker for each procedure, each in a thread of its own, until all have ended, and returns each pass with
-/// what its lane found, in the order of the mailboxes. If a start is refused, the passes of that lane and of those after it
+/// Runs a worker for each procedure, each in a thread of its own, until all have ended, and returns each pass with what
+/// its lane found, in the order of the mailboxes. If a start is refused, the passes of that lane and of those after it
 /// abort the board for that, and each comes with evidence of the refusal. An error is lack of memory, before any thread
 /// was started.
 pub(crate) fn work_all<'c, 'g, R, B, S, K, H>(
-    rt: &'c R,
+    context: &'c Context<'c, 'g, R, B::Heap, B, K>,
     alloc: S::Heap,
-    board: &'c B,
     passes: Vec<B::Pass, B::Heap>,
-    graphs: &'g Graphs<B::Heap>,
-    limit: EdgeLimit,
-    gate: &'c K,
     hire: &H,
 ) -> Result<Vec<Came<(B::Pass, Finding<S::Heap>)>, S::Heap>, AllocError>
 where
@@ -70,13 +57,14 @@ where
     S: CrewSet,
     K: Gate + Sync,
     H: Hire,
-    requires { IsCrew graphs.now limit (B.identity board.now) (map B.sight passes.items) }
-    ensures { IfOk result (λ cames. HaveReturned S.members B.sight graphs.now limit
-        (B.identity board.now) cames.items) }
+    requires { IsCrew context.now.graphs.now context.now.limit
+        (B.identity context.now.board.now) (map B.sight passes.items) }
+    ensures { IfOk result (λ cames. HaveReturned S.members B.sight context.now.graphs.now
+        context.now.limit (B.identity context.now.board.now) cames.items) }
 {
-    let lanes = lanes_of::<R, B, S, K>(rt, alloc, board, passes, graphs, limit, gate)?;
+    let lanes = lanes_of::<R, B, S, K>(context, alloc, passes)?;
     // By the borrow checker of the kit, a result that is returned as it comes would still borrow what the lanes did.
-    let cames = run_all(rt, alloc, lanes, hire)?;
+    let cames = run_all(context.rt, alloc, lanes, hire)?;
     Ok(cames)
 }
 

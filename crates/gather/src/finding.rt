@@ -35,8 +35,8 @@ impl<A: Allocator> Finding<A> {
     }
 }
 
-/// What is left of the outcome of a worker. Its table is read off if the worker ended at the close; otherwise it is of no
-/// use, since what it found need not be all.
+/// What is left of the outcome of a worker. Its table is read off if the worker ended at the close; otherwise it is of
+/// no use, since what it found need not be all.
 pub(crate) fn finding_of<G: Allocator, A: Allocator + Copy, S: PathSet<A>>(
     alloc: A,
     outcome: Outcome<'_, G, A, S>,

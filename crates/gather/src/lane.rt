@@ -1,27 +1,22 @@
 //! A lane: the pass of one mailbox, and what its worker needs.
 use crate::finding::{Finding, finding_of};
 use crate::kinds::{WorkBoard, WorkSet};
-use flow_graph::Graphs;
 use jobs::Job;
-use procedure_worker::{Gate, Outcome, work};
+use procedure_worker::{Context, Gate, Outcome, work};
 use std::alloc::Allocator;
 use std::marker::PhantomData;
 use std::sync::Wait;
-use summaries::EdgeLimit;
 use switchboard::Cause;
 
 /// The pass of one mailbox, and what its worker needs.
 #[derive(Drop)]
 pub(crate) struct Lane<'c, 'g, R, P, H: Allocator, A, B, S, K> {
-    pub(crate) rt: &'c R,
-    /// For the table of the worker.
+    /// What all lanes share.
+    pub(crate) context: &'c Context<'c, 'g, R, H, B, K>,
+    /// For the table of the worker, and what is read off it.
     pub(crate) alloc: A,
-    pub(crate) board: &'c B,
     pub(crate) pass: P,
-    pub(crate) graphs: &'g Graphs<H>,
     pub(crate) number: u8,
-    pub(crate) limit: EdgeLimit,
-    pub(crate) gate: &'c K,
     pub(crate) set: PhantomData<S>,
 }
 
@@ -43,18 +38,14 @@ where
     /// Works, and reads the table off at the end, in the thread of the worker.
     fn run(self) -> (B::Pass, Finding<S::Heap>) {
         let Lane {
-            rt,
+            context,
             alloc,
-            board,
             pass,
-            graphs,
             number,
-            limit,
-            gate,
             set: _,
         } = self;
         let (pass, outcome): (B::Pass, Outcome<'g, B::Heap, S::Heap, S>) = work(
-            rt, alloc, board, pass, graphs, number, limit, gate,
+            context, alloc, pass, number,
         );
         (pass, finding_of(alloc, outcome))
     }
@@ -62,18 +53,16 @@ where
     /// Aborts the board for the missing thread, since the others would wait for it.
     fn decline(self) -> (B::Pass, Finding<S::Heap>) {
         let Lane {
-            rt,
+            context,
             alloc: _,
-            board,
             pass,
-            graphs: _,
             number: _,
-            limit: _,
-            gate: _,
             set: _,
         } = self;
         let mut pass = pass;
-        board.abort(rt, &mut pass, None, Cause::NoWorker);
+        context
+            .board
+            .abort(context.rt, &mut pass, None, Cause::NoWorker);
         (pass, Finding::Failed(Cause::NoWorker, None))
     }
 }

@@ -39,9 +39,9 @@ fn by_graphs<S: PathSet<A>, A: Allocator + Copy>(
     tabulate::<A, A, S>(alloc, &graphs, limit)
 }
 
-/// The summaries of a checked program's rewriting for K rounds, tabulated by one thread and without a board: some
-/// pair of `main__` is bad (`Summaries::bad`) if and only if some run of at most K rounds fails an assert. The path
-/// edges are kept in sets of the type `S`. `TooWide` and `EdgeLimit` are returned as by `check_rounds`, and `NoWorker` and
+/// The summaries of a checked program's rewriting for K rounds, tabulated by one thread and without a board: some pair
+/// of `main__` is bad (`Summaries::bad`) if and only if some run of at most K rounds fails an assert. The path edges
+/// are kept in sets of the type `S`. `TooWide` and `EdgeLimit` are returned as by `check_rounds`, and `NoWorker` and
 /// `Spent` never.
 pub fn tabulate_rounds<S, A, N>(
     alloc: A,

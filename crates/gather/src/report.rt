@@ -18,7 +18,7 @@ use flow_graph::{Graphs, graphs};
 use jobs::{Always, Hire};
 use path_sets::DiagramEdges;
 use post_ledger::Ledger;
-use procedure_worker::Gate;
+use procedure_worker::{Context, Gate};
 use round_rewrite::{RewriteFault, Rounds, rewrite};
 use std::alloc::Allocator;
 use std::sync::Wait;
@@ -81,7 +81,14 @@ where
     };
     let boxes = graphs.len() as u8;
     let (board, passes) = B::open_with_budget(heap, graphs, boxes, 0, opening, budget)?;
-    let ended = work_all::<R, B, S, K, H>(rt, alloc, &board, passes, graphs, limit, gate, hire)?;
+    let context = Context {
+        rt,
+        board: &board,
+        gate,
+        graphs,
+        limit,
+    };
+    let ended = work_all::<R, B, S, K, H>(&context, alloc, passes, hire)?;
     let (mut back, findings) = parted(heap, alloc, ended)?;
     let ledger = board.into_ledger(&mut back);
     let summaries = gather::<B::Heap, S::Heap, S>(alloc, graphs, findings)?;

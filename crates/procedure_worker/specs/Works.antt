@@ -32,6 +32,7 @@ use Rattle.switchboard.specs.declared.calls.Cause.{Cause}
 use Rattle.switchboard.specs.declared.calls.Cause.TheVariants as cause
 use Rattle.switchboard.specs.Sights.{Sight, AllTaken, IsSound}
 use Rattle.switchboard.specs.Promises.{Looked, WasDone, MadeAbort}
+use Rattle.procedure_worker.specs.declared.desk.Context.{Context}
 use Rattle.procedure_worker.specs.declared.desk.Desk.{Desk}
 use Rattle.procedure_worker.specs.declared.outcome.End.{End}
 use Rattle.procedure_worker.specs.declared.outcome.End.TheVariants as end
@@ -59,9 +60,13 @@ pub record Start (G : Type 0) : Type 0 where
 abbrev pub begun : {G : Type 0} → Graphs G → ℕ → EdgeLimit → TableId → Start G
 begun graphs number limit board = record { graphs = graphs; number = number; limit = most_of limit; board = board }
 
+-- what the worker of a procedure begins with, by what the workers share
+abbrev pub begun_in : {R G B K : Type 0} → (B → TableId) → Context R G B K → ℕ → Start G
+begun_in identity context number = begun context.graphs.now number context.limit (identity context.board.now)
+
 -- what a worker begins with, by its desk
 abbrev pub start_of : {R G B K : Type 0} → (B → TableId) → Desk R G B K → Start G
-start_of identity desk = begun desk.graphs.now desk.number desk.limit (identity desk.board.now)
+start_of identity desk = begun_in identity desk.context.now desk.number
 
 -- what was posted, as the table answers it
 abbrev pub mails_of : List (ℕ × Due) → List Mail

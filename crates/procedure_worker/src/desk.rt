@@ -3,14 +3,20 @@ use flow_graph::Graphs;
 use std::alloc::Allocator;
 use summaries::EdgeLimit;
 
-/// What a worker works with, and never changes: the handle by which it waits, its board, the gate, and its
-/// procedure, by the flow graphs, its number and how many path edges its table may keep.
+/// What the workers of a board share, and never change: the handle by which they wait, the board, the gate, the flow
+/// graphs of all procedures, and how many path edges a table may keep.
+#[derive(Drop)]
+pub struct Context<'c, 'g, R, G: Allocator, B, K> {
+    pub rt: &'c R,
+    pub board: &'c B,
+    pub gate: &'c K,
+    pub graphs: &'g Graphs<G>,
+    pub limit: EdgeLimit,
+}
+
+/// What one worker works with, and never changes: what it shares with the others, and the number of its procedure.
 #[derive(Drop)]
 pub(crate) struct Desk<'c, 'g, R, G: Allocator, B, K> {
-    pub(crate) rt: &'c R,
-    pub(crate) board: &'c B,
-    pub(crate) gate: &'c K,
-    pub(crate) graphs: &'g Graphs<G>,
+    pub(crate) context: &'c Context<'c, 'g, R, G, B, K>,
     pub(crate) number: u8,
-    pub(crate) limit: EdgeLimit,
 }

@@ -12,6 +12,7 @@ mod stop;
 mod worker;
 mod working;
 
+pub use desk::Context;
 pub use gate::{Gate, Open};
 pub use laws::a_new_pass_is_fresh;
 pub use outcome::{End, Outcome};

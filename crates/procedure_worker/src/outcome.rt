@@ -16,11 +16,11 @@ pub enum End {
     Failed(Cause),
 }
 
-/// What a worker returns: its table, how it ended, and evidence that memory was refused. What its pass took and posted is
-/// in the histories of the board.
+/// What a worker returns: its table, how it ended, and evidence that memory was refused. What its pass took and posted
+/// is in the histories of the board.
 #[derive(Drop)]
 pub struct Outcome<'g, G: Allocator, A: Allocator, S: PathSet<A>> {
-    /// None if the worker had no thread.
+    /// What `work` returns has one. An outcome that stands for a worker without a thread has none.
     pub table: Option<Table<'g, G, A, S>>,
     pub end: End,
     /// Evidence that memory was refused, if the worker failed for that.

@@ -27,7 +27,7 @@ pub(crate) fn post<R: Wait, G: Allocator, H: Allocator, B: Board<Due, Graphs<G>,
     to: u8,
     due: Due,
 ) -> Result<(), Stop>
-    requires board { (B.sight pass.old).board ≡ B.identity desk.now.board.now }
+    requires board { (B.sight pass.old).board ≡ B.identity desk.now.context.now.board.now }
     requires job { HasJob (B.sight pass.old).number job.now (B.sight pass.old).seen.order }
     requires fits { (to < (B.sight pass.old).seen.boxes)
         × FitsIn (B.sight pass.old).seen.world to due }
@@ -35,7 +35,7 @@ pub(crate) fn post<R: Wait, G: Allocator, H: Allocator, B: Board<Due, Graphs<G>,
         (λ _. WasPosted FitsIn job.now to due (B.sight pass.old) (B.sight pass.new))
         (λ why. RefusedFor FitsIn why (B.sight pass.old) (B.sight pass.new)) }
 {
-    match desk.board.post(desk.rt, pass, job, to, due) {
+    match desk.context.board.post(desk.context.rt, pass, job, to, due) {
         Ok(()) => Ok(()),
         Err(PostFault::Spent(_)) => Err(Stop::Failed(Reason::Spent)),
         Err(PostFault::Memory(_)) => Err(Stop::Failed(Reason::NoRoom(NoRoom(())))),

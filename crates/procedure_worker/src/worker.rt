@@ -39,12 +39,14 @@ fn fail<R: Wait, G: Allocator, H: Allocator, B: Board<Due, Graphs<G>, H>, K>(
     job: Option<Job>,
     why: Reason,
 ) -> Finish
-    requires board { (B.sight pass.old).board ≡ B.identity desk.now.board.now }
+    requires board { (B.sight pass.old).board ≡ B.identity desk.now.context.now.board.now }
     requires job { ForSome job
         (λ j. HasJob (B.sight pass.old).number j (B.sight pass.old).seen.order) }
     ensures { Failed FitsIn why result (B.sight pass.old) (B.sight pass.new) }
 {
-    desk.board.abort(desk.rt, pass, job, why.cause());
+    desk.context
+        .board
+        .abort(desk.context.rt, pass, job, why.cause());
     Finish::Failed(why)
 }
 
@@ -54,11 +56,11 @@ fn complete<R: Wait, G: Allocator, H: Allocator, B: Board<Due, Graphs<G>, H>, K>
     pass: &mut B::Pass,
     job: Job,
 ) -> Option<Finish>
-    requires board { (B.sight pass.old).board ≡ B.identity desk.now.board.now }
+    requires board { (B.sight pass.old).board ≡ B.identity desk.now.context.now.board.now }
     requires job { HasJob (B.sight pass.old).number job (B.sight pass.old).seen.order }
     ensures { Completes FitsIn job result (B.sight pass.old) (B.sight pass.new) }
 {
-    match desk.board.done(desk.rt, pass, job) {
+    match desk.context.board.done(desk.context.rt, pass, job) {
         Ok(()) => None,
         Err((job, Spent)) => Some(fail(desk, pass, Some(job), Reason::Spent)),
     }
@@ -72,7 +74,7 @@ fn give_up<R: Wait, G: Allocator, H: Allocator, B: Board<Due, Graphs<G>, H>, K>(
     job: Job,
     why: Stop,
 ) -> Finish
-    requires board { (B.sight pass.old).board ≡ B.identity desk.now.board.now }
+    requires board { (B.sight pass.old).board ≡ B.identity desk.now.context.now.board.now }
     requires job { HasJob (B.sight pass.old).number job (B.sight pass.old).seen.order }
     ensures { StopsSo FitsIn job why result (B.sight pass.old) (B.sight pass.new) }
 {
@@ -105,7 +107,7 @@ impl<'g, P, G: Allocator, A: Allocator, S: PathSet<A>> Worker<'g, P, G, A, S> {
     {
         post(desk, &mut self.pass, job, to, due)?;
         self.posted = self.posted.wrapping_add(1);
-        desk.gate.posted(desk.number, self.posted);
+        desk.context.gate.posted(desk.number, self.posted);
         Ok(())
     }
 }
@@ -148,7 +150,7 @@ impl<'g, P, G: Allocator, A: Allocator + Copy, S: PathSet<A>> Worker<'g, P, G, A
         ensures { HasDealt (start_of B.identity desk.now) S.members result
             (B.sight self.old.pass) (B.sight self.new.pass) self.new }
     {
-        for _ in desk.rt.forever() {
+        for _ in desk.context.rt.forever() {
             match self.answer(desk, &job) {
                 Ok(true) => {}
                 Ok(false) => return complete(desk, &mut self.pass, job),
@@ -187,15 +189,15 @@ impl<'g, P, G: Allocator, A: Allocator + Copy, S: PathSet<A>> Worker<'g, P, G, A
         ensures { HasTurned (start_of B.identity desk.now) S.members result
             (B.sight self.old.pass) (B.sight self.new.pass) self.new }
     {
-        match desk.board.take(desk.rt, &mut self.pass) {
+        match desk.context.board.take(desk.context.rt, &mut self.pass) {
             Ok(Taken::Message(job, due)) => {
                 self.empty = 0;
                 self.taken = self.taken.wrapping_add(1);
-                desk.gate.taken(desk.number, self.taken);
+                desk.context.gate.taken(desk.number, self.taken);
                 self.serve(desk, job, due)
             }
             Ok(Taken::Empty) => {
-                pause(desk.rt, self.empty);
+                pause(desk.context.rt, self.empty);
                 self.empty = self.empty.saturating_add(1);
                 None
             }

@@ -3,9 +3,9 @@ ghost use Rattle.std.specs.Prelude.{◌<◌, length};
 ghost use Rattle.language.specs.Step.{Program};
 ghost use Rattle.flow_graph.specs.Drawn.{graphs_of};
 ghost use Rattle.flow_graph.specs.Graphs.{AreDrawnFrom};
-ghost use Rattle.procedure_worker.specs.Works.{begun, IsFresh, HasEnded};
+ghost use Rattle.procedure_worker.specs.Works.{begun_in, IsFresh, HasEnded};
 
-use crate::desk::Desk;
+use crate::desk::{Context, Desk};
 use crate::gate::Gate;
 use crate::outcome::Outcome;
 use crate::worker::Worker;
@@ -13,25 +13,20 @@ use flow_graph::Graphs;
 use path_sets::PathSet;
 use std::alloc::Allocator;
 use std::sync::Wait;
-use summaries::{Due, EdgeLimit, Table};
+use summaries::{Due, Table};
 use switchboard::Board;
 
 /// Works for a procedure: takes one message of its mailbox, posts all that its table then owes, completes it, and
-/// begins again, until the board is closed, or aborted by another pass, or by this one for a cause of its own. It
-/// fails for lack of memory only if memory was refused to its table or to a post, which its outcome shows; if its
-/// table has failed, it fails for the table's fault. Between two takes that find the mailbox
-/// empty it lets other threads run, and sleeps if that continues. The pass must be that of the procedure, as the
-/// board gave it, and the board must be one of these graphs that the starter's message opened. The table is in memory
-/// of `alloc`.
-pub fn work<'g, R, G, H, A, B, S, K>(
-    rt: &R,
+/// begins again, until the board is closed, or aborted by another pass, or by this one for a cause of its own. It fails
+/// for lack of memory only if memory was refused to its table or to a post, which its outcome shows; if its table has
+/// failed, it fails for the table's fault. Between two takes that find the mailbox empty it lets other threads run, and
+/// sleeps if that continues. The pass must be that of the procedure, as the board gave it, and the board must be one of
+/// the graphs of the context that the starter's message opened. The table is in memory of `alloc`.
+pub fn work<'c, 'g, R, G, H, A, B, S, K>(
+    context: &'c Context<'c, 'g, R, G, B, K>,
     alloc: A,
-    board: &B,
     pass: B::Pass,
-    graphs: &'g Graphs<G>,
     procedure: u8,
-    limit: EdgeLimit,
-    gate: &K,
 ) -> (B::Pass, Outcome<'g, G, A, S>)
 where
     R: Wait,
@@ -41,29 +36,24 @@ where
     B: Board<Due, Graphs<G>, H>,
     S: PathSet<A>,
     K: Gate,
-    requires drawn { (p : Program) × AreDrawnFrom p (graphs_of graphs.now) }
-    requires near { procedure < length (graphs_of graphs.now) }
-    requires fresh { IsFresh (begun graphs.now procedure limit (B.identity board.now))
-        (B.sight pass) }
-    ensures { HasEnded (begun graphs.now procedure limit (B.identity board.now)) S.members
+    requires drawn { (p : Program) × AreDrawnFrom p (graphs_of context.now.graphs.now) }
+    requires near { procedure < length (graphs_of context.now.graphs.now) }
+    requires fresh { IsFresh (begun_in B.identity context.now procedure) (B.sight pass) }
+    ensures { HasEnded (begun_in B.identity context.now procedure) S.members
         (B.sight result.0) result.1 }
 {
     let desk = Desk {
-        rt,
-        board,
-        gate,
-        graphs,
+        context,
         number: procedure,
-        limit,
     };
     let mut worker: Worker<'g, B::Pass, G, A, S> = Worker {
         pass,
-        table: Table::new(alloc, desk.graphs, desk.number, desk.limit),
+        table: Table::new(alloc, context.graphs, procedure, context.limit),
         taken: 0,
         posted: 0,
         empty: 0,
     };
-    for _ in rt.forever() {
+    for _ in context.rt.forever() {
         if let Some(finish) = worker.turn(&desk) {
             let Worker {
                 pass,

@@ -16,7 +16,7 @@ use Rattle.gather.proofs.crew.lanes_of.Goals.{After-len-number}
 number_is : (g : Over) (c : After-len-number g) → c.len-number.result ≡ length c.loop-pass.yielded
 number_is g c = c.len-number.ensures ∙ (c.loop-pass.lanes.ok.0 ∙ c.loop-pass.invariant.1)
 
-near : (g : Over) (c : After-len-number g) → c.len-number.result < length (graphs_of c.args.graphs.now)
+near : (g : Over) (c : After-len-number g) → c.len-number.result < length (graphs_of c.args.context.now.graphs.now)
 near g c =
     let below = came_near c.loop-pass.yielded (into_iter_items c.loop-pass.pass-iterator) (into_iter_items
     c.next.new.self) c.args.passes.items c.in-Some.pass
@@ -32,7 +32,7 @@ loop-pass-init g c = (
 )
 
 pub overflow_cast-number : goal.overflow_cast-number
-overflow_cast-number g c = omega (arith, near g c, c.args.graphs.now.few)
+overflow_cast-number g c = omega (arith, near g c, c.args.context.now.graphs.now.few)
 
 pub push_reserved-requires : goal.push_reserved-requires
 push_reserved-requires g c =
@@ -45,12 +45,12 @@ pub loop-pass-preserved : goal.loop-pass-preserved
 loop-pass-preserved g c =
     let a = (goal.at.loop-pass-preserved g c).After-len-number in
     let i = c.loop-pass.invariant in
-    let id = g.B-Board.identity c.args.board.now in
+    let id = g.B-Board.identity c.args.context.now.board.now in
     let rest = into_iter_items c.loop-pass.pass-iterator in
     let left = into_iter_items c.next.new.self in (
       come c.loop-pass.yielded rest left c.args.passes.items c.in-Some.pass i.0 c.in-Some.ensures.steps.0,
       omega (arith, c.push_reserved.ensures.len, i.1, length-append c.loop-pass.yielded (c.in-Some.pass ∷ [])),
-      own_push g.B-Board.identity g.B-Board.sight c.args.graphs.now c.args.limit id c.loop-pass.lanes.items
+      own_push g.B-Board.identity g.B-Board.sight c.args.context.now.graphs.now c.args.context.now.limit id c.loop-pass.lanes.items
           c.push_reserved.new.self.items _ c.len-number.result c.push_reserved.ensures.items (i.1 ∙ sym (number_is g a)) refl
           (record {
             drawn = c.requires.drawn;

@@ -8,5 +8,5 @@ abbrev pub invariant-loop-pass : goal.invariant-loop-pass
 invariant-loop-pass g l =
     (l.yielded ++ into_iter_items l.pass-iterator ≡ l.fn.passes.items)
     × (length l.lanes.items ≡ length l.yielded)
-    × AreOwn g.B-Board.identity g.B-Board.sight l.graphs l.limit (g.B-Board.identity l.board) l.lanes.items
+    × AreOwn g.B-Board.identity g.B-Board.sight l.context.graphs.now l.context.limit (g.B-Board.identity l.context.board.now) l.lanes.items
     × (length l.fn.passes.items ≤ vec_capacity l.lanes)

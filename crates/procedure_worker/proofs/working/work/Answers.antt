@@ -1,13 +1,13 @@
 -- A new worker is ready, and so it is after each turn that does not end it.
 use Rattle.std.proofs.Common.{refl, sym, subst}
 use Rattle.procedure_worker.specs.Stops.{end_of}
-use Rattle.procedure_worker.specs.Works.{begun, EndsSo, IsFounded}
+use Rattle.procedure_worker.specs.Works.{begun_in, EndsSo, IsFounded}
 use Rattle.procedure_worker.proofs.Works.{fresh_ready, founded}
 use Rattle.procedure_worker.proofs.working.work.Goals as goal
 
 pub loop-init : goal.loop-init
 loop-init g c = (
-  fresh_ready (begun c.args.graphs.now c.args.procedure c.args.limit (g.B.Board.identity c.args.board.now)) g.S.PathSet.members
+  fresh_ready (begun_in g.B.Board.identity c.args.context.now c.args.procedure) g.S.PathSet.members
       (g.B.Board.sight c.args.pass) _ c.requires.drawn c.requires.fresh c.new.ensures.new c.new.ensures.quiet
       c.new.ensures.graph c.new.ensures.procedure c.new.ensures.limit,
   tt,
@@ -16,7 +16,7 @@ loop-init g c = (
 
 pub returns-in-Some-turn : goal.returns-in-Some-turn
 returns-in-Some-turn g c =
-    let b = begun c.args.graphs.now c.args.procedure c.args.limit (g.B.Board.identity c.args.board.now) in
+    let b = begun_in g.B.Board.identity c.args.context.now c.args.procedure in
     let e = c.in-Some-turn.finish in
     let w = c.turn.new.self in
     let stopped = c.in-Some-turn.ensures in (
