@@ -59,8 +59,8 @@ pub fn the_opening_fits_the_first_mailbox<G: Allocator>()
         → FitsIn graphs 0 (Entry Starter 0) }
 {}
 
-/// Each message has numbers, and no two numbered messages are one message. So a message is due if all its numbers are:
-/// what `FitsIn` says of each of them is said of the message.
+/// Each message is that of exactly one message by numbers. So `FitsIn`, which speaks of every message by numbers that a
+/// message is of, holds for none for want of one.
 pub fn each_message_has_its_numbers()
     ensures some { (d : Due) → (k : NumberedMessage) × (due_of k ≡ d) }
     ensures one { (j k : NumberedMessage) → due_of j ≡ due_of k → j ≡ k }
