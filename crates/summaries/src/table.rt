@@ -114,13 +114,6 @@ impl<'g, G: Allocator, A: Allocator + Copy, S: PathSet<A>> Table<'g, G, A, S> {
         }
     }
 
-    /// How many pairs it has found.
-    pub fn pairs(&self) -> usize
-        ensures { result ≡ length self.now.found.pairs.keys }
-    {
-        self.found.pairs.len()
-    }
-
     /// The next message that was given and is not answered yet.
     fn answer(&mut self) -> Option<(u8, Due)>
         requires table { IsTable S.members self.old }
