@@ -19,8 +19,9 @@ find_kit() {
 # Prints when each file whose path is in `$out/files` was last changed. A copy can keep an older time of writing, but not this one.
 change_times() { (cd "$root" && exec xargs -0 stat -Lc '%.9Z %n' --) < "$out/files" 2> /dev/null; }
 
-# Neither a source nor rt was changed since ./build last compared the contents of the sources with those that the program was proved
-# from. It takes a few milliseconds. If it fails, `./build --done` compares the contents again.
+# Neither the code nor its definitions nor rt was changed since ./build last compared the sources with those that the program was proved
+# from. It takes a few milliseconds. A proof that was changed since leaves the program as it was proved. If it fails, `./build --done`
+# compares all contents.
 is_unchanged() {
   local kit known=
   [ -x "$program" ] && [ -f "$out/times" ] || return 1
