@@ -292,10 +292,3 @@ event_there posted (x ∷ ss) zero s e h at is =
 event_there posted (x ∷ ss) (suc i) s e h at is =
     let (f, one) = one_event posted x h.0 in
     ap (λ l. slice_get (l ++ events_of posted ss) (suc i)) one ∙ event_there posted ss i s e h.1 at is
-
--- the events before a number, with the event of that number
-pub one_more : {M : Type 0} (h front : List (Event M)) (i : ℕ) (e : Event M) → slice_get h i ≡ Some e → front ≡ take i h
-    → front ++ e ∷ [] ≡ take (i + 1) h
-one_more h front i e at so_far =
-    let parts = split_at_element h i e at in
-    ap (λ l. l ++ e ∷ []) so_far ∙ sym (ap (λ k. take k h) (add-one i) ∙ parts.2)

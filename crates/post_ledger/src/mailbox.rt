@@ -1,11 +1,12 @@
 //! The mailbox.
 ghost use Rattle.std.specs.Prelude.{◌≡◌, ◌<◌, ◌++◌, ◌∷◌, ◌↔◌, [], length, slice_get};
 ghost use Rattle.std.specs.Prelude.{Contains};
-ghost use Rattle.std.specs.Prelude.{OnOk, IfErr, IfOk, IfSome, IfNone, IsNone};
+ghost use Rattle.std.specs.Prelude.{OnOk, IfErr, IfSome, IfNone, IsNone};
+ghost use Rattle.std.specs.Iterator.{YieldsFirst, item_count};
 ghost use Rattle.post_ledger.specs.History.{posts, takes, dones, IsLegal, TakesOldest};
 
 use crate::event::Event;
-use std::alloc::{AllocError, Allocator};
+use std::alloc::Allocator;
 use std::marker::Model;
 
 /// An event without its message: the number of a Post if it is one or took one, and of a Take if it completed one, both
@@ -156,19 +157,50 @@ impl<M: Copy, A: Allocator> Mailbox<M, A> {
         Some(event)
     }
 
-    /// A list of the events so far, the oldest first. An error means that there is no memory for the list.
-    pub fn history<L: Allocator>(&self, alloc: L) -> Result<Vec<Event<M>, L>, AllocError>
-        ensures all { IfOk result (λ list. list.items ≡ self.now) }
+    /// The events so far, the oldest first. Takes no memory.
+    pub fn history(&self) -> History<'_, M, A>
+        ensures all { result ≡ self.now }
         ensures legal { IsLegal self.now }
     {
         // What the mailbox keeps of its fields is known where one of them is used.
         let _ = &self.steps;
-        let mut list = Vec::with_capacity(alloc, self.len())?;
-        for number in 0..self.len() {
-            if let Some(event) = self.event(number) {
-                list.push(event)?;
-            }
+        History {
+            mailbox: self,
+            read: 0,
         }
-        Ok(list)
+    }
+}
+
+/// The events of a mailbox that were not read yet, the oldest first. In clauses it is their list.
+#[derive(Drop)]
+pub struct History<'a, M, A: Allocator> {
+    mailbox: &'a Mailbox<M, A>,
+    /// How many events were read.
+    read: usize,
+}
+
+impl<'a, M, A: Allocator> Model for History<'a, M, A> {
+    ghost use Rattle.std.specs.Prelude.{List, drop};
+    ghost use Rattle.post_ledger.specs.declared.event.Event.{Event};
+
+    ghost Value = { List (Event M) };
+
+    ghost view = { λ h. drop h.read h.mailbox.now };
+}
+
+impl<'a, M: Copy, A: Allocator> Iterator for History<'a, M, A> {
+    type Item = Event<M>;
+
+    ghost next_gives = { YieldsFirst (λ h. h) };
+
+    ghost remaining = { item_count (λ h. h) };
+
+    fn next(&mut self) -> Option<Event<M>> {
+        if self.read >= self.mailbox.len() {
+            return None;
+        }
+        let event = self.mailbox.event(self.read);
+        self.read += 1;
+        event
     }
 }
