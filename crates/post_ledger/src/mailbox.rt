@@ -12,7 +12,7 @@ use std::marker::Model;
 /// An event without its message: the number of a Post if it is one or took one, and of a Take if it completed one, both
 /// counted from 0.
 #[derive(Clone, Copy)]
-pub(crate) enum Step {
+pub(crate) enum NumberedEvent {
     Post(u32),
     Take(u32),
     Done(u32),
@@ -25,7 +25,7 @@ pub struct Mailbox<M, A: Allocator> {
     /// The senders and messages of the Posts so far.
     posted: Vec<(u8, M), A>,
     /// The events so far, with spare room for a Take and a Done of each Post that lacks them.
-    steps: Vec<Step, A>,
+    events: Vec<NumberedEvent, A>,
     /// How many Takes there are: the next one takes the Post with this number.
     taken: usize,
     /// How many Takes are not completed.
@@ -40,7 +40,7 @@ impl<M, A: Allocator> Model for Mailbox<M, A> {
 
     ghost use Rattle.post_ledger.specs.Kept.{IsKept, events_of};
 
-    ghost view = { λ m. events_of m.posted.items m.steps.items };
+    ghost view = { λ m. events_of m.posted.items m.events.items };
 
     ghost invariant = { IsKept };
 }
@@ -52,7 +52,7 @@ impl<M: Copy, A: Allocator> Mailbox<M, A> {
     {
         Mailbox {
             posted: Vec::new(messages),
-            steps: Vec::new(events),
+            events: Vec::new(events),
             taken: 0,
             open: 0,
         }
@@ -72,11 +72,11 @@ impl<M: Copy, A: Allocator> Mailbox<M, A> {
         if let Err(_) = self.posted.reserve(1) {
             return Err(message);
         }
-        if let Err(_) = self.steps.reserve(owed + 3) {
+        if let Err(_) = self.events.reserve(owed + 3) {
             return Err(message);
         }
         self.posted.push_reserved((sender, message));
-        self.steps.push_reserved(Step::Post(number));
+        self.events.push_reserved(NumberedEvent::Post(number));
         Ok(())
     }
 
@@ -107,7 +107,8 @@ impl<M: Copy, A: Allocator> Mailbox<M, A> {
             return None;
         }
         let (sender, message) = self.posted[number];
-        self.steps.push_reserved(Step::Take(number as u32));
+        self.events
+            .push_reserved(NumberedEvent::Take(number as u32));
         self.taken += 1;
         self.open += 1;
         Some((number as u64, sender, message))
@@ -119,7 +120,7 @@ impl<M: Copy, A: Allocator> Mailbox<M, A> {
         requires open { Contains (dones self.old) take → ⊥ }
         ensures { self.new ≡ self.old ++ Event.Done take ∷ [] }
     {
-        self.steps.push_reserved(Step::Done(take as u32));
+        self.events.push_reserved(NumberedEvent::Done(take as u32));
         self.open -= 1;
     }
 
@@ -134,23 +135,23 @@ impl<M: Copy, A: Allocator> Mailbox<M, A> {
     pub fn len(&self) -> usize
         ensures { result ≡ length self.now }
     {
-        self.steps.len()
+        self.events.len()
     }
 
     /// The event with this number, counted from 0, the oldest first.
     pub fn event(&self, number: usize) -> Option<Event<M>>
         ensures { result ≡ slice_get self.now number }
     {
-        let event = match *self.steps.get(number)? {
-            Step::Post(post) => {
+        let event = match *self.events.get(number)? {
+            NumberedEvent::Post(post) => {
                 let (sender, message) = self.posted[post as usize];
                 Event::Post { sender, message }
             }
-            Step::Take(post) => {
+            NumberedEvent::Take(post) => {
                 let (sender, message) = self.posted[post as usize];
                 Event::Take { sender, message }
             }
-            Step::Done(take) => Event::Done {
+            NumberedEvent::Done(take) => Event::Done {
                 take: u64::from(take),
             },
         };
@@ -163,7 +164,7 @@ impl<M: Copy, A: Allocator> Mailbox<M, A> {
         ensures legal { IsLegal self.now }
     {
         // What the mailbox keeps of its fields is known where one of them is used.
-        let _ = &self.steps;
+        let _ = &self.events;
         History {
             mailbox: self,
             read: 0,
