@@ -16,7 +16,8 @@
 ;;;###autoload
 (define-derived-mode bebopk-mode prog-mode "bebopk"
   "Major mode for concurrent Boolean programs."
-  (setq-local comment-start "// " font-lock-defaults '(bebopk-font-lock)))
+  (setq-local comment-start "// ")
+  (setq-local font-lock-defaults '(bebopk-font-lock)))
 ;;;###autoload
 (add-to-list 'auto-mode-alist '("\\.bp\\'" . bebopk-mode))
 (provide 'bebopk)
