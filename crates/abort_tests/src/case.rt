@@ -38,7 +38,6 @@ pub fn answer<R: Wait>(
         ("lock for each", Some(case)) => {
             write_row::<R, LockPerBox<Letter, (), Global>>(rt, alloc, &case, out)
         }
-        _ if line.starts_with('#') => Ok(()),
         _ => write!(out, "no such case"),
     }
 }

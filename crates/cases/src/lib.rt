@@ -4,7 +4,12 @@
 use std::alloc::{AllocError, Global};
 use std::io::{self, BufRead, BufReader};
 
-/// Prints each line of the standard input, and lets `answer` print the result.
+/// Whether a line is no case: it is empty, or begins with `#`.
+fn is_heading(line: &str) -> bool {
+    line.is_empty() || line.starts_with('#')
+}
+
+/// Prints each line of the standard input, and lets `answer` print the result if the line is a case.
 pub fn each_line<F: FnMut(&str) -> io::Result<()>>(
     rt: &HostRuntime,
     mut answer: F,
@@ -15,12 +20,14 @@ pub fn each_line<F: FnMut(&str) -> io::Result<()>>(
     for line in input.lines(rt.alloc()) {
         let line = line?;
         println!(rt; "{line}")?;
-        answer(line.as_str())?;
+        if !is_heading(line.as_str()) {
+            answer(line.as_str())?;
+        }
     }
     Ok(())
 }
 
-/// Prints each line of the standard input, and what `answer` writes for it, which is nothing for a heading.
+/// Prints each line of the standard input, and what `answer` writes for it if it is a case.
 pub fn each_case<F: FnMut(&str, &mut String) -> Result<(), AllocError>>(
     rt: &HostRuntime,
     mut answer: F,

@@ -1,13 +1,14 @@
-//! Rows of flow graphs: each line of the standard input is a question on the graphs of a text, and its answer goes to
-//! the standard output.
+//! Rows of flow graphs: each line of the standard input is a question on the graphs of a text, and is printed again with
+//! its answer.
 //!
 //! A line is `ROUNDS | QUESTION | TEXT`: the text is checked and rewritten for K rounds, and the question is put
-//! to the flow graphs of the result. A line that begins with `#` is written as it is.
+//! to the flow graphs of the result. A line that begins with `#` is a heading.
 #![tactic(auto)]
 
 mod answers;
 mod refusals;
 
+use cases::each_case;
 use refusals::{each_refused, plain};
 use resolved::Sequential;
 use round_rewrite::{Rounds, rewrite};
@@ -67,24 +68,12 @@ fn row<A: Allocator + Copy>(alloc: A, line: &str) -> Option<String<A>> {
     of_text(alloc, text, rounds, question)
 }
 
-/// The answer to a line, or the line itself if it is a comment, or that there is no answer.
-fn reply<A: Allocator + Copy>(alloc: A, line: &str) -> Option<String<A>> {
-    if line.starts_with("#") {
-        return String::from_str(alloc, line).ok();
-    }
-    match row(alloc, line) {
-        Some(answer) => Some(answer),
-        None => String::from_str(alloc, "no answer").ok(),
-    }
-}
-
 fn main(rt: HostRuntime) -> io::Result<()> {
-    for line in rt.lines(rt.alloc()) {
-        let line = line?;
-        match reply(rt.alloc(), line.as_str()) {
-            Some(text) => println!(&rt; "{}", text.as_str())?,
-            None => println!(&rt; "no memory")?,
-        }
-    }
-    Ok(())
+    each_case(
+        &rt,
+        |line: &str, out: &mut String| match row(rt.alloc(), line) {
+            Some(answer) => out.push_str(answer.as_str()),
+            None => out.push_str("no answer"),
+        },
+    )
 }

@@ -11,6 +11,7 @@ mod answers;
 mod refusals;
 
 use answers::words;
+use cases::each_case;
 use refusals::refused_in_turn;
 use std::alloc::{AllocError, Global};
 use std::io;
@@ -66,19 +67,9 @@ fn answer(host: Global, line: &str) -> Result<String, AllocError> {
     answered(host, case.as_str())
 }
 
-/// Prints a line, and its answer if it is a case.
-fn say<R: Print + AllocGlobal>(rt: &R, line: &str) -> io::Result<()> {
-    println!(rt; "{line}")?;
-    if line.is_empty() || line.starts_with('#') {
-        return Ok(());
-    }
-    let answer = answer(rt.alloc(), line)?;
-    println!(rt; "{answer}")
-}
-
 fn main(rt: HostRuntime) -> io::Result<()> {
-    for line in rt.lines(rt.alloc()) {
-        say(&rt, line?.as_str())?;
-    }
-    Ok(())
+    each_case(
+        &rt,
+        |line: &str, out: &mut String| out.push_str(answer(rt.alloc(), line)?.as_str()),
+    )
 }

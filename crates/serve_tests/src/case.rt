@@ -45,9 +45,6 @@ pub fn answered<R: Files + Print + AllocGlobal + Wait + Threads + Sync>(
     rt: &R,
     line: &str,
 ) -> io::Result<()> {
-    if line.starts_with('#') {
-        return Ok(());
-    }
     let Some((how, rest)) = line.split_once(": ") else {
         return Ok(());
     };

@@ -170,13 +170,9 @@ fn put_case<A: Allocator + Copy>(alloc: A, page: &mut Page<A>, line: &str) {
     }
 }
 
-/// The answer to a line, in one line.
+/// The answer to a case, in one line.
 pub fn answer<A: Allocator + Copy>(alloc: A, line: &str) -> Result<String<A>, AllocError> {
     let mut page = Page::new(alloc);
-    if line.is_empty() || line.starts_with('#') {
-        page.put(line);
-    } else {
-        put_case(alloc, &mut page, line);
-    }
+    put_case(alloc, &mut page, line);
     in_one_line(alloc, page.text()?.as_str())
 }

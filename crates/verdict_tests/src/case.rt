@@ -17,9 +17,6 @@ pub fn answered<R: Print + AllocGlobal + Wait + Threads + Sync>(
     rt: &R,
     line: &str,
 ) -> io::Result<()> {
-    if line.is_empty() || line.starts_with('#') {
-        return Ok(());
-    }
     match line.split_once(" | ") {
         Some((words, text)) => to_text(rt, words, text),
         None => print_order(rt, line),
