@@ -14,7 +14,7 @@ use std::alloc::Allocator;
 use trees::{Name, Proc, Program, Stmt};
 
 /// Where the targets of a statement begin; if there are none, where the statement begins.
-pub fn start<A: Allocator>(stmt: &Stmt<A>, targets: &[Name<A>]) -> u32
+pub(crate) fn start<A: Allocator>(stmt: &Stmt<A>, targets: &[Name<A>]) -> u32
     ensures { result ≡ first_at stmt.now.at (names_of targets.now) }
 {
     match targets.first() {
@@ -25,14 +25,14 @@ pub fn start<A: Allocator>(stmt: &Stmt<A>, targets: &[Name<A>]) -> u32
 
 /// The offset `at`, if the two numbers differ.
 #[tactic(auto, using(crate::proofs::Found::here, crate::proofs::Found::not_here))]
-pub fn unequal(at: u32, left: usize, right: usize) -> Option<u32>
+pub(crate) fn unequal(at: u32, left: usize, right: usize) -> Option<u32>
     ensures { Finds (λ n. (at ≡ n) × (left ≢ right)) result }
 {
     if left == right { None } else { Some(at) }
 }
 
 /// The offset of an assignment's first target, if its targets and right sides differ in number.
-pub fn sides_miscounted<A: Allocator>(stmt: &Stmt<A>) -> Option<u32>
+pub(crate) fn sides_miscounted<A: Allocator>(stmt: &Stmt<A>) -> Option<u32>
     ensures { Finds (λ n. MiscountsSides n (statement_of stmt.now)) result }
 {
     if stmt.core.assigns() {
@@ -45,7 +45,7 @@ pub fn sides_miscounted<A: Allocator>(stmt: &Stmt<A>) -> Option<u32>
 }
 
 /// The offset of a called name, if the arguments and the formals of what is called differ in number.
-pub fn arguments_miscounted<A: Allocator>(procs: &[Proc<A>], stmt: &Stmt<A>) -> Option<u32>
+pub(crate) fn arguments_miscounted<A: Allocator>(procs: &[Proc<A>], stmt: &Stmt<A>) -> Option<u32>
     ensures { Finds
         (λ n. MiscountsArguments (procs_of procs.now) n (statement_of stmt.now).head) result }
 {
@@ -55,7 +55,7 @@ pub fn arguments_miscounted<A: Allocator>(procs: &[Proc<A>], stmt: &Stmt<A>) -> 
 }
 
 /// The offset of the first target or of the called name, if the two sides of a statement differ in number.
-pub fn miscounted<A: Allocator>(procs: &[Proc<A>], stmt: &Stmt<A>) -> Option<u32>
+pub(crate) fn miscounted<A: Allocator>(procs: &[Proc<A>], stmt: &Stmt<A>) -> Option<u32>
     ensures { Finds (λ n. Miscounts (procs_of procs.now) n (statement_of stmt.now)) result }
 {
     let first = sides_miscounted(stmt);
@@ -64,7 +64,11 @@ pub fn miscounted<A: Allocator>(procs: &[Proc<A>], stmt: &Stmt<A>) -> Option<u32
 }
 
 /// The same for a procedure.
-pub fn miscounted_in<A: Allocator + Copy>(alloc: &A, procs: &[Proc<A>], proc: &Proc<A>) -> Answer
+pub(crate) fn miscounted_in<A: Allocator + Copy>(
+    alloc: &A,
+    procs: &[Proc<A>],
+    proc: &Proc<A>,
+) -> Answer
     ensures { IfOk result (λ r. Finds (MiscountsIn (procs_of procs.now) (proc_of proc.now)) r) }
 {
     let stmts = statements(alloc, proc)?;

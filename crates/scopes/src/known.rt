@@ -21,14 +21,17 @@ type Texts<'a, A> = IndexSet<&'a str, BuildHasherDefault<FoldHasher>, A>;
 
 /// Names, with their texts to look up.
 #[derive(Drop)]
-pub struct Known<'a, A: Allocator> {
+pub(crate) struct Known<'a, A: Allocator> {
     names: Vec<&'a Name<A>, A>,
     texts: Texts<'a, A>,
     ghost told: { AreTexts texts (lent names.items) },
 }
 
 /// The offset of a name whose text was seen before; from now on it is seen.
-pub fn seen_again<'a, A: Allocator + Copy>(seen: &mut Texts<'a, A>, name: &'a Name<A>) -> Answer
+pub(crate) fn seen_again<'a, A: Allocator + Copy>(
+    seen: &mut Texts<'a, A>,
+    name: &'a Name<A>,
+) -> Answer
     ensures told { (ns : List tree.Name) → AreTexts seen.old ns
         → IfOk result (λ r. AreTexts seen.new (ns ++ name_of name.now ∷ [])) }
     ensures again { (ns : List tree.Name) → AreTexts seen.old ns
@@ -43,7 +46,7 @@ pub fn seen_again<'a, A: Allocator + Copy>(seen: &mut Texts<'a, A>, name: &'a Na
 }
 
 /// The least offset of a name that is written as one before it.
-pub fn repeated<A: Allocator + Copy>(alloc: A, names: &[&Name<A>]) -> Answer
+pub(crate) fn repeated<A: Allocator + Copy>(alloc: A, names: &[&Name<A>]) -> Answer
     ensures { IfOk result (λ r. Finds (Repeated (lent names.now)) r) }
 {
     let mut seen = IndexSet::new(alloc);
@@ -55,7 +58,7 @@ pub fn repeated<A: Allocator + Copy>(alloc: A, names: &[&Name<A>]) -> Answer
 }
 
 /// The texts of names.
-pub fn texts<'a, A: Allocator + Copy>(
+pub(crate) fn texts<'a, A: Allocator + Copy>(
     alloc: A,
     names: &[&'a Name<A>],
 ) -> Result<Texts<'a, A>, AllocError>
@@ -70,7 +73,7 @@ pub fn texts<'a, A: Allocator + Copy>(
 
 impl<'a, A: Allocator + Copy> Known<'a, A> {
     /// The names, to be looked up.
-    pub fn new(alloc: A, names: Vec<&'a Name<A>, A>) -> Result<Self, AllocError>
+    pub(crate) fn new(alloc: A, names: Vec<&'a Name<A>, A>) -> Result<Self, AllocError>
         ensures { IfOk result (λ k. lent k.names.items ≡ lent names.entry.items) }
     {
         let texts = texts(alloc, &names)?;
@@ -78,7 +81,7 @@ impl<'a, A: Allocator + Copy> Known<'a, A> {
     }
 
     /// Whether one of the names is written as `x` is.
-    pub fn declares(&self, x: &Name<A>) -> bool
+    pub(crate) fn declares(&self, x: &Name<A>) -> bool
         ensures { result ≡ is_declared (name_of x.now).text (lent self.now.names.items) }
     {
         self.texts.contains(x.text.as_str())
@@ -86,7 +89,7 @@ impl<'a, A: Allocator + Copy> Known<'a, A> {
 
     /// The offset of a name that is not among those known.
     #[tactic(auto, using(crate::proofs::Found::here, crate::proofs::Found::not_here))]
-    pub fn unknown(&self, x: &Name<A>) -> Option<u32>
+    pub(crate) fn unknown(&self, x: &Name<A>) -> Option<u32>
         ensures { Finds (λ n. IsUnknown (lent self.now.names.items) n (name_of x.now)) result }
     {
         if self.declares(x) { None } else { Some(x.at) }

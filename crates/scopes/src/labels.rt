@@ -14,7 +14,7 @@ use std::alloc::{AllocError, Allocator};
 use trees::{Name, Proc, Program, Stmt};
 
 /// References to the labels that statements define, in order.
-pub fn labels<'a, A: Allocator + Copy>(
+pub(crate) fn labels<'a, A: Allocator + Copy>(
     alloc: &A,
     stmts: &[&'a Stmt<A>],
 ) -> Result<Vec<&'a Name<A>, A>, AllocError>
@@ -30,7 +30,7 @@ pub fn labels<'a, A: Allocator + Copy>(
 }
 
 /// The offset of the name in a `goto`, if it is not one of the labels.
-pub fn lost<A: Allocator + Copy>(labels: &Known<A>, stmt: &Stmt<A>) -> Option<u32>
+pub(crate) fn lost<A: Allocator + Copy>(labels: &Known<A>, stmt: &Stmt<A>) -> Option<u32>
     ensures { Finds
         (λ n. GoesNowhere (lent labels.now.names.items) n (statement_of stmt.now).head) result }
 {
@@ -38,7 +38,7 @@ pub fn lost<A: Allocator + Copy>(labels: &Known<A>, stmt: &Stmt<A>) -> Option<u3
 }
 
 /// The least offset of a label of a procedure that is defined twice, or of the name of a `goto` that is none.
-pub fn mislabelled<A: Allocator + Copy>(alloc: &A, proc: &Proc<A>) -> Answer
+pub(crate) fn mislabelled<A: Allocator + Copy>(alloc: &A, proc: &Proc<A>) -> Answer
     ensures { IfOk result (λ r. Finds (λ n. MislabelledIn n (proc_of proc.now)) r) }
 {
     let stmts = statements(alloc, proc)?;

@@ -24,7 +24,7 @@ pub const MOST_THREADS: usize = 8;
 pub const MOST_STATEMENTS: usize = 1000;
 
 /// The offset of the name of the first procedure too many.
-pub fn procedure_too_many<A: Allocator>(procs: &[Proc<A>]) -> Option<u32>
+pub(crate) fn procedure_too_many<A: Allocator>(procs: &[Proc<A>]) -> Option<u32>
     ensures { Finds
         (λ n. IsThere (slice_get (procs_of procs.now) most_procedures) (λ p. p.name.at ≡ n))
         result }
@@ -36,7 +36,7 @@ pub fn procedure_too_many<A: Allocator>(procs: &[Proc<A>]) -> Option<u32>
 }
 
 /// The offset of the first thread line too many.
-pub fn thread_too_many<A: Allocator>(threads: &[Thread<A>]) -> Option<u32>
+pub(crate) fn thread_too_many<A: Allocator>(threads: &[Thread<A>]) -> Option<u32>
     ensures { Finds
         (λ n. IsThere (slice_get (threads_of threads.now) most_threads) (λ line. line.at ≡ n))
         result }
@@ -48,7 +48,7 @@ pub fn thread_too_many<A: Allocator>(threads: &[Thread<A>]) -> Option<u32>
 }
 
 /// The offset of the first statement too many.
-pub fn statement_too_many<A: Allocator>(stmts: &[&Stmt<A>]) -> Option<u32>
+pub(crate) fn statement_too_many<A: Allocator>(stmts: &[&Stmt<A>]) -> Option<u32>
     ensures { Finds
         (λ n. IsThere (slice_get (lent_statements stmts.now) most_statements) (λ s. s.mark.at ≡ n))
         result }
@@ -60,7 +60,7 @@ pub fn statement_too_many<A: Allocator>(stmts: &[&Stmt<A>]) -> Option<u32>
 }
 
 /// References to the statements of procedures, in order.
-pub fn all_statements<'a, A: Allocator + Copy>(
+pub(crate) fn all_statements<'a, A: Allocator + Copy>(
     alloc: &A,
     procs: &'a [Proc<A>],
 ) -> Result<Vec<&'a Stmt<A>, A>, AllocError>

@@ -13,7 +13,7 @@ use trees::{Name, Proc};
 
 /// The lesser of two optional offsets.
 #[tactic(auto, using(crate::proofs::Found::lesser_steps))]
-pub fn earlier(a: Option<u32>, b: Option<u32>) -> Option<u32>
+pub(crate) fn earlier(a: Option<u32>, b: Option<u32>) -> Option<u32>
     ensures { result ≡ earlier_of a b }
 {
     match (a, b) {
@@ -24,7 +24,7 @@ pub fn earlier(a: Option<u32>, b: Option<u32>) -> Option<u32>
 }
 
 /// Appends references to names to those that are there.
-pub fn lend<'a, A: Allocator>(
+pub(crate) fn lend<'a, A: Allocator>(
     names: &'a [Name<A>],
     mut into: Vec<&'a Name<A>, A>,
 ) -> Result<Vec<&'a Name<A>, A>, AllocError>
@@ -37,7 +37,7 @@ pub fn lend<'a, A: Allocator>(
 }
 
 /// References to the formals and locals of a procedure, in order.
-pub fn own_names<'a, A: Allocator + Copy>(
+pub(crate) fn own_names<'a, A: Allocator + Copy>(
     alloc: &A,
     proc: &'a Proc<A>,
 ) -> Result<Vec<&'a Name<A>, A>, AllocError>
@@ -50,14 +50,14 @@ pub fn own_names<'a, A: Allocator + Copy>(
 
 /// Whether two names are written the same.
 #[tactic(auto, using(crate::proofs::Found::same_bytes))]
-pub fn is_same<A: Allocator>(x: &Name<A>, y: &Name<A>) -> bool
+pub(crate) fn is_same<A: Allocator>(x: &Name<A>, y: &Name<A>) -> bool
     ensures { result ≡ same_text (name_of x.now).text (name_of y.now).text }
 {
     x.text.as_str() == y.text.as_str()
 }
 
 /// Whether a name has two underscores in a row.
-pub fn has_two_underscores<A: Allocator>(x: &Name<A>) -> bool
+pub(crate) fn has_two_underscores<A: Allocator>(x: &Name<A>) -> bool
     ensures { IsTrue result ↔ HasTwoUnderscores (name_of x.now).text }
 {
     let text = x.text.as_bytes();
@@ -71,7 +71,7 @@ pub fn has_two_underscores<A: Allocator>(x: &Name<A>) -> bool
 
 /// The offset of a name with two underscores in a row.
 #[tactic(auto, using(crate::proofs::Found::here, crate::proofs::Found::not_here))]
-pub fn reserved_at<A: Allocator>(x: &Name<A>) -> Option<u32>
+pub(crate) fn reserved_at<A: Allocator>(x: &Name<A>) -> Option<u32>
     ensures { Finds (λ n. (x.now.at ≡ n) × HasTwoUnderscores (name_of x.now).text) result }
 {
     if has_two_underscores(x) {
@@ -82,7 +82,7 @@ pub fn reserved_at<A: Allocator>(x: &Name<A>) -> Option<u32>
 }
 
 /// The least offset of a name with two underscores in a row.
-pub fn reserved<A: Allocator>(names: &[&Name<A>]) -> Option<u32>
+pub(crate) fn reserved<A: Allocator>(names: &[&Name<A>]) -> Option<u32>
     ensures { Finds (IsReserved (lent names.now)) result }
 {
     earliest(names, |name| reserved_at(name))

@@ -14,7 +14,7 @@ use std::alloc::Allocator;
 use trees::{Proc, Program};
 
 /// The least offset of a formal, a local or a label of a procedure with two underscores in a row.
-pub fn reserved_in<A: Allocator + Copy>(alloc: &A, proc: &Proc<A>) -> Answer
+pub(crate) fn reserved_in<A: Allocator + Copy>(alloc: &A, proc: &Proc<A>) -> Answer
     ensures { IfOk result (λ r. Finds (λ n. ReservedIn n (proc_of proc.now)) r) }
 {
     let own = own_names(alloc, proc)?;

@@ -8,10 +8,10 @@ use crate::names::earlier;
 use std::alloc::AllocError;
 
 /// The offset that a search found, if any; an error is a refused allocation.
-pub type Answer = Result<Option<u32>, AllocError>;
+pub(crate) type Answer = Result<Option<u32>, AllocError>;
 
 /// The least of the offsets that `search` returns for the items; nothing if it returns none.
-pub fn earliest<T, F: Fn(&T) -> Option<u32>>(items: &[T], search: F) -> Option<u32>
+pub(crate) fn earliest<T, F: Fn(&T) -> Option<u32>>(items: &[T], search: F) -> Option<u32>
     requires { F.IsAlwaysCallable search }
     ensures { Earliest (FnReturnsAt F.Fn search) items.now result }
 {
@@ -23,7 +23,7 @@ pub fn earliest<T, F: Fn(&T) -> Option<u32>>(items: &[T], search: F) -> Option<u
 }
 
 /// The same, if a search may fail: its error is returned.
-pub fn try_earliest<T, E: Drop, F: Fn(&T) -> Result<Option<u32>, E>>(
+pub(crate) fn try_earliest<T, E: Drop, F: Fn(&T) -> Result<Option<u32>, E>>(
     items: &[T],
     search: F,
 ) -> Result<Option<u32>, E>

@@ -7,7 +7,7 @@ use checked::ScopeFault;
 
 /// The fault with the lesser offset of two optional faults; if the offsets are equal, the first.
 #[tactic(auto, using(crate::proofs::Found::lesser_steps))]
-pub fn sooner(a: Option<ScopeFault>, b: Option<ScopeFault>) -> Option<ScopeFault>
+pub(crate) fn sooner(a: Option<ScopeFault>, b: Option<ScopeFault>) -> Option<ScopeFault>
     ensures { result ≡ sooner_of a b }
 {
     match (a, b) {

@@ -8,7 +8,7 @@ use std::alloc::{AllocError, Allocator};
 use trees::{Proc, Stmt};
 
 /// References to the statements of a procedure, in the order of the text.
-pub fn statements<'a, A: Allocator + Copy>(
+pub(crate) fn statements<'a, A: Allocator + Copy>(
     alloc: &A,
     proc: &'a Proc<A>,
 ) -> Result<Vec<&'a Stmt<A>, A>, AllocError>
@@ -19,7 +19,7 @@ pub fn statements<'a, A: Allocator + Copy>(
 
 /// Appends references to the statements of a block, in the order of the text, to those that are there.
 #[cycle(flattening)]
-pub fn flatten<'a, A: Allocator>(
+pub(crate) fn flatten<'a, A: Allocator>(
     stmts: &'a [Stmt<A>],
     into: Vec<&'a Stmt<A>, A>,
 ) -> Result<Vec<&'a Stmt<A>, A>, AllocError>

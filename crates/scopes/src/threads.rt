@@ -11,14 +11,14 @@ use std::alloc::Allocator;
 use trees::{Proc, Program, Thread};
 
 /// Whether a thread can start in this procedure: it has no formals.
-pub fn takes_nothing<A: Allocator>(proc: &Proc<A>) -> bool
+pub(crate) fn takes_nothing<A: Allocator>(proc: &Proc<A>) -> bool
     ensures { result ≡ no_formals (proc_of proc.now) }
 {
     proc.formals.as_slice().is_empty()
 }
 
 /// The offset of the name in a thread line, if no thread can start in what it names.
-pub fn cannot_start<A: Allocator>(procs: &[Proc<A>], line: &Thread<A>) -> Option<u32>
+pub(crate) fn cannot_start<A: Allocator>(procs: &[Proc<A>], line: &Thread<A>) -> Option<u32>
     ensures { Finds (StartsNowhere (procs_of procs.now) (thread_of line.now)) result }
 {
     match find(procs, &line.name) {

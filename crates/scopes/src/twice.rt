@@ -16,7 +16,7 @@ use std::alloc::{AllocError, Allocator};
 use trees::{Name, Proc, Program, Stmt};
 
 /// References to the names of procedures, in order.
-pub fn proc_names<'a, A: Allocator + Copy>(
+pub(crate) fn proc_names<'a, A: Allocator + Copy>(
     alloc: &A,
     procs: &'a [Proc<A>],
 ) -> Result<Vec<&'a Name<A>, A>, AllocError>
@@ -30,7 +30,7 @@ pub fn proc_names<'a, A: Allocator + Copy>(
 }
 
 /// The least offset of a target that occurs again in a statement.
-pub fn target_again<A: Allocator + Copy>(alloc: &A, stmt: &Stmt<A>) -> Answer
+pub(crate) fn target_again<A: Allocator + Copy>(alloc: &A, stmt: &Stmt<A>) -> Answer
     ensures { IfOk result
         (λ r. Finds (λ n. Repeated (targets_of (statement_of stmt.now).head) n) r) }
 {
@@ -39,7 +39,7 @@ pub fn target_again<A: Allocator + Copy>(alloc: &A, stmt: &Stmt<A>) -> Answer
 }
 
 /// The least offset of a name that occurs again in a procedure.
-pub fn twice_in<A: Allocator + Copy>(alloc: &A, proc: &Proc<A>) -> Answer
+pub(crate) fn twice_in<A: Allocator + Copy>(alloc: &A, proc: &Proc<A>) -> Answer
     ensures { IfOk result (λ r. Finds (λ n. IsTwiceIn (proc_of proc.now) n) r) }
 {
     let own = own_names(alloc, proc)?;

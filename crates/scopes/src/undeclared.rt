@@ -16,7 +16,7 @@ use std::alloc::Allocator;
 use trees::{Expr, Name, Proc, Program, Rhs, Stmt};
 
 /// The first procedure that is named as `x` is written.
-pub fn find<'a, A: Allocator>(procs: &'a [Proc<A>], x: &Name<A>) -> Option<&'a Proc<A>>
+pub(crate) fn find<'a, A: Allocator>(procs: &'a [Proc<A>], x: &Name<A>) -> Option<&'a Proc<A>>
     ensures { option_map (λ p. proc_of p.now) result
         ≡ named (name_of x.now).text (procs_of procs.now) }
 {
@@ -29,7 +29,7 @@ pub fn find<'a, A: Allocator>(procs: &'a [Proc<A>], x: &Name<A>) -> Option<&'a P
 }
 
 /// The least offset of a variable of an expression that is not among those known.
-pub fn in_expr<A: Allocator + Copy>(known: &Known<A>, e: &Expr<A>) -> Option<u32>
+pub(crate) fn in_expr<A: Allocator + Copy>(known: &Known<A>, e: &Expr<A>) -> Option<u32>
     ensures { Finds
         (AnyUnknown (lent known.now.names.items) (variables_of (expr_of e.now))) result }
 {
@@ -46,7 +46,7 @@ pub fn in_expr<A: Allocator + Copy>(known: &Known<A>, e: &Expr<A>) -> Option<u32
 }
 
 /// The same for a right side.
-pub fn in_rhs<A: Allocator + Copy>(known: &Known<A>, rhs: &Rhs<A>) -> Option<u32>
+pub(crate) fn in_rhs<A: Allocator + Copy>(known: &Known<A>, rhs: &Rhs<A>) -> Option<u32>
     ensures { Finds
         (AnyUnknown (lent known.now.names.items) (variables_of_side (rhs_of rhs.now))) result }
 {
@@ -57,7 +57,7 @@ pub fn in_rhs<A: Allocator + Copy>(known: &Known<A>, rhs: &Rhs<A>) -> Option<u32
 }
 
 /// The same for an optional right side.
-pub fn in_test<A: Allocator + Copy>(known: &Known<A>, test: Option<&Rhs<A>>) -> Option<u32>
+pub(crate) fn in_test<A: Allocator + Copy>(known: &Known<A>, test: Option<&Rhs<A>>) -> Option<u32>
     ensures { Finds
         (AnyUnknown (lent known.now.names.items)
         (variables_of_test (option_map (λ r. rhs_of r.now) test.entry))) result }
@@ -66,7 +66,10 @@ pub fn in_test<A: Allocator + Copy>(known: &Known<A>, test: Option<&Rhs<A>>) -> 
 }
 
 /// The same for an optional variable.
-pub fn in_receiver<A: Allocator + Copy>(known: &Known<A>, receiver: Option<&Name<A>>) -> Option<u32>
+pub(crate) fn in_receiver<A: Allocator + Copy>(
+    known: &Known<A>,
+    receiver: Option<&Name<A>>,
+) -> Option<u32>
     ensures { Finds
         (AnyUnknown (lent known.now.names.items)
         (as_list (option_map (λ r. name_of r.now) receiver.entry))) result }
@@ -75,7 +78,7 @@ pub fn in_receiver<A: Allocator + Copy>(known: &Known<A>, receiver: Option<&Name
 }
 
 /// The same for the variables that a statement gives values to.
-pub fn in_targets<A: Allocator + Copy>(known: &Known<A>, stmt: &Stmt<A>) -> Option<u32>
+pub(crate) fn in_targets<A: Allocator + Copy>(known: &Known<A>, stmt: &Stmt<A>) -> Option<u32>
     ensures { Finds
         (AnyUnknown (lent known.now.names.items) (targets_of (statement_of stmt.now).head)) result }
 {
@@ -85,7 +88,10 @@ pub fn in_targets<A: Allocator + Copy>(known: &Known<A>, stmt: &Stmt<A>) -> Opti
 }
 
 /// The same for an optional expression.
-pub fn in_given<A: Allocator + Copy>(known: &Known<A>, given: Option<&Expr<A>>) -> Option<u32>
+pub(crate) fn in_given<A: Allocator + Copy>(
+    known: &Known<A>,
+    given: Option<&Expr<A>>,
+) -> Option<u32>
     ensures { Finds
         (λ n. AnyOf (λ e. AnyUnknown (lent known.now.names.items) (variables_of e) n)
         (as_list (option_map (λ r. expr_of r.now) given.entry))) result }
@@ -94,7 +100,7 @@ pub fn in_given<A: Allocator + Copy>(known: &Known<A>, given: Option<&Expr<A>>) 
 }
 
 /// The same for the arguments of a call, or the value that is returned.
-pub fn in_arguments<A: Allocator + Copy>(known: &Known<A>, stmt: &Stmt<A>) -> Option<u32>
+pub(crate) fn in_arguments<A: Allocator + Copy>(known: &Known<A>, stmt: &Stmt<A>) -> Option<u32>
     ensures { Finds
         (λ n. AnyOf (λ e. AnyUnknown (lent known.now.names.items) (variables_of e) n)
         (arguments_of (statement_of stmt.now).head)) result }
@@ -105,7 +111,7 @@ pub fn in_arguments<A: Allocator + Copy>(known: &Known<A>, stmt: &Stmt<A>) -> Op
 }
 
 /// The same for the variables of a statement, without those of the statements that it holds.
-pub fn in_statement<A: Allocator + Copy>(known: &Known<A>, stmt: &Stmt<A>) -> Option<u32>
+pub(crate) fn in_statement<A: Allocator + Copy>(known: &Known<A>, stmt: &Stmt<A>) -> Option<u32>
     ensures { Finds
         (AnyUnknown (lent known.now.names.items) (used_by (statement_of stmt.now).head)) result }
 {
@@ -119,7 +125,7 @@ pub fn in_statement<A: Allocator + Copy>(known: &Known<A>, stmt: &Stmt<A>) -> Op
 }
 
 /// The offset of a called procedure that is not there.
-pub fn in_call<A: Allocator>(procs: &[Proc<A>], stmt: &Stmt<A>) -> Option<u32>
+pub(crate) fn in_call<A: Allocator>(procs: &[Proc<A>], stmt: &Stmt<A>) -> Option<u32>
     ensures { Finds (λ n. CallsUnknown (procs_of procs.now) n (statement_of stmt.now).head) result }
 {
     let callee = stmt.core.callee()?;
@@ -130,7 +136,7 @@ pub fn in_call<A: Allocator>(procs: &[Proc<A>], stmt: &Stmt<A>) -> Option<u32>
 }
 
 /// The least offset of a variable or a called procedure of a statement that has no declaration.
-pub fn of_statement<A: Allocator + Copy>(
+pub(crate) fn of_statement<A: Allocator + Copy>(
     known: &Known<A>,
     procs: &[Proc<A>],
     stmt: &Stmt<A>,
@@ -145,7 +151,11 @@ pub fn of_statement<A: Allocator + Copy>(
 }
 
 /// The same for a procedure.
-pub fn of_proc<A: Allocator + Copy>(alloc: &A, program: &Program<A>, proc: &Proc<A>) -> Answer
+pub(crate) fn of_proc<A: Allocator + Copy>(
+    alloc: &A,
+    program: &Program<A>,
+    proc: &Proc<A>,
+) -> Answer
     ensures { IfOk result
         (λ r. Finds (UndeclaredInProcedure (tree_of program.now) (proc_of proc.now)) r) }
 {
