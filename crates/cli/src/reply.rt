@@ -9,7 +9,9 @@ use std::borrow::CowSlice;
 /// What is written to the standard output, and the status of the program.
 #[derive(Drop)]
 pub struct Reply<A: Allocator> {
+    /// What is written to the standard output.
     pub bytes: CowSlice<'static, u8, A>,
+    /// The exit status of the program.
     pub status: u8,
     /// Why the text got no verdict, or was not rewritten; `None` if it got one or was rewritten.
     pub refusal: Option<Refusal>,

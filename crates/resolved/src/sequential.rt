@@ -16,6 +16,7 @@ use trees::{Program, give_value};
 /// has at most 128 places; and there are 1 to 32 procedures.
 #[derive(Drop)]
 pub struct Sequential<A: Allocator> {
+    /// The tree of the program.
     pub program: Program<A>,
     pub ghost resolves: { Resolves (tree_of program) } by { Resolves-prop (tree_of program) },
     pub ghost narrow: { AllNarrow (tree_of program) } by { AllNarrow-prop (tree_of program) },

@@ -12,7 +12,8 @@ use Rattle.ticket_lock.specs.declared.hand.Hand.{Hand}
 use Rattle.ticket_lock.specs.History.{StartsWith, EndsIn}
 use Rattle.ticket_lock.specs.Turns.{passes, with_leave}
 use Rattle.ticket_lock.specs.Calls as lock
-use Rattle.ticket_lock.specs.Proved.Facts.{StartsWith-refl, StartsWith-trans, StartsWith-length, EndsIn-same}
+use Rattle.ticket_lock.specs.Proved.Facts.{StartsWith-refl, StartsWith-trans, EndsIn-same}
+use Rattle.ticket_lock.proofs.HistoryFacts.{StartsWith-length}
 use Rattle.post_ledger.specs.declared.event.Event.{Event}
 use Rattle.post_ledger.specs.declared.entry.Entry.{Entry}
 use Rattle.post_ledger.specs.Orders.{own, maker_of, IsClosed}

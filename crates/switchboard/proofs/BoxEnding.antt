@@ -13,7 +13,8 @@ use Rattle.atomic_table.specs.Table as table
 use Rattle.atomic_table.specs.Seated.{TableId}
 use Rattle.ticket_lock.specs.declared.hand.Hand.{Hand}
 use Rattle.ticket_lock.specs.Count.{times, total}
-use Rattle.ticket_lock.specs.Proved.Facts.{total_at, total_two, total_only, total-map, at-map, at_longer, times-one, EndsIn-same}
+use Rattle.ticket_lock.specs.Proved.Facts.{total_at, total_two, at-map, times-one, EndsIn-same}
+use Rattle.ticket_lock.proofs.HistoryFacts.{total_only, total-map, at_longer}
 use Rattle.ticket_lock.specs.Proved.Facts.{StartsWith-refl, StartsWith-trans}
 use Rattle.post_ledger.specs.declared.event.Event.{Event}
 use Rattle.post_ledger.specs.declared.entry.Entry.{Entry}

@@ -12,7 +12,8 @@ use Rattle.atomic_table.specs.Seated.{TableId}
 use Rattle.ticket_lock.specs.declared.hand.Hand.{Hand}
 use Rattle.ticket_lock.specs.Count.{times}
 use Rattle.ticket_lock.specs.Core.{Fits, Core}
-use Rattle.ticket_lock.specs.Proved.Facts.{times-one, times-other, StartsWith-refl}
+use Rattle.ticket_lock.specs.Proved.Facts.{times-one, StartsWith-refl}
+use Rattle.ticket_lock.proofs.HistoryFacts.{times-other}
 use Rattle.post_ledger.specs.declared.event.Event.{Event}
 use Rattle.post_ledger.specs.declared.entry.Entry.{Entry}
 use Rattle.post_ledger.specs.declared.entry.Entry.TheVariants.{Posted}

@@ -9,8 +9,10 @@ use Rattle.atomic_table.specs.Table as table
 use Rattle.ticket_lock.specs.declared.hand.Hand.{Hand}
 use Rattle.ticket_lock.specs.Count.{times, total}
 use Rattle.ticket_lock.specs.Core.{in_hand, Fits, Core}
-use Rattle.ticket_lock.specs.Proved.Facts.{total_set, total-snoc, at_set, at_snoc, at_append, set_else, map-set, map-snoc, map-append}
-use Rattle.ticket_lock.specs.Proved.Facts.{at-map, times-append}
+use Rattle.ticket_lock.specs.Proved.Facts.{total_set, at_set, at_snoc, set_else, map-set}
+use Rattle.ticket_lock.proofs.HistoryFacts.{total-snoc, at_append, map-snoc, map-append}
+use Rattle.ticket_lock.specs.Proved.Facts.{at-map}
+use Rattle.ticket_lock.proofs.HistoryFacts.{times-append}
 use Rattle.ticket_lock.proofs.CoreSteps.{core_same}
 use Rattle.post_ledger.specs.declared.event.Event.{Event}
 use Rattle.post_ledger.specs.declared.entry.Entry.{Entry}

@@ -12,8 +12,9 @@ use lib.ListN.{get_elem?}
 use Rattle.atomic_table.specs.Table as table
 use Rattle.ticket_lock.specs.Count.{times, total}
 use Rattle.ticket_lock.specs.History.{StartsWith}
-use Rattle.ticket_lock.specs.Proved.Facts.{total_set, total_at, total_two, total_only, set_here, at_inside, times-one, StartsWith-refl}
-use Rattle.ticket_lock.specs.Proved.Facts.{StartsWith-length, StartsWith-whole}
+use Rattle.ticket_lock.specs.Proved.Facts.{total_set, total_at, total_two, set_here, at_inside, times-one, StartsWith-refl}
+use Rattle.ticket_lock.proofs.HistoryFacts.{total_only}
+use Rattle.ticket_lock.proofs.HistoryFacts.{StartsWith-length, StartsWith-whole}
 use Rattle.ticket_lock.proofs.LoneSteps.{longer_first, longer_second, longer_begins, longer_whole}
 use Rattle.post_ledger.specs.declared.entry.Entry.{Entry}
 use Rattle.post_ledger.specs.Orders.{own, HasJob}

@@ -8,7 +8,8 @@ use native.Mathlib.Decide.{dec_le}
 use Rattle.ticket_lock.specs.Lanes.{Standing, Told}
 use Rattle.ticket_lock.specs.History.{StartsWith, EndsIn, longer}
 use Rattle.ticket_lock.specs.Promises as lock
-use Rattle.ticket_lock.specs.Proved.Facts.{rises_last, EndsIn-same, EndsIn-some, StartsWith-whole, StartsWith-length}
+use Rattle.ticket_lock.specs.Proved.Facts.{EndsIn-same}
+use Rattle.ticket_lock.proofs.HistoryFacts.{rises_last, EndsIn-some, StartsWith-whole, StartsWith-length}
 use Rattle.ticket_lock.proofs.LoneSteps.{longer_first, longer_second}
 use Rattle.post_ledger.specs.declared.entry.Entry.{Entry}
 use Rattle.post_ledger.specs.Orders.{own}

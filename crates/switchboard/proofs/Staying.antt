@@ -5,7 +5,7 @@ use Rattle.std.specs.Prelude.{Result, Option, IsSome}
 use Rattle.std.proofs.lemmas.List.{length_push}
 use Rattle.std.proofs.Common.{length-append}
 use Rattle.ticket_lock.specs.declared.lane.Spent.{Spent}
-use Rattle.ticket_lock.specs.Proved.Facts.{StartsWith-length}
+use Rattle.ticket_lock.proofs.HistoryFacts.{StartsWith-length}
 use Rattle.post_ledger.specs.declared.event.Event.TheVariants as event
 use Rattle.post_ledger.specs.declared.entry.Entry.{Entry}
 use Rattle.post_ledger.specs.declared.entry.Entry.TheVariants.{Posted}

@@ -9,7 +9,8 @@ use Rattle.std.proofs.lemmas.Option.{same_Some}
 use Rattle.ticket_lock.specs.Lanes.{Standing, Held}
 use Rattle.ticket_lock.specs.History.{EndsIn}
 use Rattle.ticket_lock.specs.Promises.{EnteredLock, MayLeave, Left}
-use Rattle.ticket_lock.specs.Proved.Facts.{rises_last, EndsIn-same, StartsWith-refl}
+use Rattle.ticket_lock.specs.Proved.Facts.{EndsIn-same, StartsWith-refl}
+use Rattle.ticket_lock.proofs.HistoryFacts.{rises_last}
 use Rattle.post_ledger.specs.declared.event.Event.TheVariants as event
 use Rattle.post_ledger.specs.declared.entry.Entry.{Entry}
 use Rattle.post_ledger.specs.declared.entry.Entry.TheVariants as entry

@@ -15,7 +15,7 @@ use Rattle.switchboard.specs.Sights.{BoardState, AllTaken}
 -- those of the Posts and the Dones, and there is room for the Take and the Done that each Post still owes.
 pub record IsBook {M : Type 0} (histories : List (List (Event M))) (order : List (Entry M)) (capacity posts dones : ℕ) : Type 0 where
   pub lawful : IsLawful (length histories) order
-  pub parts : (q : ℕ) (h : List (Event M)) → slice_get histories q ≡ Some h → h ≡ part q order
+  pub parts : (mailbox : ℕ) (history : List (Event M)) → slice_get histories mailbox ≡ Some history → history ≡ part mailbox order
   pub few : length histories ≤ 64
   pub all_posted : posts ≡ posted order
   pub all_completed : dones ≡ completed order
@@ -54,4 +54,4 @@ module _ {M W : Type 0} where
   -- the histories are the parts of the order
   pub record AreParts (histories : List (List (Event M))) (state : BoardState M W) : Type 0 where
     pub count : length histories ≡ state.boxes
-    pub each : (q : ℕ) (h : List (Event M)) → slice_get histories q ≡ Some h → h ≡ part q state.order
+    pub each : (mailbox : ℕ) (history : List (Event M)) → slice_get histories mailbox ≡ Some history → history ≡ part mailbox state.order

@@ -13,9 +13,10 @@ use Rattle.switchboard.specs.PerBox.{SeatView, News, HasOwn, Seat}
 module _ {M : Type 0} where
   -- the oldest message that was not taken is taken out of the mailbox, or every one is
   abbrev pub TookOut : Taken M → List (Event M) → List (Event M) → Type 0
-  TookOut (answer.Message job message) before after = (s : ℕ) × (slice_get (posts before) (length (takes before)) ≡ Some (s, message))
+  TookOut (answer.Message job message) before after = (sender : ℕ)
+      × (slice_get (posts before) (length (takes before)) ≡ Some (sender, message))
       × (job ≡ length (takes before))
-      × (after ≡ before ++ Take s message ∷ [])
+      × (after ≡ before ++ Take sender message ∷ [])
   TookOut answer.Empty before after = (after ≡ before) × (length (posts before) ≡ length (takes before))
   TookOut answer.Closed before after = ⊥
   TookOut answer.Aborted before after = ⊥

@@ -24,19 +24,19 @@ module _ {M W : Type 0} where
   -- the seat has taken in what this pass had
   pub record TookInPass (sight : Sight M W) (view : SeatView M W) : Type 0 where
     pub begins : StartsWith view.seen.order sight.seen.order
-    pub aborted : (a : Abort) → sight.seen.aborted ≡ Some a → view.seen.aborted ≡ Some a
+    pub aborted : (abort : Abort) → sight.seen.aborted ≡ Some abort → view.seen.aborted ≡ Some abort
     pub knows : sight.knows ≡ true → view.seen.knows ≡ true
-    pub lane : (i : ℕ) × (get_elem? view.lanes i ≡ some (own_of sight))
-    pub world : (i : ℕ) × (g : Ground M W) × (get_elem? view.boards i ≡ some g) × (g.world.value ≡ sight.seen.world)
+    pub lane : (place : ℕ) × (get_elem? view.lanes place ≡ some (own_of sight))
+    pub world : (place : ℕ) × (ground : Ground M W) × (get_elem? view.boards place ≡ some ground) × (ground.world.value ≡ sight.seen.world)
 
   -- the seat has taken in the passes from number `from` on, and is outside all locks
   pub record Gathered (boxes : ℕ) (all : List (Sight M W)) (from : ℕ) (me : Seat M W) : Type 0 where
     pub out : me.1 ≡ []
     pub told : me.0.told ≡ unseen
     pub owes : me.0.owes ≡ 0
-    pub quiet : (q : ℕ) → q < boxes → ((hand_at q me.0).tickets ≡ []) × ((hand_at q me.0).inside ≡ [])
+    pub quiet : (mailbox : ℕ) → mailbox < boxes → ((hand_at mailbox me.0).tickets ≡ []) × ((hand_at mailbox me.0).inside ≡ [])
     pub count : length me.0.lanes + from ≡ length all
-    pub each : (j : ℕ) (s : Sight M W) → from ≤ j → slice_get all j ≡ Some s → TookInPass s me.0
+    pub each : (place : ℕ) (sight : Sight M W) → from ≤ place → slice_get all place ≡ Some sight → TookInPass sight me.0
 
   module _ (fits : W → ℕ → M → Type 0) where
     -- the seat is that of the pass
@@ -52,12 +52,12 @@ module _ {M W : Type 0} where
       pub low : ℕ
       pub sound : IsSound fits (state_of basis (record { order = order; aborted = first; knows = true }))
       pub saw : Saw fits basis order first low view.seen
-      pub owns : (k : ℕ) (o : Own M) → get_elem? view.lanes k ≡ some o → own o.number order ≡ o.events
-      pub boards : (i : ℕ) (k : Ground M W) → get_elem? view.boards i ≡ some k → k ≡ basis
-      pub once : (n : ℕ) → times n (numbers view) ≤ 1
-      pub maker : (a : Abort) → first ≡ Some a
-          → (k : ℕ) × (o : Own M) × (get_elem? view.lanes k ≡ some o) × (o.number ≡ a.by) × (o.made ≡ true)
+      pub owns : (place : ℕ) (lane : Own M) → get_elem? view.lanes place ≡ some lane → own lane.number order ≡ lane.events
+      pub boards : (place : ℕ) (ground : Ground M W) → get_elem? view.boards place ≡ some ground → ground ≡ basis
+      pub once : (number : ℕ) → times number (numbers view) ≤ 1
+      pub maker : (abort : Abort) → first ≡ Some abort
+          → (place : ℕ) × (lane : Own M) × (get_elem? view.lanes place ≡ some lane) × (lane.number ≡ abort.by) × (lane.made ≡ true)
       pub count : length histories ≡ basis.boxes
-      pub parts : (q : ℕ) (h : List (Event M)) → slice_get histories q ≡ Some h → h ≡ part q order
+      pub parts : (mailbox : ℕ) (history : List (Event M)) → slice_get histories mailbox ≡ Some history → history ≡ part mailbox order
       pub close : IsTrue closed ↔ IsClosed order
       pub known : view.seen.knows ≡ true → closed ≡ true

@@ -62,7 +62,7 @@ module _ {M W : Type 0} where
       pub told : me.0.told ≡ unseen
       pub owes : me.0.owes ≡ 0
       pub budget : left ≤ me.0.budget
-      pub hands : (q : ℕ) → q < boxes → IsIdleHand left (hand_at q me.0)
+      pub hands : (mailbox : ℕ) → mailbox < boxes → IsIdleHand left (hand_at mailbox me.0)
       pub seen : IsSeen w boxes made me.0.seen
 
   -- a seat that has nothing, and saw this

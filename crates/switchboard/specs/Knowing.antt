@@ -109,7 +109,7 @@ module _ {M W T : Type 0} where
 
   -- the numbers of the passes whose seat it is
   abbrev pub numbers : Knowing M W T → List ℕ
-  numbers view = map (λ o. o.number) view.lanes
+  numbers view = map (λ lane. lane.number) view.lanes
 
   -- how many of them are this pass and made an abort
   abbrev pub makes : ℕ → Knowing M W T → ℕ
@@ -152,7 +152,7 @@ module _ {M W T : Type 0} where
   -- a seat without its first pass
   abbrev pub less_one : Knowing M W T → Knowing M W T
   less_one view = record view {
-    hands = map (λ h. bare (h.parts - 1)) view.hands;
+    hands = map (λ hand. bare (hand.parts - 1)) view.hands;
     lanes = drop 1 view.lanes;
     budget = view.budget - 2 ^ 56;
   }
@@ -160,7 +160,7 @@ module _ {M W T : Type 0} where
   -- a seat of its first pass alone
   abbrev pub just_one : Knowing M W T → Knowing M W T
   just_one view = record view {
-    hands = map (λ h. bare 1) view.hands;
+    hands = map (λ hand. bare 1) view.hands;
     lanes = take 1 view.lanes;
     budget = 2 ^ 56;
   }

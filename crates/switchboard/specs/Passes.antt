@@ -38,12 +38,12 @@ module _ {M W : Type 0} where
     number = lane.number;
     calls = calls_of kept lane.left;
     made = not kept;
-    knows = is_complete (latest (λ s. s.order) [] lane.seen);
+    knows = is_complete (latest (λ state. state.order) [] lane.seen);
     seen = record {
       world = world;
       boxes = boxes;
-      order = latest (λ s. s.order) [] lane.seen;
-      aborted = latest (λ s. s.aborted) None lane.seen;
+      order = latest (λ state. state.order) [] lane.seen;
+      aborted = latest (λ state. state.aborted) None lane.seen;
     };
   }
 
@@ -51,9 +51,9 @@ module _ {M W : Type 0} where
   abbrev pub account_of : Told (BoardState M W) → Account M
   account_of note = record {
     board = note.lock;
-    knows = is_complete (latest (λ s. s.order) [] note.seen);
-    order = latest (λ s. s.order) [] note.seen;
-    aborted = latest (λ s. s.aborted) None note.seen;
+    knows = is_complete (latest (λ state. state.order) [] note.seen);
+    order = latest (λ state. state.order) [] note.seen;
+    aborted = latest (λ state. state.aborted) None note.seen;
   }
 
   module _ (fits : W → ℕ → M → Type 0) where

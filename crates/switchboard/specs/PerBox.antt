@@ -41,7 +41,7 @@ SeatView M W = Knowing M W (List (Event M))
 -- a seat of one pass alone has the job
 abbrev pub HasOwnJob : {M W : Type 0} → SeatView M W → ℕ → Type 0
 HasOwnJob {M} view job =
-    (o : Own M) × (view.lanes ≡ o ∷ []) × (own o.number view.seen.order ≡ o.events) × HasJob o.number job view.seen.order
+    (lane : Own M) × (view.lanes ≡ lane ∷ []) × (own lane.number view.seen.order ≡ lane.events) × HasJob lane.number job view.seen.order
 
 -- a seat of the board's table: what it knows, and the slots that it has emptied
 abbrev pub Seat : Type 0 → Type 0 → Type 0
@@ -58,11 +58,11 @@ Boxes M W = table.State (Option (List (Event M))) (SeatView M W)
 module _ {M W : Type 0} where
   -- what the seats have in the count together
   abbrev pub owed : List (SeatView M W) → ℕ
-  owed = total (λ v. v.owes)
+  owed = total (λ view. view.owes)
 
   -- how many Posts they may count up together
   abbrev pub postable : List (SeatView M W) → ℕ
-  postable = total (λ v. v.budget)
+  postable = total (λ view. view.budget)
 
 module _ {M : Type 0} where
   -- the lock of a mailbox keeps the lock's rule, and the last value left in it is the order's projection to the
@@ -94,18 +94,18 @@ module _ {M W : Type 0} where
     pub record Saw (basis : Ground M W) (order : List (Entry M)) (first : Option Abort) (low : ℕ) (seen : Seen M) : Type 0 where
       pub begins : StartsWith order seen.order
       pub sound : 0 < length seen.order → IsSound fits (state_of basis seen)
-      pub aborted : (a : Abort) → seen.aborted ≡ Some a → first ≡ Some a
+      pub aborted : (abort : Abort) → seen.aborted ≡ Some abort → first ≡ Some abort
       pub close : seen.knows ≡ true → (low ≡ 0) × (seen.order ≡ order)
 
     -- What holds for each seat: it has a share of each lock for each of its passes; each of its passes made exactly
     -- its own events of the order; without a pass it has none in the count.
     pub record KnowsBoard (basis : Ground M W) (order : List (Entry M)) (first : Option Abort) (low : ℕ)
         (view : SeatView M W) : Type 0 where
-      pub board : (i : ℕ) (k : Ground M W) → get_elem? view.boards i ≡ some k → k ≡ basis
+      pub board : (place : ℕ) (ground : Ground M W) → get_elem? view.boards place ≡ some ground → ground ≡ basis
       pub saw : Saw basis order first low view.seen
       pub told : Saw basis order first low view.told
-      pub owns : (k : ℕ) (o : Own M) → get_elem? view.lanes k ≡ some o → own o.number order ≡ o.events
-      pub parts : (q : ℕ) → q < basis.boxes → (hand_at q view).parts ≡ length view.lanes
+      pub owns : (place : ℕ) (lane : Own M) → get_elem? view.lanes place ≡ some lane → own lane.number order ≡ lane.events
+      pub parts : (mailbox : ℕ) → mailbox < basis.boxes → (hand_at mailbox view).parts ≡ length view.lanes
       pub idle : length view.lanes ≡ 0 → view.owes ≡ 0
 
     -- The rule: the longest order is sound, and begins with what each seat has seen; each lock stands at its part for
@@ -116,34 +116,36 @@ module _ {M W : Type 0} where
       pub first : Option Abort
       pub low : ℕ
       pub sound : IsSound fits (state_of basis (record { order = order; aborted = first; knows = false }))
-      pub locks : (q : ℕ) → q < basis.boxes → LockStands q order state.words state.homes (map (hand_at q) state.views)
+      pub locks : (mailbox : ℕ) → mailbox < basis.boxes
+          → LockStands mailbox order state.words state.homes (map (hand_at mailbox) state.views)
       pub some_word : 0 < length state.words
       pub word : slice_index state.words 0 ≡ low + flag first
       pub count : low + completed order ≡ posted order + owed state.views
       pub few : low + postable state.views < 2 ^ 63
-      pub each : (j : ℕ) (v : SeatView M W) → get_elem? state.views j ≡ some v → KnowsBoard basis order first low v
-      pub once : (n : ℕ) → total (λ (v : SeatView M W). times n (numbers v)) state.views ≤ 1
-      pub whole : total (λ (v : SeatView M W). length v.lanes) state.views ≡ basis.boxes
-      pub maker : (a : Abort) → first ≡ Some a → 0 < total (makes a.by) state.views
+      pub each : (place : ℕ) (view : SeatView M W) → get_elem? state.views place ≡ some view → KnowsBoard basis order first low view
+      pub once : (number : ℕ) → total (λ (view : SeatView M W). times number (numbers view)) state.views ≤ 1
+      pub whole : total (λ (view : SeatView M W). length view.lanes) state.views ≡ basis.boxes
+      pub maker : (abort : Abort) → first ≡ Some abort → 0 < total (makes abort.by) state.views
 
     -- what a seat sees after a step continues from what it had seen, and is sound; whoever knows the close has seen a
     -- closed order
     pub record News (view : SeatView M W) (seen : Seen M) : Type 0 where
       pub begins : StartsWith seen.order view.seen.order
-      pub aborted : (a : Abort) → view.seen.aborted ≡ Some a → seen.aborted ≡ Some a
+      pub aborted : (abort : Abort) → view.seen.aborted ≡ Some abort → seen.aborted ≡ Some abort
       pub knows : view.seen.knows ≡ true → seen.knows ≡ true
-      pub sound : 0 < length seen.order → (g : Ground M W) → get_elem? view.boards 0 ≡ some g → IsSound fits (state_of g seen)
+      pub sound : 0 < length seen.order → (ground : Ground M W) → get_elem? view.boards 0 ≡ some ground
+          → IsSound fits (state_of ground seen)
       pub close : seen.knows ≡ true → IsClosed seen.order
 
     -- each pass of the seat has exactly its own events in the order
     abbrev pub HasOwn : SeatView M W → List (Entry M) → Type 0
-    HasOwn view order = (k : ℕ) (o : Own M) → get_elem? view.lanes k ≡ some o → own o.number order ≡ o.events
+    HasOwn view order = (place : ℕ) (lane : Own M) → get_elem? view.lanes place ≡ some lane → own lane.number order ≡ lane.events
 
     -- what is asked of an event that a pass is to record, after the history found: a Post is the pass's own, under a
     -- job that it has, fits and is counted up; a Take or a Done is one of the pass's own mailbox, and may follow
     abbrev pub MayRecord : ℕ → ℕ → Event M → List (Event M) → SeatView M W → Type 0
     MayRecord mailbox number (Post sender message) history view = (sender ≡ number) × HasJob number view.under view.seen.order
-        × ((g : Ground M W) × (get_elem? view.boards 0 ≡ some g) × fits g.world.value mailbox message) × (0 < view.owes)
+        × ((ground : Ground M W) × (get_elem? view.boards 0 ≡ some ground) × fits ground.world.value mailbox message) × (0 < view.owes)
     MayRecord mailbox number (Take sender message) history view = (number ≡ mailbox) × MayFollow history (Take sender message)
     MayRecord mailbox number (Done job) history view = (number ≡ mailbox) × MayFollow history (Done job)
 
@@ -151,10 +153,11 @@ module _ {M W : Type 0} where
     abbrev pub LeavesOneEvent : ℕ → StepKind (List (Event M)) → SeatView M W → Type 0
     LeavesOneEvent mailbox draws view = Unit {0}
     LeavesOneEvent mailbox waits view = Unit {0}
-    LeavesOneEvent mailbox (enters x) view = Unit {0}
-    LeavesOneEvent mailbox (passes x y) view = (y ≡ x)
-        ⊎ ((o : Own M) × (e : Event M) × (view.lanes ≡ o ∷ []) × (own o.number view.seen.order ≡ o.events) × (y ≡ x ++ e ∷ [])
-        × MayRecord mailbox o.number e x view)
+    LeavesOneEvent mailbox (enters found) view = Unit {0}
+    LeavesOneEvent mailbox (passes found left) view = (left ≡ found)
+        ⊎ ((lane : Own M) × (event : Event M) × (view.lanes ≡ lane ∷ []) × (own lane.number view.seen.order ≡ lane.events)
+        × (left ≡ found ++ event ∷ [])
+        × MayRecord mailbox lane.number event found view)
 
     -- the event is the last of the order that the pass has seen then, and of its own; the history found was the part of
     -- the order before it
@@ -177,18 +180,19 @@ module _ {M W : Type 0} where
     abbrev pub TellsOrder : ℕ → StepKind (List (Event M)) → SeatView M W → SeatView M W → Type 0
     TellsOrder mailbox draws before after = after ≡ with_hand mailbox (hand_at mailbox after) before
     TellsOrder mailbox waits before after = after ≡ before
-    TellsOrder mailbox (enters x) before after = (after ≡ with_seen after.seen (with_hand mailbox (hand_at mailbox after) before))
+    TellsOrder mailbox (enters found) before after = (after ≡ with_seen after.seen (with_hand mailbox (hand_at mailbox after) before))
         × News before after.seen × HasOwn before after.seen.order
-        × (after.seen.aborted ≡ before.seen.aborted) × (after.seen.knows ≡ before.seen.knows) × (part mailbox after.seen.order ≡ x)
-    TellsOrder mailbox (passes x y) before after = (y ≡ x → after ≡ with_hand mailbox (hand_at mailbox after) before)
-        × ((o : Own M) (e : Event M) → before.lanes ≡ o ∷ [] → y ≡ x ++ e ∷ [] → Recorded mailbox o e x before after)
+        × (after.seen.aborted ≡ before.seen.aborted) × (after.seen.knows ≡ before.seen.knows) × (part mailbox after.seen.order ≡ found)
+    TellsOrder mailbox (passes found left) before after = (left ≡ found → after ≡ with_hand mailbox (hand_at mailbox after) before)
+        × ((lane : Own M) (event : Event M) → before.lanes ≡ lane ∷ [] → left ≡ found ++ event ∷ []
+        → Recorded mailbox lane event found before after)
 
     -- the seat is inside the lock of a mailbox, whose history is out, and is the part of the order that the seat has
     -- seen then
     pub record IsInside (mailbox : ℕ) (history : List (Event M)) (earlier later : Seat M W) : Type 0 where
       pub out : later.1 ≡ (mailbox, None) ∷ earlier.1
       pub after : later.0 ≡ with_seen later.0.seen (with_hand mailbox (hand_at mailbox later.0) earlier.0)
-      pub inside : (t : ℕ) × ((hand_at mailbox later.0).inside ≡ t ∷ [])
+      pub inside : (ticket : ℕ) × ((hand_at mailbox later.0).inside ≡ ticket ∷ [])
       pub tickets : (hand_at mailbox later.0).tickets ≡ []
       pub parts : (hand_at mailbox later.0).parts ≡ (hand_at mailbox earlier.0).parts
       pub drawn : length (hand_at mailbox later.0).drawn ≡ length (hand_at mailbox earlier.0).drawn + 1
@@ -215,13 +219,14 @@ module _ {M W : Type 0} where
       pub news : News earlier.0 later.0.seen
       pub own : HasOwn earlier.0 later.0.seen.order
       pub knows : later.0.seen.knows ≡ earlier.0.seen.knows
-      pub which : (b : Abort) × (later.0.seen.aborted ≡ Some b) × ((b ≡ abort) ⊎ (b.by ≢ abort.by))
+      pub which : (first : Abort) × (later.0.seen.aborted ≡ Some first) × ((first ≡ abort) ⊎ (first.by ≢ abort.by))
 
     -- the seat has taken in what it was told
     pub record SeatTookIn (earlier later : Seat M W) : Type 0 where
       pub after : later ≡ (taken_in earlier.0, earlier.1)
       pub news : News earlier.0 later.0.seen
       pub theirs : StartsWith later.0.seen.order earlier.0.told.order
-      pub aborted : (a : Abort) → earlier.0.told.aborted ≡ Some a → later.0.seen.aborted ≡ Some a
-      pub own : (k : ℕ) (o : Own M) → get_elem? earlier.0.lanes k ≡ some o → own o.number earlier.0.seen.order ≡ o.events
-          → own o.number later.0.seen.order ≡ o.events
+      pub aborted : (abort : Abort) → earlier.0.told.aborted ≡ Some abort → later.0.seen.aborted ≡ Some abort
+      pub own : (place : ℕ) (lane : Own M) → get_elem? earlier.0.lanes place ≡ some lane
+          → own lane.number earlier.0.seen.order ≡ lane.events
+          → own lane.number later.0.seen.order ≡ lane.events

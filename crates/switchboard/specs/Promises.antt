@@ -8,7 +8,7 @@ use Rattle.post_ledger.specs.declared.event.Event.{Event}
 use Rattle.post_ledger.specs.declared.entry.Entry.{Entry}
 use Rattle.post_ledger.specs.declared.entry.Entry.TheVariants.{Posted, Taken, Completed}
 use Rattle.post_ledger.specs.History.{takes, TakesOldest}
-use Rattle.post_ledger.specs.Orders.{part, own, IsLawful, IsClosed}
+use Rattle.post_ledger.specs.Orders.{part, own, HasJob, IsLawful, IsClosed}
 use Rattle.switchboard.specs.declared.calls.Abort.{Abort}
 use Rattle.switchboard.specs.declared.calls.PostFault.{PostFault}
 use Rattle.switchboard.specs.declared.calls.PostFault.TheVariants as fault
@@ -17,14 +17,18 @@ use Rattle.switchboard.specs.declared.calls.Taken.TheVariants as answer
 use Rattle.switchboard.specs.Sights.{Sight, Account, Before, AllTaken, IsSound}
 
 module _ {M W : Type 0} where
+  -- if the pass had the job before, it has it after
+  abbrev pub KeepsJob : ℕ → Sight M W → Sight M W → Type 0
+  KeepsJob job before after = HasJob before.number job before.seen.order → HasJob after.number job after.seen.order
+
   -- the pass has used up its calls, and nothing changed
   abbrev pub WasSpent : Sight M W → Sight M W → Type 0
   WasSpent before after = (before.calls ≡ 0) × (after ≡ before)
 
   -- the first passes of a board with a given number of mailboxes, in the order of their numbers
   abbrev pub AreFirst : TableId → ℕ → List (Sight M W) → Type 0
-  AreFirst id boxes passes = (j : ℕ) (p : Sight M W) → slice_get passes j ≡ Some p
-      → (p.board ≡ id) × (p.number ≡ j) × (p.seen.boxes ≡ boxes)
+  AreFirst id boxes passes = (place : ℕ) (pass : Sight M W) → slice_get passes place ≡ Some pass
+      → (pass.board ≡ id) × (pass.number ≡ place) × (pass.seen.boxes ≡ boxes)
 
   -- all passes of a board, in the order of their numbers
   abbrev pub AreAll : TableId → ℕ → List (Sight M W) → Type 0
@@ -127,7 +131,7 @@ module _ {M W : Type 0} (fits : W → ℕ → M → Type 0) where
     pub made : after.made ≡ true
     pub calls : after.calls ≡ before.calls
     pub own : own before.number after.seen.order ≡ own before.number before.seen.order
-    pub first : before.made ≡ false → (b : Abort) × (after.seen.aborted ≡ Some b) × ((b ≡ abort) ⊎ (b.by ≢ before.number))
+    pub first : before.made ≡ false → (first : Abort) × (after.seen.aborted ≡ Some first) × ((first ≡ abort) ⊎ (first.by ≢ before.number))
     pub again : before.made ≡ true → after ≡ before
 
   -- the pass has seen what it had seen and what it was told, and no more: the longer order, an abort that either
@@ -137,7 +141,7 @@ module _ {M W : Type 0} (fits : W → ℕ → M → Type 0) where
     pub calls : after.calls ≡ before.calls
     pub theirs : StartsWith after.seen.order told.order
     pub longer : (after.seen.order ≡ before.seen.order) ⊎ (after.seen.order ≡ told.order)
-    pub abort : (a : Abort) → told.aborted ≡ Some a → after.seen.aborted ≡ Some a
+    pub abort : (abort : Abort) → told.aborted ≡ Some abort → after.seen.aborted ≡ Some abort
     pub either : (after.seen.aborted ≡ before.seen.aborted) ⊎ (after.seen.aborted ≡ told.aborted)
     pub close : told.knows ≡ true → after.knows ≡ true
     pub known : after.knows ≡ true → (before.knows ≡ true) ⊎ (told.knows ≡ true)
@@ -148,13 +152,13 @@ module _ {M W : Type 0} (fits : W → ℕ → M → Type 0) where
   pub record Settles (boxes : ℕ) (passes : List (Sight M W)) (histories : List (List (Event M))) (closed : Bool) : Type 0 where
     pub order : List (Entry M)
     pub lawful : IsLawful boxes order
-    pub fitting : (j : ℕ) (p : Sight M W) → slice_get passes j ≡ Some p → (i to sender : ℕ) (m : M) (t : ℕ)
-        → slice_get order i ≡ Some (Posted to sender m t) → fits p.seen.world to m
-    pub begins : (j : ℕ) (p : Sight M W) → slice_get passes j ≡ Some p → StartsWith order p.seen.order
-    pub own : (j : ℕ) (p : Sight M W) → slice_get passes j ≡ Some p → own j order ≡ own j p.seen.order
+    pub fitting : (place : ℕ) (pass : Sight M W) → slice_get passes place ≡ Some pass → (at to sender : ℕ) (message : M) (job : ℕ)
+        → slice_get order at ≡ Some (Posted to sender message job) → fits pass.seen.world to message
+    pub begins : (place : ℕ) (pass : Sight M W) → slice_get passes place ≡ Some pass → StartsWith order pass.seen.order
+    pub own : (number : ℕ) (pass : Sight M W) → slice_get passes number ≡ Some pass → own number order ≡ own number pass.seen.order
     pub count : length histories ≡ boxes
-    pub parts : (q : ℕ) (h : List (Event M)) → slice_get histories q ≡ Some h → h ≡ part q order
+    pub parts : (mailbox : ℕ) (history : List (Event M)) → slice_get histories mailbox ≡ Some history → history ≡ part mailbox order
     pub close : IsTrue closed ↔ IsClosed order
-    pub known : (j : ℕ) (p : Sight M W) → slice_get passes j ≡ Some p → p.knows ≡ true → closed ≡ true
-    pub aborts : (j : ℕ) (p : Sight M W) (a : Abort) → slice_get passes j ≡ Some p → p.seen.aborted ≡ Some a
-        → (q : Sight M W) × (slice_get passes a.by ≡ Some q) × (q.made ≡ true)
+    pub known : (place : ℕ) (pass : Sight M W) → slice_get passes place ≡ Some pass → pass.knows ≡ true → closed ≡ true
+    pub aborts : (place : ℕ) (pass : Sight M W) (abort : Abort) → slice_get passes place ≡ Some pass → pass.seen.aborted ≡ Some abort
+        → (maker : Sight M W) × (slice_get passes abort.by ≡ Some maker) × (maker.made ≡ true)

@@ -53,7 +53,7 @@ module _ {M W : Type 0} where
     pub world : after.world ≡ before.world
     pub boxes : after.boxes ≡ before.boxes
     pub order : StartsWith after.order before.order
-    pub aborted : (a : Abort) → before.aborted ≡ Some a → after.aborted ≡ Some a
+    pub aborted : (abort : Abort) → before.aborted ≡ Some abort → after.aborted ≡ Some abort
 
   -- what a pass tells of what it has seen
   abbrev pub told_by : Sight M W → Account M
@@ -80,5 +80,6 @@ module _ {M W : Type 0} where
     -- sound: the order is lawful, each message posted fits its mailbox, and an abort is by one of the passes
     pub record IsSound (state : BoardState M W) : Type 0 where
       pub lawful : IsLawful state.boxes state.order
-      pub fitting : (i to sender : ℕ) (m : M) (t : ℕ) → slice_get state.order i ≡ Some (Posted to sender m t) → fits state.world to m
-      pub by : (a : Abort) → state.aborted ≡ Some a → a.by < state.boxes
+      pub fitting : (at to sender : ℕ) (message : M) (job : ℕ) → slice_get state.order at ≡ Some (Posted to sender message job)
+          → fits state.world to message
+      pub by : (abort : Abort) → state.aborted ≡ Some abort → abort.by < state.boxes

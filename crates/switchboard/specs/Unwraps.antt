@@ -15,5 +15,6 @@ module _ {M W : Type 0} (fits : W → ℕ → M → Type 0) where
   abbrev pub Unwraps : {Z : Type 0} → IntoIter (Sight M W) Z → Option (Standing (BoardState M W)) → IntoIter (Sight M W) Z → Type 0
   Unwraps before answer after =
       MatchOption answer ((into_iter_len before ≡ 0) × (into_iter_len after ≡ 0))
-      (λ lane. (p : Sight M W) × (into_iter_items before ≡ p ∷ into_iter_items after) × (into_iter_len after + 1 ≡ into_iter_len before)
-      × IsLaneOf lane p)
+      (λ lane. (pass : Sight M W) × (into_iter_items before ≡ pass ∷ into_iter_items after)
+      × (into_iter_len after + 1 ≡ into_iter_len before)
+      × IsLaneOf lane pass)

@@ -62,9 +62,11 @@ pub enum Cause {
     Spent,
 }
 
-/// The abort of a board: the number of the pass that made it, and its cause.
+/// The abort of a board.
 #[derive(Clone, Copy)]
 pub struct Abort {
+    /// The number of the pass that made it.
     pub by: u8,
+    /// Its cause.
     pub cause: Cause,
 }

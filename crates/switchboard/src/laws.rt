@@ -7,7 +7,7 @@ ghost use Rattle.switchboard.specs.declared.calls.PostFault.{PostFault};
 ghost use Rattle.switchboard.specs.declared.calls.Abort.{Abort};
 ghost use Rattle.switchboard.specs.Sights.{Sight, Account, IsSound};
 ghost use Rattle.switchboard.specs.Promises.{Took, TookOldest, WasPosted, WasRefused, WasDone};
-ghost use Rattle.switchboard.specs.Promises.{MadeAbort, Learned, WasSpent, SaysClosed};
+ghost use Rattle.switchboard.specs.Promises.{KeepsJob, MadeAbort, Learned, WasSpent, SaysClosed};
 ghost use Rattle.switchboard.specs.Promises.{SaysStopped, IsPostStopped};
 
 use crate::mail::Mail;
@@ -63,16 +63,16 @@ pub fn a_message_comes_with_a_job<M: Mail<W>, W>()
 
 /// A pass keeps its jobs at each call, except for the one that it completes.
 pub fn a_job_lasts_until_it_is_done<M: Mail<W>, W>()
-    ensures takes { (s t : Sight M W) (r : Result (Taken M) Spent) (j : ℕ) → Took M.fits r s t
-        → HasJob s.number j s.seen.order → HasJob t.number j t.seen.order }
-    ensures posts { (s t : Sight M W) (job to : ℕ) (m : M) (r : Result (Unit {0}) (PostFault M))
-        (j : ℕ)
-        → MatchResult r (λ _. WasPosted M.fits job to m s t) (λ f. WasRefused M.fits m f s t)
-        → HasJob s.number j s.seen.order → HasJob t.number j t.seen.order }
-    ensures dones { (s t : Sight M W) (job j : ℕ) → WasDone M.fits job s t → j ≢ job
-        → HasJob s.number j s.seen.order → HasJob t.number j t.seen.order }
-    ensures aborts { (s t : Sight M W) (a : Abort) (j : ℕ) → MadeAbort M.fits a s t
-        → HasJob s.number j s.seen.order → HasJob t.number j t.seen.order }
-    ensures tales { (s t : Sight M W) (told : Account M) (j : ℕ) → Learned M.fits told s t
-        → HasJob s.number j s.seen.order → HasJob t.number j t.seen.order }
+    ensures takes { (old new : Sight M W) (r : Result (Taken M) Spent) (j : ℕ)
+        → Took M.fits r old new → KeepsJob j old new }
+    ensures posts { (old new : Sight M W) (job to : ℕ) (m : M)
+        (r : Result (Unit {0}) (PostFault M)) (j : ℕ)
+        → MatchResult r (λ _. WasPosted M.fits job to m old new) (λ f. WasRefused M.fits m f old new)
+        → KeepsJob j old new }
+    ensures dones { (old new : Sight M W) (job j : ℕ) → WasDone M.fits job old new → j ≢ job
+        → KeepsJob j old new }
+    ensures aborts { (old new : Sight M W) (a : Abort) (j : ℕ) → MadeAbort M.fits a old new
+        → KeepsJob j old new }
+    ensures tales { (old new : Sight M W) (told : Account M) (j : ℕ) → Learned M.fits told old new
+        → KeepsJob j old new }
 {}

@@ -12,7 +12,7 @@ use std::alloc::Allocator;
 use tokens::{Kind, Token};
 
 /// What is written one after the other, like the names of a declaration.
-pub trait Item<A: Allocator + Clone>: Written + Sized + Drop {
+pub(crate) trait Item<A: Allocator + Clone>: Written + Sized + Drop {
     /// Reads an item.
     fn read<'t>(reader: &Reader<'_, A>, tokens: &'t [Token<'t>]) -> Read<'t, Self>
         ensures gives { Parses Self.tree result Self.grammar tokens.now }
@@ -20,7 +20,7 @@ pub trait Item<A: Allocator + Clone>: Written + Sized + Drop {
 }
 
 /// An item with no comma before the next.
-pub trait Repeated<A: Allocator + Clone>: Item<A> {
+pub(crate) trait Repeated<A: Allocator + Clone>: Item<A> {
     // Whether another comes.
     ghost another: { List Tok → Bool };
 

@@ -21,7 +21,10 @@ fn below(level: usize) -> Result<usize, AllocError>
 }
 
 /// Prints two spaces for each level.
-pub fn print_margin<A: Allocator>(out: &mut String<A>, level: usize) -> Result<(), AllocError>
+pub(crate) fn print_margin<A: Allocator>(
+    out: &mut String<A>,
+    level: usize,
+) -> Result<(), AllocError>
     ensures { Prints result out.old out.new (margin level) }
 {
     for _ in 0..level {
@@ -141,7 +144,7 @@ fn print_giving<N: Allocator, A: Allocator>(
 
 /// Prints the statements of a block at this level.
 #[cycle(printing)]
-pub fn print_block<N: Allocator, A: Allocator>(
+pub(crate) fn print_block<N: Allocator, A: Allocator>(
     out: &mut String<A>,
     level: usize,
     stmts: &[Stmt<N>],

@@ -13,17 +13,17 @@ use tokens::{Kind, Token};
 use trees::Name;
 
 /// What was read, and the tokens after it.
-pub type Read<'t, T> = Result<(T, &'t [Token<'t>]), ReadFault>;
+pub(crate) type Read<'t, T> = Result<(T, &'t [Token<'t>]), ReadFault>;
 
 /// What all readers share: where trees are allocated, and the length of the text.
 #[derive(Drop)]
-pub struct Reader<'a, A: Allocator + Clone> {
+pub(crate) struct Reader<'a, A: Allocator + Clone> {
     pub alloc: &'a A,
     pub end: u32,
 }
 
 /// Whether a token of this kind comes next.
-pub fn begins(kind: Kind, tokens: &[Token<'_>]) -> bool
+pub(crate) fn begins(kind: Kind, tokens: &[Token<'_>]) -> bool
     ensures { result ≡ begins kind (toks_of tokens.now) }
 {
     match tokens.split_first() {
@@ -33,7 +33,7 @@ pub fn begins(kind: Kind, tokens: &[Token<'_>]) -> bool
 }
 
 /// Appends a value to the others.
-pub fn put<T: Drop, A: Allocator>(list: &mut Vec<T, A>, value: T) -> Result<(), ReadFault>
+pub(crate) fn put<T: Drop, A: Allocator>(list: &mut Vec<T, A>, value: T) -> Result<(), ReadFault>
     ensures ok { IfOk result (λ _. list.new.items ≡ list.old.items ++ (value ∷ [])) }
     ensures err { IsOkUnless result ReadFault.Memory }
 {

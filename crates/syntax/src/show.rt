@@ -8,14 +8,17 @@ use crate::written::Written;
 use std::alloc::{AllocError, Allocator};
 
 /// What is printed one after the other, like the names of a declaration.
-pub trait Show: Written {
+pub(crate) trait Show: Written {
     /// Prints the value.
     fn print<A: Allocator>(&self, out: &mut String<A>) -> Result<(), AllocError>
         ensures { Prints result out.old out.new (Self.parts (Self.tree self.now)) };
 }
 
 /// Prints values, separated by commas.
-pub fn print_list<T: Show, A: Allocator>(out: &mut String<A>, items: &[T]) -> Result<(), AllocError>
+pub(crate) fn print_list<T: Show, A: Allocator>(
+    out: &mut String<A>,
+    items: &[T],
+) -> Result<(), AllocError>
     ensures { Prints result out.old out.new (separated T.parts (map T.tree items.now)) }
 {
     let Some((first, others)) = items.split_first() else {
@@ -30,7 +33,10 @@ pub fn print_list<T: Show, A: Allocator>(out: &mut String<A>, items: &[T]) -> Re
 }
 
 /// Prints values, one after the other.
-pub fn print_all<T: Show, A: Allocator>(out: &mut String<A>, items: &[T]) -> Result<(), AllocError>
+pub(crate) fn print_all<T: Show, A: Allocator>(
+    out: &mut String<A>,
+    items: &[T],
+) -> Result<(), AllocError>
     ensures { Prints result out.old out.new (joined (map T.parts (map T.tree items.now))) }
 {
     for item in items {

@@ -12,7 +12,7 @@ use std::alloc::Allocator;
 use trees::{Expr, Name, Proc, Rhs, Thread};
 
 /// What a text has, and stands for a tree of the definitions.
-pub trait Written {
+pub(crate) trait Written {
     // The trees that values stand for.
     ghost Tree: { Type 0 };
 

@@ -14,7 +14,8 @@ use Rattle.ticket_lock.specs.History.{StartsWith, longer, IsRising}
 use Rattle.ticket_lock.specs.Lone.{taken_in, merged, nobody, TookIn, IsWhole, Rests, KeepsParts}
 use Rattle.ticket_lock.specs.Lanes.{Standing, standing, IsLane}
 use Rattle.ticket_lock.specs.Promises.{IsIdle, Closes, KeepsOwn, ComesLast}
-use Rattle.ticket_lock.specs.Proved.Facts.{total-snoc, times-append, at_snoc, at_last, at_longer, StartsWith-trans, rises_last}
+use Rattle.ticket_lock.specs.Proved.Facts.{at_snoc, at_last, StartsWith-trans}
+use Rattle.ticket_lock.proofs.HistoryFacts.{total-snoc, times-append, at_longer, rises_last}
 use Rattle.ticket_lock.proofs.LoneSteps.{longer_first, longer_second}
 use Rattle.ticket_lock.proofs.Served.{alone}
 

@@ -13,8 +13,10 @@ use Rattle.ticket_lock.specs.History.{StartsWith}
 use Rattle.ticket_lock.specs.Core.{in_hand, Fits, Core}
 use Rattle.ticket_lock.specs.Turns.{with_ticket, with_entry, with_leave}
 use Rattle.ticket_lock.specs.Drawing.{HasDrawn}
-use Rattle.ticket_lock.specs.Proved.Facts.{total_set, total_at, total_two, total_few, total_plus, at_set, set_here, at_inside, times-snoc}
-use Rattle.ticket_lock.specs.Proved.Facts.{times-one, times-other, times-without, StartsWith-refl, StartsWith-more, EndsIn-more}
+use Rattle.ticket_lock.specs.Proved.Facts.{total_set, total_at, total_two, at_set, set_here, at_inside}
+use Rattle.ticket_lock.proofs.HistoryFacts.{total_few, total_plus, times-snoc}
+use Rattle.ticket_lock.specs.Proved.Facts.{times-one, StartsWith-refl, StartsWith-more, EndsIn-more}
+use Rattle.ticket_lock.proofs.HistoryFacts.{times-other, times-without}
 
 module _ {T : Type 0} (serving next : ℕ) (log : List T) (here : maybe.Option (maybe.Option (Option T))) (hands : List (Hand T)) (id : ℕ)
     (h : Hand T) (is_at : get_elem? hands id ≡ some h) (c : Core serving next log here hands) where

@@ -1,3 +1,4 @@
+pub mod HistoryFacts
 pub mod CoreSteps
 pub mod Places
 pub mod Carried

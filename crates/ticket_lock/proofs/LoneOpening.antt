@@ -15,7 +15,8 @@ use Rattle.ticket_lock.specs.Core.{Fits}
 use Rattle.ticket_lock.specs.Lone.{lanes_from, new_view, less_one, just_one, Knows, Lone}
 use Rattle.ticket_lock.specs.Lanes.{Standing, standing, fresh_lane, fresh_lanes}
 use Rattle.ticket_lock.proofs.LoneSteps.{deals_allowed}
-use Rattle.ticket_lock.specs.Proved.Facts.{times-other, times-one, EndsIn-same, StartsWith-refl}
+use Rattle.ticket_lock.specs.Proved.Facts.{times-one, EndsIn-same, StartsWith-refl}
+use Rattle.ticket_lock.proofs.HistoryFacts.{times-other}
 
 module _ {T : Type 0} where
   pub length-lanes : (first count : ℕ) (x : T) → length (lanes_from first count x) ≡ count

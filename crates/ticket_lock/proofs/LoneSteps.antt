@@ -16,10 +16,13 @@ use Rattle.ticket_lock.specs.Core.{in_hand, Fits, Core}
 use Rattle.ticket_lock.specs.Turns.{Kept}
 use Rattle.ticket_lock.specs.Lone.{hand_of, numbers, new_view, nobody, taken_in, merged, just_seen, IsWhole, Rests, KeepsParts, Knows, Lone}
 use Rattle.ticket_lock.specs.Lone.{TookIn}
-use Rattle.ticket_lock.specs.Proved.Facts.{total_set, total-snoc, total_two, total_only, total-map, at_set, at_snoc, at_longer, at_append}
-use Rattle.ticket_lock.specs.Proved.Facts.{map-append, at_last, set_here, set_else, set_again, at_inside, map-set, map-snoc, at-map}
-use Rattle.ticket_lock.specs.Proved.Facts.{times-append, StartsWith-length, StartsWith-whole, StartsWith-refl, both_begin, EndsIn-some}
-use Rattle.ticket_lock.specs.Proved.Facts.{rises_short, rises_last}
+use Rattle.ticket_lock.specs.Proved.Facts.{total_set, total_two, at_set, at_snoc}
+use Rattle.ticket_lock.proofs.HistoryFacts.{total-snoc, total_only, total-map, at_longer, at_append}
+use Rattle.ticket_lock.specs.Proved.Facts.{at_last, set_here, set_else, set_again, at_inside, map-set, at-map}
+use Rattle.ticket_lock.proofs.HistoryFacts.{map-append, map-snoc}
+use Rattle.ticket_lock.specs.Proved.Facts.{StartsWith-refl}
+use Rattle.ticket_lock.proofs.HistoryFacts.{times-append, StartsWith-length, StartsWith-whole, both_begin, EndsIn-some}
+use Rattle.ticket_lock.proofs.HistoryFacts.{rises_short, rises_last}
 use Rattle.ticket_lock.specs.Proved.LoneOpens.{rebuilt}
 use Rattle.ticket_lock.proofs.CoreSteps.{core_same}
 

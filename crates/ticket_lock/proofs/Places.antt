@@ -13,7 +13,8 @@ use Rattle.ticket_lock.specs.History.{StartsWith, EndsIn}
 use Rattle.ticket_lock.specs.Core.{in_hand, Core}
 use Rattle.ticket_lock.specs.Turns.{StepKind, draws, waits, enters, passes, with_ticket, with_entry, with_leave, Kept, Opens}
 use Rattle.ticket_lock.specs.Calls.{Drew, Loaded, Passed}
-use Rattle.ticket_lock.specs.Proved.Facts.{total_at, set_again, set_here, set_else, at-map, StartsWith-length, EndsIn-some}
+use Rattle.ticket_lock.specs.Proved.Facts.{total_at, set_again, set_here, set_else, at-map}
+use Rattle.ticket_lock.proofs.HistoryFacts.{StartsWith-length, EndsIn-some}
 use Rattle.ticket_lock.proofs.CoreSteps.{in_range, few_drawn, core_draws, outside, core_enters, core_passes, nobody_inside}
 
 module _ {T : Type 0} where

@@ -26,7 +26,7 @@ module _ {T : Type 0} where
   -- has seen
   abbrev pub DrawsTicket : ℕ → Hand T → Hand T → Type 0
   DrawsTicket ticket before after = (after ≡ with_ticket ticket before) × (length before.seen ≤ ticket + 1)
-      × ((k : ℕ) → ticket ≤ k → (times k before.drawn ≡ 0) × (in_hand k before ≡ 0))
+      × ((higher : ℕ) → ticket ≤ higher → (times higher before.drawn ≡ 0) × (in_hand higher before ≡ 0))
 
   -- the hand, which was outside, is inside with one of its tickets, at a history with as many values left as the ticket
   -- says, which begins with all that it had seen and ends in the value
@@ -52,29 +52,30 @@ module _ {T V : Type 0} (see : V → Hand T) (tells : StepKind T → V → V →
 
   -- a look at the count, which is the ticket if it is this ticket's turn
   abbrev pub Loaded : ℕ → ℕ → Me (Option T) V → ℕ → Me (Option T) V → Type 0
-  Loaded slot ticket before number after = (number ≡ ticket → (x : T) × WentInside slot ticket x (Some x) before after)
+  Loaded slot ticket before number after = (number ≡ ticket → (value : T) × WentInside slot ticket value (Some value) before after)
       × (number ≢ ticket → Waited ticket before after)
 
   -- a look, which takes the value out if it is this ticket's turn
   abbrev pub LookedAtTurn : ℕ → ℕ → Me (Option T) V → Option T → Me (Option T) V → Type 0
   LookedAtTurn slot ticket before answer after =
-      MatchOption answer (Waited ticket before after) (λ x. WentInside slot ticket x None before after)
+      MatchOption answer (Waited ticket before after) (λ value. WentInside slot ticket value None before after)
 
   -- the value, which the seat held in the slot, is the last of the history now, and the seat is outside
   abbrev pub Passed : ℕ → Me (Option T) V → Me (Option T) V → Type 0
-  Passed slot before after = (x : T) × (y : T) × (before.1 ≡ (slot, Some y) ∷ rest before.1) × (after.1 ≡ rest before.1)
-      × EndsIn (see before.0).seen x
-      × (see after.0 ≡ with_leave y (see before.0)) × tells (passes x y) before.0 after.0
+  Passed slot before after = (found : T) × (added : T) × (before.1 ≡ (slot, Some added) ∷ rest before.1) × (after.1 ≡ rest before.1)
+      × EndsIn (see before.0).seen found
+      × (see after.0 ≡ with_leave added (see before.0)) × tells (passes found added) before.0 after.0
 
   -- a draw, and then a look in turn: the seat is inside with this ticket, and has the value out
   abbrev pub Came : ℕ → Me (Option T) V → ℕ → T → Me (Option T) V → Type 0
-  Came slot before ticket value after = (d : Me (Option T) V) × Drew before ticket d × WentInside slot ticket value None d after
+  Came slot before ticket value after = (drawn : Me (Option T) V) × Drew before ticket drawn × WentInside slot ticket value None drawn after
 
   -- the value was left after the last, and the seat is outside
   abbrev pub Left : T → Me (Option T) V → Me (Option T) V → Type 0
   Left added before after = (after.1 ≡ rest before.1) × (see after.0 ≡ with_leave added (see before.0))
-      × ((x : T) × EndsIn (see before.0).seen x × tells (passes x added) before.0 after.0)
+      × ((found : T) × EndsIn (see before.0).seen found × tells (passes found added) before.0 after.0)
 
 -- the lock asks nothing of a seat that draws, looks or enters, and a look too early changes no view
 abbrev pub IsFree : {T V : Type 0} → (StepKind T → V → Type 0) → (StepKind T → V → V → Type 0) → Type 0
-IsFree {T} {V} asks tells = ((v : V) → asks draws v × asks waits v × ((x : T) → asks (enters x) v)) × ((v w : V) → tells waits v w → w ≡ v)
+IsFree {T} {V} asks tells = ((view : V) → asks draws view × asks waits view × ((value : T) → asks (enters value) view))
+    × ((view later : V) → tells waits view later → later ≡ view)

@@ -26,12 +26,12 @@ module _ {T : Type 0} where
   pub record Core (serving next : ℕ) (log : List T) (here : maybe.Option (maybe.Option (Option T))) (hands : List (Hand T)) : Type 0 where
     pub served : length log ≡ serving + 1
     pub order : serving ≤ next
-    pub held : (n : ℕ) → serving ≤ n → n < next → total (in_hand n) hands ≡ 1
-    pub past : (n : ℕ) → n < serving → total (in_hand n) hands ≡ 0
-    pub ahead : (n : ℕ) → next ≤ n → total (in_hand n) hands ≡ 0
-    pub drawn_once : (n : ℕ) → n < next → total (λ h. times n h.drawn) hands ≡ 1
-    pub undrawn : (n : ℕ) → next ≤ n → total (λ h. times n h.drawn) hands ≡ 0
-    pub drawn : total (λ h. length h.drawn) hands ≡ next
-    pub parts : total (λ h. h.parts) hands ≤ 64
-    pub each : (j : ℕ) (h : Hand T) → get_elem? hands j ≡ some h → Fits serving log h
-    pub home : total (λ h. length h.inside) hands ≡ 0 → (x : T) × EndsIn log x × (here ≡ some (some (Some x)))
+    pub held : (ticket : ℕ) → serving ≤ ticket → ticket < next → total (in_hand ticket) hands ≡ 1
+    pub past : (ticket : ℕ) → ticket < serving → total (in_hand ticket) hands ≡ 0
+    pub ahead : (ticket : ℕ) → next ≤ ticket → total (in_hand ticket) hands ≡ 0
+    pub drawn_once : (ticket : ℕ) → ticket < next → total (λ hand. times ticket hand.drawn) hands ≡ 1
+    pub undrawn : (ticket : ℕ) → next ≤ ticket → total (λ hand. times ticket hand.drawn) hands ≡ 0
+    pub drawn : total (λ hand. length hand.drawn) hands ≡ next
+    pub parts : total (λ hand. hand.parts) hands ≤ 64
+    pub each : (place : ℕ) (hand : Hand T) → get_elem? hands place ≡ some hand → Fits serving log hand
+    pub home : total (λ hand. length hand.inside) hands ≡ 0 → (value : T) × EndsIn log value × (here ≡ some (some (Some value)))

@@ -1,17 +1,17 @@
 -- Counting in lists.
 use Rattle.std.specs.Prelude.{ℕ, ◌+◌, ◌==◌, List, [], ◌∷◌, if◌then◌else◌}
 
--- how often n occurs in the list
+-- how often the number occurs in the list
 abbrev pub times : ℕ → List ℕ → ℕ
-times n [] = 0
-times n (x ∷ xs) = (if x == n then 1 else 0) + times n xs
+times number [] = 0
+times number (first ∷ rest) = (if first == number then 1 else 0) + times number rest
 
--- the list without the first n in it
+-- the list without the first such number in it
 abbrev pub without : ℕ → List ℕ → List ℕ
-without n [] = []
-without n (x ∷ xs) = if x == n then xs else x ∷ without n xs
+without number [] = []
+without number (first ∷ rest) = if first == number then rest else first ∷ without number rest
 
--- f of each element, added up
+-- the measure of each element, added up
 abbrev pub total : {A : Type 0} → (A → ℕ) → List A → ℕ
-total f [] = 0
-total f (x ∷ xs) = f x + total f xs
+total measure [] = 0
+total measure (first ∷ rest) = measure first + total measure rest

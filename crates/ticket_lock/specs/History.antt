@@ -8,14 +8,15 @@ module _ {A : Type 0} where
   abbrev pub StartsWith : List A → List A → Type 0
   StartsWith log seen = (rest : List A) × (log ≡ seen ++ rest)
 
-  -- x is the last value of the history
+  -- the value is the last of the history
   abbrev pub EndsIn : List A → A → Type 0
-  EndsIn log x = (front : List A) × (log ≡ front ++ x ∷ [])
+  EndsIn log last = (front : List A) × (log ≡ front ++ last ∷ [])
 
   -- the longer of two histories, and the first if they are equally long
   abbrev pub longer : List A → List A → List A
-  longer a b = if nat_lt (length a) (length b) then b else a
+  longer one other = if nat_lt (length one) (length other) then other else one
 
   -- each value of the history comes before itself and before each later one
   abbrev pub IsRising : (A → A → Type 0) → List A → Type 0
-  IsRising before log = (i j : ℕ) (x y : A) → i ≤ j → get_elem? log i ≡ some x → get_elem? log j ≡ some y → before x y
+  IsRising before log = (earlier later : ℕ) (value next : A) → earlier ≤ later → get_elem? log earlier ≡ some value
+      → get_elem? log later ≡ some next → before value next

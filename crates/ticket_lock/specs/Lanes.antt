@@ -49,7 +49,7 @@ module _ {T : Type 0} where
     tickets = view.hand.tickets;
     inside = view.hand.inside;
     drawn = view.hand.drawn;
-    own = map (λ p. p.1) view.own;
+    own = map (λ lane. lane.1) view.own;
   }
 
   -- a lane that has drawn nothing, and has seen the opening value
@@ -73,13 +73,13 @@ module _ {T : Type 0} where
   -- a lane has one number and one share, has taken in what it was told, draws within its share, and holds the slot
   -- exactly while it is inside
   pub record IsLane (id : TableId) (number left : ℕ) (me : Me (Option T) (View T)) : Type 0 where
-    pub one : (x : T) × (me.0.own ≡ (number, x) ∷ [])
+    pub one : (value : T) × (me.0.own ≡ (number, value) ∷ [])
     pub taken : me.0.told ≡ []
     pub share : me.0.hand.parts ≡ 1
     pub budget : length me.0.hand.drawn + left ≤ 2 ^ 56
     pub sized : IsLockTable id
     pub outside : me.0.hand.inside ≡ [] → me.1 ≡ []
-    pub inside : (t : ℕ) → me.0.hand.inside ≡ t ∷ [] → me.1 ≡ (0, None) ∷ []
+    pub inside : (ticket : ℕ) → me.0.hand.inside ≡ ticket ∷ [] → me.1 ≡ (0, None) ∷ []
 
   -- a note tells of a history, and has nothing
   pub record IsNote (id : TableId) (me : Me (Option T) (View T)) : Type 0 where

@@ -21,7 +21,7 @@ module _ {T : Type 0} where
 
   -- the numbers of a view's lanes
   abbrev pub numbers : View T → List ℕ
-  numbers view = map (λ p. p.0) view.own
+  numbers view = map (λ lane. lane.0) view.own
 
   -- `count` lanes, numbered from `first` on, each with this value
   abbrev pub lanes_from : ℕ → ℕ → T → List (ℕ × T)
@@ -53,8 +53,8 @@ module _ {T : Type 0} where
   abbrev pub Rests : T → View T → T → Type 0
   Rests opening view value = EndsIn view.hand.seen value × StartsWith view.hand.seen (opening ∷ [])
       × (length view.hand.seen ≡ length view.hand.drawn + 1)
-      × ((n : ℕ) → n < length view.hand.drawn → times n view.hand.drawn ≡ 1)
-      × ((n : ℕ) → length view.hand.drawn ≤ n → times n view.hand.drawn ≡ 0)
+      × ((ticket : ℕ) → ticket < length view.hand.drawn → times ticket view.hand.drawn ≡ 1)
+      × ((ticket : ℕ) → length view.hand.drawn ≤ ticket → times ticket view.hand.drawn ≡ 0)
 
   -- a view that has taken in what it was told
   abbrev pub taken_in : View T → View T
@@ -62,7 +62,7 @@ module _ {T : Type 0} where
 
   -- the value has the part of each lane of the view as that lane left it
   abbrev pub KeepsParts : {Part : Type 0} → (ℕ → T → Part) → View T → T → Type 0
-  KeepsParts part view value = (k l : ℕ) (z : T) → get_elem? view.own k ≡ some (l, z) → part l value ≡ part l z
+  KeepsParts part view value = (place lane : ℕ) (left : T) → get_elem? view.own place ≡ some (lane, left) → part lane value ≡ part lane left
 
   -- a view that has all that two had, and was told what the second had seen
   abbrev pub merged : View T → View T → View T
@@ -96,7 +96,8 @@ module _ {T Part : Type 0} (before : T → T → Type 0) (part : ℕ → T → P
   pub record Knows (log : List T) (view : View T) : Type 0 where
     pub shares : view.hand.parts ≡ length view.own
     pub told : StartsWith log view.told
-    pub owns : (k l : ℕ) (x y : T) → get_elem? view.own k ≡ some (l, x) → EndsIn log y → part l y ≡ part l x
+    pub owns : (place lane : ℕ) (left last : T) → get_elem? view.own place ≡ some (lane, left) → EndsIn log last
+        → part lane last ≡ part lane left
 
   -- the lock's rule; the history begins with the opening value, and each value of it comes before the later ones;
   -- each lane is in one view at most, and all lanes are; some view with a lane has seen the whole history or was
@@ -106,10 +107,11 @@ module _ {T Part : Type 0} (before : T → T → Type 0) (part : ℕ → T → P
     pub kept : Kept 0 0 log state.words state.homes (map (hand_of 0) state.views)
     pub begun : StartsWith log (opening ∷ [])
     pub rising : IsRising before log
-    pub each_view : (j : ℕ) (v : View T) → get_elem? state.views j ≡ some v → Knows log v
-    pub whole : total (λ v. length v.own) state.views ≡ lanes
-    pub once : (l : ℕ) → total (λ v. times l (numbers v)) state.views ≤ 1
-    pub known : (j : ℕ) × (v : View T) × (get_elem? state.views j ≡ some v) × (0 < length v.own) × ((v.hand.seen ≡ log) ⊎ (v.told ≡ log))
+    pub each_view : (place : ℕ) (view : View T) → get_elem? state.views place ≡ some view → Knows log view
+    pub whole : total (λ view. length view.own) state.views ≡ lanes
+    pub once : (lane : ℕ) → total (λ view. times lane (numbers view)) state.views ≤ 1
+    pub known : (place : ℕ) × (view : View T) × (get_elem? state.views place ≡ some view) × (0 < length view.own)
+        × ((view.hand.seen ≡ log) ⊎ (view.told ≡ log))
 
   -- of a value left it is asked that the value found comes before it, and that it has the parts of all lanes but the
   -- one that leaves as they were found
@@ -118,7 +120,7 @@ module _ {T Part : Type 0} (before : T → T → Type 0) (part : ℕ → T → P
   MayBeLeft slot waits view = Unit {0}
   MayBeLeft slot (enters value) view = Unit {0}
   MayBeLeft slot (passes value added) view = before value added
-      × ((l : ℕ) × (z : T) × (view.own ≡ (l, z) ∷ []) × ((k : ℕ) → k ≢ l → part k added ≡ part k value))
+      × ((lane : ℕ) × (left : T) × (view.own ≡ (lane, left) ∷ []) × ((other : ℕ) → other ≢ lane → part other added ≡ part other value))
 
   -- a look in turn tells that the history rises, and that the value found has the lanes' parts as they left them; and a
   -- pass on that the value left is the one that its lane left last
@@ -126,9 +128,9 @@ module _ {T Part : Type 0} (before : T → T → Type 0) (part : ℕ → T → P
   TellsHistory slot draws earlier later = (later.told ≡ earlier.told) × (later.own ≡ earlier.own)
   TellsHistory slot waits earlier later = later ≡ earlier
   TellsHistory slot (enters value) earlier later = (later.told ≡ earlier.told) × (later.own ≡ earlier.own) × IsRising before later.hand.seen
-      × ((k l : ℕ) (z : T) → get_elem? earlier.own k ≡ some (l, z) → part l value ≡ part l z)
+      × ((place lane : ℕ) (left : T) → get_elem? earlier.own place ≡ some (lane, left) → part lane value ≡ part lane left)
   TellsHistory slot (passes value added) earlier later = (later.told ≡ earlier.told)
-      × ((l : ℕ) (z : T) → earlier.own ≡ (l, z) ∷ [] → later.own ≡ (l, added) ∷ [])
+      × ((lane : ℕ) (left : T) → earlier.own ≡ (lane, left) ∷ [] → later.own ≡ (lane, added) ∷ [])
 
   -- a load at which a view takes in what it was told; the last value of the lock's history has each of its lanes' parts
   -- as that lane left it, and what it has seen comes before that value
@@ -136,5 +138,5 @@ module _ {T Part : Type 0} (before : T → T → Type 0) (part : ℕ → T → P
   TookIn earlier later = (later ≡ (taken_in earlier.0, earlier.1)) × StartsWith later.0.hand.seen earlier.0.hand.seen
       × StartsWith later.0.hand.seen earlier.0.told
       × IsRising before later.0.hand.seen
-      × ((k l : ℕ) (x : T) → get_elem? earlier.0.own k ≡ some (l, x)
-      → (y : T) × (part l y ≡ part l x) × ((z : T) → EndsIn later.0.hand.seen z → before z y))
+      × ((place lane : ℕ) (left : T) → get_elem? earlier.0.own place ≡ some (lane, left)
+      → (value : T) × (part lane value ≡ part lane left) × ((last : T) → EndsIn later.0.hand.seen last → before last value))

@@ -12,7 +12,7 @@ module _ {T : Type 0} where
   -- number of values left that it has seen; nothing else of the lane changes
   pub record Drew (ticket : ℕ) (before after : Standing T) : Type 0 where
     pub had : 0 < before.left
-    pub fresh : (k : ℕ) → ticket ≤ k → (times k before.drawn ≡ 0) × (times k before.tickets ≡ 0)
+    pub fresh : (higher : ℕ) → ticket ≤ higher → (times higher before.drawn ≡ 0) × (times higher before.tickets ≡ 0)
     pub served : length before.seen ≤ ticket + 1
     pub lane : after
         ≡ record before { left = before.left - 1; tickets = before.tickets ++ ticket ∷ []; drawn = before.drawn ++ ticket ∷ [] }
@@ -35,7 +35,7 @@ module _ {T : Type 0} where
       pub turn : length after.seen ≡ ticket + 1
       pub later : StartsWith after.seen earlier.seen
       pub found : EndsIn after.seen guard.value
-      pub own : (x : T) → earlier.own ≡ x ∷ [] → part earlier.number guard.value ≡ part earlier.number x
+      pub own : (left : T) → earlier.own ≡ left ∷ [] → part earlier.number guard.value ≡ part earlier.number left
       pub rises : IsRising before after.seen
       pub outside : earlier.inside ≡ []
 
@@ -47,7 +47,7 @@ module _ {T : Type 0} where
     -- the lane has drawn the guard's ticket, as `draw` does, and is inside with it
     pub record EnteredLock (guard : Held T) (earlier later : Standing T) : Type 0 where
       pub had : 0 < earlier.left
-      pub fresh : (k : ℕ) → guard.number ≤ k → (times k earlier.drawn ≡ 0) × (times k earlier.tickets ≡ 0)
+      pub fresh : (higher : ℕ) → guard.number ≤ higher → (times higher earlier.drawn ≡ 0) × (times higher earlier.tickets ≡ 0)
       pub stands : GuardStands guard.number guard earlier later
       pub lane : later
           ≡ record earlier {
@@ -60,8 +60,8 @@ module _ {T : Type 0} where
     -- what a lane that is inside may leave: the last value that it has seen, which it found, comes before it, and it
     -- has the parts of all other lanes as they were found
     pub record MayLeave (standing : Standing T) (left : T) : Type 0 where
-      pub later : (x : T) → EndsIn standing.seen x → before x left
-      pub apart : (x : T) → EndsIn standing.seen x → (k : ℕ) → k ≢ standing.number → part k left ≡ part k x
+      pub later : (found : T) → EndsIn standing.seen found → before found left
+      pub apart : (found : T) → EndsIn standing.seen found → (other : ℕ) → other ≢ standing.number → part other left ≡ part other found
 
     -- the lane has seen what it had seen and what the note tells, and what comes first of the two values that it
     -- had seen last and has seen last now, comes before; and what it has seen last comes before a value of the lock
@@ -71,17 +71,18 @@ module _ {T : Type 0} where
       pub mine : StartsWith later.seen earlier.seen
       pub theirs : StartsWith later.seen note.seen
       pub rises : IsRising before later.seen
-      pub own : (x : T) → earlier.own ≡ x ∷ []
-          → (y : T) × (part earlier.number y ≡ part earlier.number x) × ((z : T) → EndsIn later.seen z → before z y)
+      pub own : (left : T) → earlier.own ≡ left ∷ []
+          → (value : T) × (part earlier.number value ≡ part earlier.number left) × ((last : T) → EndsIn later.seen last → before last value)
 
   -- the value has each lane's own part as that lane left it
   abbrev pub KeepsOwn : {Part : Type 0} → (ℕ → T → Part) → List (Standing T) → T → Type 0
-  KeepsOwn part lanes value = (j : ℕ) (y : Standing T) (z : T) → get_elem? lanes j ≡ some y → y.own ≡ z ∷ []
-      → part y.number value ≡ part y.number z
+  KeepsOwn part lanes value = (place : ℕ) (lane : Standing T) (left : T) → get_elem? lanes place ≡ some lane → lane.own ≡ left ∷ []
+      → part lane.number value ≡ part lane.number left
 
   -- what each lane has seen last comes before the value
   abbrev pub ComesLast : (T → T → Type 0) → List (Standing T) → T → Type 0
-  ComesLast before lanes value = (j : ℕ) (y : Standing T) (x : T) → get_elem? lanes j ≡ some y → EndsIn y.seen x → before x value
+  ComesLast before lanes value = (place : ℕ) (lane : Standing T) (last : T) → get_elem? lanes place ≡ some lane → EndsIn lane.seen last
+      → before last value
 
   -- a lane of this lock with no ticket and no guard in hand
   abbrev pub IsIdle : TableId → Standing T → Type 0
@@ -100,10 +101,10 @@ module _ {T : Type 0} where
     pub there : get_elem? lanes place ≡ some longest
     pub last : EndsIn longest.seen value
     pub begun : StartsWith longest.seen (opening ∷ [])
-    pub others : (j : ℕ) (x : Standing T) → get_elem? lanes j ≡ some x → StartsWith longest.seen x.seen
-    pub served : length longest.seen ≡ total (λ x. length x.drawn) lanes + 1
-    pub once : (n : ℕ) → n < total (λ x. length x.drawn) lanes → total (λ x. times n x.drawn) lanes ≡ 1
-    pub no_more : (n : ℕ) → total (λ x. length x.drawn) lanes ≤ n → total (λ x. times n x.drawn) lanes ≡ 0
+    pub others : (other : ℕ) (lane : Standing T) → get_elem? lanes other ≡ some lane → StartsWith longest.seen lane.seen
+    pub served : length longest.seen ≡ total (λ lane. length lane.drawn) lanes + 1
+    pub once : (ticket : ℕ) → ticket < total (λ lane. length lane.drawn) lanes → total (λ lane. times ticket lane.drawn) lanes ≡ 1
+    pub no_more : (ticket : ℕ) → total (λ lane. length lane.drawn) lanes ≤ ticket → total (λ lane. times ticket lane.drawn) lanes ≡ 0
 
   -- the lane has added the value to the history that it has seen, and is outside
   abbrev pub Left : T → Standing T → Standing T → Type 0

@@ -32,9 +32,9 @@ module _ {T : Type 0} where
 
   -- what a step of this kind does to the history and to the hand that takes it
   abbrev pub Turns : StepKind T → List T → List T → Hand T → Hand T → Type 0
-  Turns draws log log' before after = (log' ≡ log) × ((n : ℕ) × (after ≡ with_ticket n before))
+  Turns draws log log' before after = (log' ≡ log) × ((ticket : ℕ) × (after ≡ with_ticket ticket before))
   Turns waits log log' before after = (log' ≡ log) × (after ≡ before)
-  Turns (enters value) log log' before after = (log' ≡ log) × EndsIn log value × ((n : ℕ) × (after ≡ with_entry n log before))
+  Turns (enters value) log log' before after = (log' ≡ log) × EndsIn log value × ((ticket : ℕ) × (after ≡ with_entry ticket log before))
   Turns (passes value added) log log' before after = (log' ≡ log ++ added ∷ []) × EndsIn log value × (before.seen ≡ log)
       × (after ≡ with_leave added before)
 
@@ -49,15 +49,19 @@ module _ {T V : Type 0} (holds : State (Option T) V → Type 0) (see : V → Han
   -- if a seat takes a step of the lock that keeps the lock's rule, and meets what the step asks, it has a new view
   -- with that hand which keeps the table's rule, and of which the step tells
   abbrev pub Follows : State (Option T) V → List T → ℕ → V → Type 0
-  Follows state log id view = (kind : StepKind T) (i n : ℕ) (homes : List (maybe.Option (Option T))) (log' : List T) (h : Hand T)
-      → (i ≡ word) ⊎ (i ≡ word + 1) → length homes ≡ length state.homes → ((k : ℕ) → k ≢ slot → get_elem? homes k ≡ get_elem? state.homes k)
-      → Turns kind log log' (see view) h → Kept word slot log' (slice_set state.words i n) homes (slice_set (map see state.views) id h)
+  Follows state log id view =
+      (kind : StepKind T) (changed number : ℕ) (homes : List (maybe.Option (Option T))) (log' : List T) (hand : Hand T)
+      → (changed ≡ word) ⊎ (changed ≡ word + 1) → length homes ≡ length state.homes
+      → ((other : ℕ) → other ≢ slot → get_elem? homes other ≡ get_elem? state.homes other)
+      → Turns kind log log' (see view) hand
+      → Kept word slot log' (slice_set state.words changed number) homes (slice_set (map see state.views) id hand)
       → asks kind view
-      → (w : V) × (see w ≡ h) × holds record { words = slice_set state.words i n; homes = homes; views = slice_set state.views id w }
-      × tells kind view w
+      → (later : V) × (see later ≡ hand)
+      × holds record { words = slice_set state.words changed number; homes = homes; views = slice_set state.views id later }
+      × tells kind view later
 
   -- the lock's rule holds wherever the table's does, and each step of the lock can be taken
   abbrev pub Opens : Type 0
-  Opens = (s : State (Option T) V) → holds s
-      → (log : List T) × Kept word slot log s.words s.homes (map see s.views)
-      × ((id : ℕ) (v : V) → get_elem? s.views id ≡ some v → Follows s log id v)
+  Opens = (state : State (Option T) V) → holds state
+      → (log : List T) × Kept word slot log state.words state.homes (map see state.views)
+      × ((id : ℕ) (view : V) → get_elem? state.views id ≡ some view → Follows state log id view)

@@ -5,6 +5,7 @@ use std::snapshot::Snapshot;
 
 /// What a seat knows. No value of it is made.
 pub struct View<T> {
+    /// Its tickets, and the history that it has seen.
     pub hand: Hand<T>,
     /// A history that it was told of and has not yet taken in, if any.
     pub told: LinkedList<T>,
@@ -12,9 +13,11 @@ pub struct View<T> {
     pub own: LinkedList<(u64, T)>,
 }
 
-/// What the table of a lock is told once: the opening value and the number of lanes.
+/// What the table of a lock is told once.
 pub struct Opening<T> {
+    /// The opening value.
     pub value: Snapshot<T>,
+    /// The number of lanes.
     pub lanes: u64,
 }
 

@@ -12,7 +12,7 @@ use crate::words::{sign_at_front, word_kind};
 
 /// The front of a text.
 #[derive(Clone, Copy)]
-pub enum Piece {
+pub(crate) enum Piece {
     /// A blank or a comment, with its number of bytes.
     Gap(usize),
     /// A token of this kind, with its number of bytes.
@@ -48,7 +48,7 @@ fn line_len(bytes: &[u8]) -> usize
 }
 
 /// The front of a text that is not empty.
-pub fn front(text: &str) -> Piece
+pub(crate) fn front(text: &str) -> Piece
     requires some { 0 < length text.now }
     requires ascii { IsAscii text.now }
     ensures { StandsInFront result text.now }

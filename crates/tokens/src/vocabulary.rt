@@ -101,10 +101,13 @@ impl Kind {
     }
 }
 
-/// A token of a text: its kind, the offset of its first byte, and its bytes.
+/// A token of a text.
 #[derive(Clone, Copy)]
 pub struct Token<'a> {
+    /// Its kind.
     pub kind: Kind,
+    /// The offset of its first byte.
     pub at: u32,
+    /// Its bytes.
     pub text: &'a str,
 }

@@ -71,7 +71,7 @@ fn long_sign(first: u8, second: u8) -> Option<Kind>
 }
 
 // The kind of a word, if it is one of the language: a word that begins with a digit is `0` or `1`.
-pub fn word_kind(word: &str) -> Option<Kind>
+pub(crate) fn word_kind(word: &str) -> Option<Kind>
     requires some { 0 < length word.now }
     requires bytes { AreWordBytes word.now }
     ensures some { IfSome result (λ k. IsWord k word.now) }
@@ -88,7 +88,7 @@ pub fn word_kind(word: &str) -> Option<Kind>
 }
 
 // The longest sign at the front of a text, with its length.
-pub fn sign_at_front(bytes: &[u8]) -> Option<(Kind, usize)>
+pub(crate) fn sign_at_front(bytes: &[u8]) -> Option<(Kind, usize)>
     requires { 0 < length bytes.now }
     ensures within { IfSome result (λ found. found.1 ≤ length bytes.now) }
     ensures some { IfSome result (λ found. sign found.0 ≡ Some (take found.1 bytes.now)) }

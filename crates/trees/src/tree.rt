@@ -8,40 +8,54 @@ use std::alloc::Allocator;
 /// A program: its globals, its procedures and its thread lines, each in the order of the text.
 #[derive(Drop)]
 pub struct Program<A: Allocator> {
+    /// The names of its globals; several lists of them are one, in order.
     pub globals: Vec<Name<A>, A>,
+    /// Its procedures, in the order of the text.
     pub procs: Vec<Proc<A>, A>,
+    /// Its thread lines, in the order of the text.
     pub threads: Vec<Thread<A>, A>,
 }
 
-/// A thread line. `at` is the offset of the word `thread`.
+/// A thread line.
 #[derive(Drop)]
 pub struct Thread<A: Allocator> {
+    /// The offset of the word `thread`.
     pub at: u32,
+    /// The name of the procedure that the thread runs.
     pub name: Name<A>,
 }
 
-/// A name, with the offset of its first byte.
+/// A name.
 #[derive(Drop)]
 pub struct Name<A: Allocator> {
+    /// Its letters, digits and underscores.
     pub text: String<A>,
+    /// The offset of its first byte.
     pub at: u32,
 }
 
 /// A procedure. Several lists of locals are one, in order.
 #[derive(Drop)]
 pub struct Proc<A: Allocator> {
+    /// Its name.
     pub name: Name<A>,
+    /// The names of its formals, in order.
     pub formals: Vec<Name<A>, A>,
+    /// The names of its locals, in order.
     pub locals: Vec<Name<A>, A>,
+    /// Its statements.
     pub body: Vec<Stmt<A>, A>,
 }
 
-/// A statement. `at` is the offset of its label, if it has one, and otherwise of its first byte.
+/// A statement.
 #[cycle(tree)]
 #[derive(Drop)]
 pub struct Stmt<A: Allocator> {
+    /// Its label, if it has one.
     pub label: Option<Name<A>>,
+    /// The offset of its label, if it has one, and otherwise of its first byte.
     pub at: u32,
+    /// What it does.
     pub core: Core<A>,
 }
 

@@ -10,233 +10,139 @@ use Rattle.ticket_lock.specs.Count.{times, without, total}
 use Rattle.ticket_lock.specs.History.{StartsWith, EndsIn, IsRising}
 
 module _ {A : Type 0} where
-  pub total_set : (f : A → ℕ) (l : List A) (i : ℕ) (v w : A) → get_elem? l i ≡ some v → total f (set l i w) + f v ≡ total f l + f w
-  total_set f [] i v w e = absurd (some-ne-none v (sym e))
-  total_set f (x ∷ xs) zero v w e = let same : f x ≡ f v = ap f (some-injective x v e) in omega arith
-  total_set f (x ∷ xs) (suc i) v w e = omega (arith, total_set f xs i v w e)
+  pub total_set : (measure : A → ℕ) (items : List A) (place : ℕ) (old new : A) → get_elem? items place ≡ some old
+      → total measure (set items place new) + measure old ≡ total measure items + measure new
+  total_set measure [] place old new at = absurd (some-ne-none old (sym at))
+  total_set measure (first ∷ rest) zero old new at = let same : measure first ≡ measure old = ap measure (some-injective first old at) in
+      omega arith
+  total_set measure (first ∷ rest) (suc place) old new at = omega (arith, total_set measure rest place old new at)
 
-  pub total_at : (f : A → ℕ) (l : List A) (i : ℕ) (v : A) → get_elem? l i ≡ some v → f v ≤ total f l
-  total_at f [] i v e = absurd (some-ne-none v (sym e))
-  total_at f (x ∷ xs) zero v e = let same : f x ≡ f v = ap f (some-injective x v e) in omega arith
-  total_at f (x ∷ xs) (suc i) v e = omega (arith, total_at f xs i v e)
+  pub total_at : (measure : A → ℕ) (items : List A) (place : ℕ) (item : A) → get_elem? items place ≡ some item
+      → measure item ≤ total measure items
+  total_at measure [] place item at = absurd (some-ne-none item (sym at))
+  total_at measure (first ∷ rest) zero item at = let same : measure first ≡ measure item = ap measure (some-injective first item at) in
+      omega arith
+  total_at measure (first ∷ rest) (suc place) item at = omega (arith, total_at measure rest place item at)
 
-  pub total_two : (f : A → ℕ) (l : List A) (i j : ℕ) (v w : A) → i ≢ j → get_elem? l i ≡ some v → get_elem? l j ≡ some w
-      → f v + f w ≤ total f l
-  total_two f [] i j v w ne e d = absurd (some-ne-none v (sym e))
-  total_two f (x ∷ xs) zero zero v w ne e d = absurd (ne refl)
-  total_two f (x ∷ xs) zero (suc j) v w ne e d = let same : f x ≡ f v = ap f (some-injective x v e) in omega (arith, total_at f xs j w d)
-  total_two f (x ∷ xs) (suc i) zero v w ne e d = let same : f x ≡ f w = ap f (some-injective x w d) in omega (arith, total_at f xs i v e)
-  total_two f (x ∷ xs) (suc i) (suc j) v w ne e d = omega (arith, total_two f xs i j v w (λ s. ne (ap suc s)) e d)
+  pub total_two : (measure : A → ℕ) (items : List A) (place other : ℕ) (one two : A) → place ≢ other → get_elem? items place ≡ some one
+      → get_elem? items other ≡ some two
+      → measure one + measure two ≤ total measure items
+  total_two measure [] place other one two ne at at_other = absurd (some-ne-none one (sym at))
+  total_two measure (first ∷ rest) zero zero one two ne at at_other = absurd (ne refl)
+  total_two measure (first ∷ rest) zero (suc other) one two ne at at_other = let same : measure first ≡ measure one =
+      ap measure (some-injective first one at) in omega (arith, total_at measure rest other two at_other)
+  total_two measure (first ∷ rest) (suc place) zero one two ne at at_other = let same : measure first ≡ measure two =
+      ap measure (some-injective first two at_other) in omega (arith, total_at measure rest place one at)
+  total_two measure (first ∷ rest) (suc place) (suc other) one two ne at at_other =
+      omega (arith, total_two measure rest place other one two (λ same_place. ne (ap suc same_place)) at at_other)
 
-  pub total_few : (f g : A → ℕ) (k : ℕ) (l : List A) → ((j : ℕ) (h : A) → get_elem? l j ≡ some h → f h ≤ g h * k)
-      → total f l ≤ total g l * k
-  total_few f g k [] few = omega arith
-  total_few f g k (x ∷ xs) few = omega (arith, few 0 x refl, total_few f g k xs (λ j h e. few (suc j) h e))
+  pub at-map : {B : Type 0} (image : B → A) (items : List B) (place : ℕ) (item : B) → get_elem? items place ≡ some item
+      → get_elem? (map image items) place ≡ some (image item)
+  at-map image [] place item at = absurd (some-ne-none item (sym at))
+  at-map image (first ∷ rest) zero item at = ap (λ it. some (image it)) (some-injective first item at)
+  at-map image (first ∷ rest) (suc place) item at = at-map image rest place item at
 
-  pub total_plus : (f g : A → ℕ) (l : List A) → total (λ x. f x + g x) l ≡ total f l + total g l
-  total_plus f g [] = omega arith
-  total_plus f g (x ∷ xs) = omega (arith, total_plus f g xs)
+  pub map-set : {B : Type 0} (image : B → A) (items : List B) (place : ℕ) (new : B)
+      → map image (set items place new) ≡ set (map image items) place (image new)
+  map-set image [] place new = refl
+  map-set image (first ∷ rest) zero new = refl
+  map-set image (first ∷ rest) (suc place) new = ap (λ images. image first ∷ images) (map-set image rest place new)
 
-  pub total-snoc : (f : A → ℕ) (l : List A) (x : A) → total f (l ++ x ∷ []) ≡ total f l + f x
-  total-snoc f [] x = omega arith
-  total-snoc f (y ∷ ys) x = omega (arith, total-snoc f ys x)
+  pub set_again : (items : List A) (place : ℕ) (item : A) → get_elem? items place ≡ some item → set items place item ≡ items
+  set_again [] place item at = refl
+  set_again (first ∷ rest) zero item at = ap (λ it. it ∷ rest) (sym (some-injective first item at))
+  set_again (first ∷ rest) (suc place) item at = ap (λ others. first ∷ others) (set_again rest place item at)
 
-  pub total-map : {B : Type 0} (g : B → A) (f : A → ℕ) (l : List B) → total f (map g l) ≡ total (λ b. f (g b)) l
-  total-map g f [] = refl
-  total-map g f (x ∷ xs) = ap (λ (n : ℕ). f (g x) + n) (total-map g f xs)
+  pub set_here : (items : List A) (place : ℕ) (item : A) → place < length items → get_elem? (set items place item) place ≡ some item
+  set_here [] place item inside = absurd (omega arith)
+  set_here (first ∷ rest) zero item inside = refl
+  set_here (first ∷ rest) (suc place) item inside = set_here rest place item (omega arith)
 
-  pub at-map : {B : Type 0} (g : B → A) (l : List B) (i : ℕ) (b : B) → get_elem? l i ≡ some b → get_elem? (map g l) i ≡ some (g b)
-  at-map g [] i b e = absurd (some-ne-none b (sym e))
-  at-map g (x ∷ xs) zero b e = ap (λ y. some (g y)) (some-injective x b e)
-  at-map g (x ∷ xs) (suc i) b e = at-map g xs i b e
+  pub set_else : (items : List A) (place other : ℕ) (item : A) → other ≢ place
+      → get_elem? (set items place item) other ≡ get_elem? items other
+  set_else [] place other item apart = refl
+  set_else (first ∷ rest) zero zero item apart = absurd (apart refl)
+  set_else (first ∷ rest) zero (suc other) item apart = refl
+  set_else (first ∷ rest) (suc place) zero item apart = refl
+  set_else (first ∷ rest) (suc place) (suc other) item apart = set_else rest place other item (λ same_place. apart (ap suc same_place))
 
-  pub map-set : {B : Type 0} (g : B → A) (l : List B) (i : ℕ) (b : B) → map g (set l i b) ≡ set (map g l) i (g b)
-  map-set g [] i b = refl
-  map-set g (x ∷ xs) zero b = refl
-  map-set g (x ∷ xs) (suc i) b = ap (λ r. g x ∷ r) (map-set g xs i b)
-
-  pub map-snoc : {B : Type 0} (g : B → A) (l : List B) (b : B) → map g (l ++ b ∷ []) ≡ map g l ++ g b ∷ []
-  map-snoc g [] b = refl
-  map-snoc g (x ∷ xs) b = ap (λ r. g x ∷ r) (map-snoc g xs b)
-
-  pub total_zero : (f : A → ℕ) (l : List A) → ((j : ℕ) (w : A) → get_elem? l j ≡ some w → f w ≡ 0) → total f l ≡ 0
-  total_zero f [] none = refl
-  total_zero f (x ∷ xs) none = omega (arith, none 0 x refl, total_zero f xs (λ j w d. none (suc j) w d))
-
-  -- if f is 0 for each element but one, the sum is what it is for that one
-  pub total_only : (f : A → ℕ) (l : List A) (i : ℕ) (v : A) → get_elem? l i ≡ some v
-      → ((j : ℕ) (w : A) → j ≢ i → get_elem? l j ≡ some w → f w ≡ 0) → total f l ≡ f v
-  total_only f [] i v e none = absurd (some-ne-none v (sym e))
-  total_only f (x ∷ xs) zero v e none = let same : f x ≡ f v = ap f (some-injective x v e) in
-      omega (arith, total_zero f xs (λ j w d. none (suc j) w (λ h. omega arith) d))
-  total_only f (x ∷ xs) (suc i) v e none =
-      omega (arith, none 0 x (λ h. omega arith) refl, total_only f xs i v e (λ j w ne d. none (suc j) w (λ h. ne (omega arith)) d))
-
-  pub set_again : (l : List A) (i : ℕ) (a : A) → get_elem? l i ≡ some a → set l i a ≡ l
-  set_again [] i a e = refl
-  set_again (x ∷ xs) zero a e = ap (λ y. y ∷ xs) (sym (some-injective x a e))
-  set_again (x ∷ xs) (suc i) a e = ap (λ r. x ∷ r) (set_again xs i a e)
-
-  pub set_here : (l : List A) (i : ℕ) (a : A) → i < length l → get_elem? (set l i a) i ≡ some a
-  set_here [] i a h = absurd (omega arith)
-  set_here (x ∷ xs) zero a h = refl
-  set_here (x ∷ xs) (suc i) a h = set_here xs i a (omega arith)
-
-  pub set_else : (l : List A) (i j : ℕ) (a : A) → j ≢ i → get_elem? (set l i a) j ≡ get_elem? l j
-  set_else [] i j a n = refl
-  set_else (x ∷ xs) zero zero a n = absurd (n refl)
-  set_else (x ∷ xs) zero (suc j) a n = refl
-  set_else (x ∷ xs) (suc i) zero a n = refl
-  set_else (x ∷ xs) (suc i) (suc j) a n = set_else xs i j a (λ e. n (ap suc e))
-
-  pub at_inside : (l : List A) (i : ℕ) (a : A) → get_elem? l i ≡ some a → i < length l
-  at_inside [] i a e = absurd (some-ne-none a (sym e))
-  at_inside (x ∷ xs) zero a e = omega arith
-  at_inside (x ∷ xs) (suc i) a e = omega (arith, at_inside xs i a e)
+  pub at_inside : (items : List A) (place : ℕ) (item : A) → get_elem? items place ≡ some item → place < length items
+  at_inside [] place item at = absurd (some-ne-none item (sym at))
+  at_inside (first ∷ rest) zero item at = omega arith
+  at_inside (first ∷ rest) (suc place) item at = omega (arith, at_inside rest place item at)
 
   -- an element after a write is the one written, or an old one at another place
-  pub at_set : (l : List A) (i j : ℕ) (a b : A) → get_elem? (set l i a) j ≡ some b
-      → ((j ≡ i) × (a ≡ b)) ⊎ ((j ≢ i) × (get_elem? l j ≡ some b))
-  at_set [] i j a b e = absurd (some-ne-none b (sym e))
-  at_set (x ∷ xs) zero zero a b e = inl (refl, some-injective a b e)
-  at_set (x ∷ xs) zero (suc j) a b e = inr ((λ h. omega arith), e)
-  at_set (x ∷ xs) (suc i) zero a b e = inr ((λ h. omega arith), e)
-  at_set (x ∷ xs) (suc i) (suc j) a b e =
-      elim (at_set xs i j a b e) [ inl t ↦ inl (ap suc t.0, t.1) | inr t ↦ (let n = t.0 in inr ((λ h. n (omega arith)), t.1)) ]
+  pub at_set : (items : List A) (place other : ℕ) (item found : A) → get_elem? (set items place item) other ≡ some found
+      → ((other ≡ place) × (item ≡ found)) ⊎ ((other ≢ place) × (get_elem? items other ≡ some found))
+  at_set [] place other item found at = absurd (some-ne-none found (sym at))
+  at_set (first ∷ rest) zero zero item found at = inl (refl, some-injective item found at)
+  at_set (first ∷ rest) zero (suc other) item found at = inr ((λ same_place. omega arith), at)
+  at_set (first ∷ rest) (suc place) zero item found at = inr ((λ same_place. omega arith), at)
+  at_set (first ∷ rest) (suc place) (suc other) item found at =
+      elim (at_set rest place other item found at) [
+        | inl case ↦ inl (ap suc case.0, case.1)
+        | inr case ↦ (let apart = case.0 in inr ((λ same_place. apart (omega arith)), case.1))
+      ]
 
-  pub at_snoc : (l : List A) (a b : A) (j : ℕ) → get_elem? (l ++ a ∷ []) j ≡ some b → ((j ≡ length l) × (a ≡ b)) ⊎ (get_elem? l j ≡ some b)
-  at_snoc [] a b zero e = inl (refl, some-injective a b e)
-  at_snoc [] a b (suc j) e = absurd (some-ne-none b (sym e))
-  at_snoc (x ∷ xs) a b zero e = inr e
-  at_snoc (x ∷ xs) a b (suc j) e = elim (at_snoc xs a b j e) [ inl t ↦ inl (ap suc t.0, t.1) | inr t ↦ inr t ]
+  pub at_snoc : (items : List A) (item found : A) (other : ℕ) → get_elem? (items ++ item ∷ []) other ≡ some found
+      → ((other ≡ length items) × (item ≡ found)) ⊎ (get_elem? items other ≡ some found)
+  at_snoc [] item found zero at = inl (refl, some-injective item found at)
+  at_snoc [] item found (suc other) at = absurd (some-ne-none found (sym at))
+  at_snoc (first ∷ rest) item found zero at = inr at
+  at_snoc (first ∷ rest) item found (suc other) at =
+      elim (at_snoc rest item found other at) [ inl case ↦ inl (ap suc case.0, case.1) | inr case ↦ inr case ]
 
-  pub at_longer : (l m : List A) (i : ℕ) (a : A) → get_elem? l i ≡ some a → get_elem? (l ++ m) i ≡ some a
-  at_longer [] m i a e = absurd (some-ne-none a (sym e))
-  at_longer (x ∷ xs) m zero a e = e
-  at_longer (x ∷ xs) m (suc i) a e = at_longer xs m i a e
+  pub at_last : (items : List A) (item : A) → get_elem? (items ++ item ∷ []) (length items) ≡ some item
+  at_last [] item = refl
+  at_last (first ∷ rest) item = at_last rest item
 
-  pub at_append : (l m : List A) (k : ℕ) (a : A) → get_elem? (l ++ m) k ≡ some a
-      → (get_elem? l k ≡ some a) ⊎ ((j : ℕ) × (get_elem? m j ≡ some a))
-  at_append [] m k a e = inr (k, e)
-  at_append (x ∷ xs) m zero a e = inl e
-  at_append (x ∷ xs) m (suc k) a e = at_append xs m k a e
+  pub StartsWith-refl : (log : List A) → StartsWith log log
+  StartsWith-refl log = ([], sym (append-nil log))
 
-  pub map-append : {B : Type 0} (g : B → A) (l m : List B) → map g (l ++ m) ≡ map g l ++ map g m
-  map-append g [] m = refl
-  map-append g (x ∷ xs) m = ap (λ r. g x ∷ r) (map-append g xs m)
+  pub StartsWith-trans : (log middle seen : List A) → StartsWith log middle → StartsWith middle seen → StartsWith log seen
+  StartsWith-trans log middle seen more before =
+      (before.0 ++ more.0, more.1 ∙ (ap (λ front. front ++ more.0) before.1 ∙ append_assoc seen before.0 more.0))
 
-  pub at_last : (l : List A) (a : A) → get_elem? (l ++ a ∷ []) (length l) ≡ some a
-  at_last [] a = refl
-  at_last (x ∷ xs) a = at_last xs a
+  pub StartsWith-more : (log seen : List A) (added : A) → StartsWith log seen → StartsWith (log ++ added ∷ []) seen
+  StartsWith-more log seen added begins =
+      (begins.0 ++ added ∷ [], ap (λ front. front ++ added ∷ []) begins.1 ∙ append_assoc seen begins.0 (added ∷ []))
 
-  pub StartsWith-refl : (l : List A) → StartsWith l l
-  StartsWith-refl l = ([], sym (append-nil l))
+  pub EndsIn-at : (log : List A) (last : A) → EndsIn log last → (place : ℕ) → length log ≡ place + 1 → get_elem? log place ≡ some last
+  EndsIn-at log last ends place long =
+      let front_long : length ends.0 ≡ place = omega (arith, ap length ends.1, length-append ends.0 (last ∷ [])) in
+      subst (λ it. get_elem? log it ≡ some last) front_long
+      (subst (λ it. get_elem? it (length ends.0) ≡ some last) (sym ends.1) (at_last ends.0 last))
 
-  pub StartsWith-trans : (a b c : List A) → StartsWith a b → StartsWith b c → StartsWith a c
-  StartsWith-trans a b c p q = (q.0 ++ p.0, p.1 ∙ (ap (λ l. l ++ p.0) q.1 ∙ append_assoc c q.0 p.0))
+  pub EndsIn-same : (log : List A) (one other : A) → EndsIn log one → EndsIn log other → one ≡ other
+  EndsIn-same log one other ends also =
+      let at_one = EndsIn-at log one ends (length ends.0) (omega (arith, ap length ends.1, length-append ends.0 (one ∷ []))) in
+      let at_other = EndsIn-at log other also (length ends.0) (omega (arith, ap length ends.1, length-append ends.0 (one ∷ []))) in
+      some-injective one other (sym at_one ∙ at_other)
 
-  pub StartsWith-more : (a b : List A) (x : A) → StartsWith a b → StartsWith (a ++ x ∷ []) b
-  StartsWith-more a b x p = (p.0 ++ x ∷ [], ap (λ l. l ++ x ∷ []) p.1 ∙ append_assoc b p.0 (x ∷ []))
-
-  pub StartsWith-length : (a b : List A) → StartsWith a b → length b ≤ length a
-  StartsWith-length a b p = omega (arith, ap length p.1, length-append b p.0)
-
-  no_rest : (a r : List A) → length (a ++ r) ≤ length a → a ++ r ≡ a
-  no_rest a [] h = append-nil a
-  no_rest a (x ∷ xs) h = absurd (omega (arith, length-append a (x ∷ xs)))
-
-  -- a prefix that is as long is the whole
-  pub StartsWith-whole : (a b : List A) → StartsWith a b → length a ≤ length b → a ≡ b
-  StartsWith-whole a b p h = p.1 ∙ no_rest b p.0 (subst (λ l. length l ≤ length b) p.1 h)
-
-  -- of two prefixes of one history, the shorter is a prefix of the longer
-  pub both_begin : (l a b : List A) → StartsWith l a → StartsWith l b → length b ≤ length a → StartsWith a b
-  both_begin l a [] p q h = (a, refl)
-  both_begin l [] (y ∷ ys) p q h = absurd (omega arith)
-  both_begin [] (x ∷ xs) (y ∷ ys) p q h = let e : [] ≡ x ∷ (xs ++ p.0) = p.1 in cc
-  both_begin (z ∷ zs) (x ∷ xs) (y ∷ ys) p q h =
-      let e : z ∷ zs ≡ x ∷ (xs ++ p.0) = p.1 in
-      let d : z ∷ zs ≡ y ∷ (ys ++ q.0) = q.1 in
-      let zx : z ≡ x = cc in let zy : z ≡ y = cc in
-      let p' : zs ≡ xs ++ p.0 = cc in let q' : zs ≡ ys ++ q.0 = cc in
-      let r = both_begin zs xs ys (p.0, p') (q.0, q') (omega arith) in
-      let s : xs ≡ ys ++ r.0 = r.1 in
-      let t : x ∷ xs ≡ y ∷ (ys ++ r.0) = cc in
-      (r.0, t)
-
-  pub EndsIn-at : (l : List A) (x : A) → EndsIn l x → (n : ℕ) → length l ≡ n + 1 → get_elem? l n ≡ some x
-  EndsIn-at l x e n h =
-      let k : length e.0 ≡ n = omega (arith, ap length e.1, length-append e.0 (x ∷ [])) in
-      subst (λ m. get_elem? l m ≡ some x) k (subst (λ m. get_elem? m (length e.0) ≡ some x) (sym e.1) (at_last e.0 x))
-
-  pub EndsIn-same : (l : List A) (x y : A) → EndsIn l x → EndsIn l y → x ≡ y
-  EndsIn-same l x y p q =
-      let a = EndsIn-at l x p (length p.0) (omega (arith, ap length p.1, length-append p.0 (x ∷ []))) in
-      let b = EndsIn-at l y q (length p.0) (omega (arith, ap length p.1, length-append p.0 (x ∷ []))) in
-      some-injective x y (sym a ∙ b)
-
-  pub EndsIn-more : (l : List A) (x : A) → EndsIn (l ++ x ∷ []) x
-  EndsIn-more l x = (l, refl)
-
-  pub EndsIn-some : (l : List A) → 0 < length l → (x : A) × EndsIn l x
-  EndsIn-some [] h = absurd (omega arith)
-  EndsIn-some (x ∷ []) h = (x, ([], refl))
-  EndsIn-some (x ∷ y ∷ ys) h = let r = EndsIn-some (y ∷ ys) (omega arith) in (r.0, (x ∷ r.1.0, ap (λ m. x ∷ m) r.1.1))
+  pub EndsIn-more : (log : List A) (added : A) → EndsIn (log ++ added ∷ []) added
+  EndsIn-more log added = (log, refl)
 
   -- a rising history stays so if the value added comes after the last
-  pub rises_on : (before : A → A → Type 0) → ((x : A) → before x x) → ((x y z : A) → before x y → before y z → before x z)
-      → (l : List A) (x y : A) → EndsIn l x → before x y → IsRising before l → IsRising before (l ++ y ∷ [])
-  rises_on before same on l x y ends step up i j a b le at_a at_b =
-      elim (at_snoc l y b j at_b) [
+  pub rises_on : (before : A → A → Type 0) → ((last : A) → before last last)
+      → ((last added next : A) → before last added → before added next → before last next)
+      → (log : List A) (last added : A) → EndsIn log last → before last added → IsRising before log → IsRising before (log ++ added ∷ [])
+  rises_on before same on log last added ends step up earlier later one other order at_a at_b =
+      elim (at_snoc log added other later at_b) [
         | inr old_b ↦
-            (let short = at_inside l j b old_b in
-            elim (at_snoc l y a i at_a) [ inl t ↦ absurd (omega arith) | inr old_a ↦ up i j a b le old_a old_b ])
-        | inl t ↦ elim (at_snoc l y a i at_a) [
-          | inl s ↦ (let e : a ≡ b = sym s.1 ∙ t.1 in subst (λ z. before a z) e (same a))
-          | inr old_a ↦ (let short = at_inside l i a old_a in
-              let n : ℕ = length ends.0 in
-              let long : length l ≡ n + 1 = omega (arith, ap length ends.1, length-append ends.0 (x ∷ [])) in
-              let k = up i n a x (omega arith) old_a (EndsIn-at l x ends n long) in
-              on a x b k (subst (λ z. before x z) t.1 step))
+            (let short = at_inside log later other old_b in
+            elim (at_snoc log added one earlier at_a) [
+              | inl case ↦ absurd (omega arith)
+              | inr old_a ↦ up earlier later one other order old_a old_b
+            ])
+        | inl case ↦ elim (at_snoc log added one earlier at_a) [
+          | inl both ↦ (let equal : one ≡ other = sym both.1 ∙ case.1 in subst (λ next. before one next) equal (same one))
+          | inr old_a ↦ (let short = at_inside log earlier one old_a in
+              let front_long : ℕ = length ends.0 in
+              let long : length log ≡ front_long + 1 = omega (arith, ap length ends.1, length-append ends.0 (last ∷ [])) in
+              let rises = up earlier front_long one last (omega arith) old_a (EndsIn-at log last ends front_long long) in
+              on one last other rises (subst (λ next. before last next) case.1 step))
         ]
       ]
 
-  pub rises_short : (before : A → A → Type 0) (l a : List A) → StartsWith l a → IsRising before l → IsRising before a
-  rises_short before l a p up i j x y le at_x at_y =
-      let m : (k : ℕ) (z : A) → get_elem? a k ≡ some z → get_elem? l k ≡ some z =
-      λ k z e. subst (λ w. get_elem? w k ≡ some z) (sym p.1) (at_longer a p.0 k z e) in
-      up i j x y le (m i x at_x) (m j y at_y)
-
-  -- the last value of a prefix comes before the last of the whole
-  pub rises_last : (before : A → A → Type 0) (l a : List A) (x y : A) → IsRising before l → StartsWith l a → EndsIn a x → EndsIn l y
-      → before x y
-  rises_last before l a x y up p ex ey =
-      let na : length a ≡ length ex.0 + 1 = omega (arith, ap length ex.1, length-append ex.0 (x ∷ [])) in
-      let nl : length l ≡ length ey.0 + 1 = omega (arith, ap length ey.1, length-append ey.0 (y ∷ [])) in
-      let short = StartsWith-length l a p in
-      let at_x = EndsIn-at a x ex (length ex.0) na in
-      up (length ex.0) (length ey.0) x y (omega arith)
-      (subst (λ w. get_elem? w (length ex.0) ≡ some x) (sym p.1) (at_longer a p.0 (length ex.0) x at_x))
-      (EndsIn-at l y ey (length ey.0) nl)
-
-pub times-snoc : (n : ℕ) (xs : List ℕ) (x : ℕ) → times n (xs ++ x ∷ []) ≡ times n xs + times n (x ∷ [])
-times-snoc n [] x = omega arith
-times-snoc n (y ∷ ys) x = omega (arith, times-snoc n ys x)
-
-pub times-append : (n : ℕ) (xs ys : List ℕ) → times n (xs ++ ys) ≡ times n xs + times n ys
-times-append n [] ys = omega arith
-times-append n (x ∷ xs) ys = omega (arith, times-append n xs ys)
-
-pub times-one : (n : ℕ) → times n (n ∷ []) ≡ 1
-times-one n = rw (eq-eqb n n refl) refl
-
-pub times-other : (n x : ℕ) → x ≢ n → times n (x ∷ []) ≡ 0
-times-other n x ne = rw (ne_eqb x n ne) refl
-
-pub times-without : (n m : ℕ) (xs : List ℕ) → 0 < times n xs → times m (without n xs) + times m (n ∷ []) ≡ times m xs
-times-without n m [] h = absurd (omega arith)
-times-without n m (x ∷ xs) h = dite (ℕ_discrete x n)
-    (λ (e : x ≡ n). let s : eqb x n ≡ true = eq-eqb x n e in
-    rw s (subst (λ (k : ℕ). times m xs + (cond (eqb k m) 1 0 + 0) ≡ cond (eqb x m) 1 0 + times m xs) e (omega arith)))
-    (λ (ne : x ≢ n). let s : eqb x n ≡ false = ne_eqb x n ne in let h' = rw s at h in
-    rw s (omega (arith, times-without n m xs (omega arith))))
+pub times-one : (number : ℕ) → times number (number ∷ []) ≡ 1
+times-one number = rw (eq-eqb number number refl) refl

@@ -1,6 +1,6 @@
 use Rattle.std.proofs.Common.{ℕ, ◌≤◌, subst, length, map, get_or, ◌+◌}
 use lib.ListN.{get_elem?}
-use Rattle.ticket_lock.specs.Proved.Facts.{total-map}
+use Rattle.ticket_lock.proofs.HistoryFacts.{total-map}
 use Rattle.ticket_lock.proofs.CoreSteps.{at_most_one}
 use Rattle.ticket_lock.proofs.one.at_most_one_guard.Goals as goal
 

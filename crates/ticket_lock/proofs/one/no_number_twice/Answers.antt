@@ -3,7 +3,7 @@ use Rattle.std.proofs.Common.{ℕ, ◌≤◌, subst, map, get_or, ◌+◌}
 use lib.ListN.{get_elem?}
 use Rattle.ticket_lock.specs.Count.{times}
 use Rattle.ticket_lock.specs.Core.{in_hand}
-use Rattle.ticket_lock.specs.Proved.Facts.{total-map}
+use Rattle.ticket_lock.proofs.HistoryFacts.{total-map}
 use Rattle.ticket_lock.proofs.CoreSteps.{held_once, drawn_at_most_once, not_drawn_before}
 use Rattle.ticket_lock.proofs.one.no_number_twice.Goals as goal
 

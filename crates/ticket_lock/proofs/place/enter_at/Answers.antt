@@ -1,6 +1,7 @@
 use Rattle.std.proofs.Common.{ap, subst, sym, ◌∙◌, ◌<◌, arith}
 use Rattle.ticket_lock.specs.Count.{times}
-use Rattle.ticket_lock.specs.Proved.Facts.{times-snoc, times-one}
+use Rattle.ticket_lock.specs.Proved.Facts.{times-one}
+use Rattle.ticket_lock.proofs.HistoryFacts.{times-snoc}
 use Rattle.ticket_lock.proofs.place.enter_at.Goals as goal
 
 pub look_at-requires-clause-held : goal.look_at-requires-clause-held
