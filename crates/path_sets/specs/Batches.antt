@@ -1,34 +1,34 @@
--- The places that are gathered for the diagrams, in batches; those of a row are in one batch.
+-- The masks that are gathered for the diagrams, in batches; those of a diagram are in one batch.
 use Rattle.std.specs.Prelude.{◌≡◌, ℕ, zero, suc, List, [], ◌∷◌, ◌++◌, Some, slice_get}
 use Rattle.std.specs.Map.{keys_of}
 use Rattle.language.specs.Lists.{Member}
-use Rattle.path_sets.specs.declared.batch.Batch.{Batch}
-use Rattle.path_sets.specs.declared.place.Place.{Place}
-use Rattle.path_sets.specs.declared.quad.Quad.{Quad}
-use Rattle.path_sets.specs.declared.rows.Row.{Row}
-use Rattle.path_sets.specs.declared.spot.Spot.{Spot}
+use Rattle.path_sets.specs.declared.diagrams.batch.Batch.{Batch}
+use Rattle.path_sets.specs.declared.points.mask_key.MaskKey.{MaskKey}
+use Rattle.path_sets.specs.declared.diagrams.quad.Quad.{Quad}
+use Rattle.path_sets.specs.declared.diagrams.roots.DiagramKey.{DiagramKey}
+use Rattle.path_sets.specs.declared.diagrams.gathered_key.GatheredKey.{GatheredKey}
 use Rattle.path_sets.specs.Members.{Covers}
-use Rattle.path_sets.specs.Spots.{AreWithin, places_of}
+use Rattle.path_sets.specs.GatheredKeys.{AreWithin, masks_of}
 
--- the spots of the batch with this number, with their masks; none after the last
-abbrev pub spots_at : {A : Type 0} → List (Batch A) → ℕ → List (Spot × ℕ)
-spots_at [] k = []
-spots_at (batch ∷ batches) zero = batch.masks.entries
-spots_at (batch ∷ batches) (suc k) = spots_at batches k
+-- the masks of the batch with this number, with their keys; none after the last
+abbrev pub gathered_at : {A : Type 0} → List (Batch A) → ℕ → List (GatheredKey × ℕ)
+gathered_at [] k = []
+gathered_at (batch ∷ batches) zero = batch.masks.entries
+gathered_at (batch ∷ batches) (suc k) = gathered_at batches k
 
--- the places of all batches
-abbrev pub places_in : {A : Type 0} → List Row → List (Batch A) → List (Place × ℕ)
-places_in rows [] = []
-places_in rows (batch ∷ batches) = places_of rows batch.masks.entries ++ places_in rows batches
+-- the masks of all batches
+abbrev pub masks_in : {A : Type 0} → List DiagramKey → List (Batch A) → List (MaskKey × ℕ)
+masks_in diagrams [] = []
+masks_in diagrams (batch ∷ batches) = masks_of diagrams batch.masks.entries ++ masks_in diagrams batches
 
--- a spot of a batch is one of a row that has this batch
+-- a key of a batch is one of a diagram that has this batch
 abbrev pub AreHome : {A : Type 0} → List ℕ → List (Batch A) → Type 0
-AreHome homes batches = (k : ℕ) (s : Spot) → Member s (keys_of (spots_at batches k)) → slice_get homes s.row ≡ Some k
+AreHome homes batches = (k : ℕ) (s : GatheredKey) → Member s (keys_of (gathered_at batches k)) → slice_get homes s.diagram ≡ Some k
 
--- the row of each spot is there
-abbrev pub AllWithin : {A : Type 0} → List Row → List (Batch A) → Type 0
-AllWithin rows batches = (k : ℕ) → AreWithin rows (spots_at batches k)
+-- the diagram of each key is there
+abbrev pub AllWithin : {A : Type 0} → List DiagramKey → List (Batch A) → Type 0
+AllWithin diagrams batches = (k : ℕ) → AreWithin diagrams (gathered_at batches k)
 
--- what the diagrams have at the places of a batch is among what the batch has
-abbrev pub CoversEach : {A : Type 0} → List Quad → List (Row × ℕ) → List (Batch A) → Type 0
-CoversEach nodes rows batches = (k : ℕ) → Covers nodes rows (places_of (keys_of rows) (spots_at batches k))
+-- what the diagrams have at the keys of a batch is among what the batch has
+abbrev pub CoversEach : {A : Type 0} → List Quad → List (DiagramKey × ℕ) → List (Batch A) → Type 0
+CoversEach nodes roots batches = (k : ℕ) → Covers nodes roots (masks_of (keys_of roots) (gathered_at batches k))

@@ -2,7 +2,7 @@
 use Rattle.std.specs.Prelude.{◌≡◌, Bool, true, false, List, ◌∷◌}
 use Rattle.language.specs.Lists.{Member}
 
--- the second list is the first with x put in at one place
+-- the second list is the first with x put in at one key
 pub data Inserts {A : Type 0} (x : A) : List A → List A → Type 0 where
   here : (xs : List A) → Inserts x xs (x ∷ xs)
   there : (y : A) (xs ys : List A) → Inserts x xs ys → Inserts x (y ∷ xs) (y ∷ ys)

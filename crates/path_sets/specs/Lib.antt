@@ -9,9 +9,9 @@ pub mod Walks
 pub mod Halves
 pub mod Quads
 pub mod Diagrams
-pub mod Cells
-pub mod Binary
+pub mod Insertions
+pub mod OneBitDiagrams
 pub mod Members
-pub mod Spots
+pub mod GatheredKeys
 pub mod Batches
 pub mod Suffixes

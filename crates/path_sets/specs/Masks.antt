@@ -13,7 +13,7 @@ bits_below mask (suc n) = cond (bit_of mask n) (n ∷ bits_below mask n) (bits_b
 
 -- The bit was 0, and is 1, and the others are as they were; or it was 1, and the mask is as it was. The result says
 -- which.
-abbrev pub Marks : ℕ → ℕ → ℕ → Bool → Type 0
-Marks bit old new true =
+abbrev pub AddsPoint : ℕ → ℕ → ℕ → Bool → Type 0
+AddsPoint bit old new true =
     (bit_of old bit ≡ false) × (bit_of new bit ≡ true) × ((i : ℕ) → i ≢ bit → bit_of new i ≡ bit_of old i)
-Marks bit old new false = (bit_of old bit ≡ true) × (new ≡ old)
+AddsPoint bit old new false = (bit_of old bit ≡ true) × (new ≡ old)

@@ -5,10 +5,10 @@ use Rattle.std.specs.Prelude.{List, Some, slice_get, length}
 use Rattle.std.specs.Option.{option_map_or}
 use Rattle.language.specs.Lists.{Member}
 use Rattle.language.specs.Words.{word_bits}
-use Rattle.path_sets.specs.declared.quad.Quad.{Quad}
-use Rattle.path_sets.specs.declared.cell.Cell.{Cell}
+use Rattle.path_sets.specs.declared.diagrams.quad.Quad.{Quad}
+use Rattle.path_sets.specs.declared.diagrams.insertion.Insertion.{Insertion}
 use Rattle.path_sets.specs.Masks.{bit_of}
-use Rattle.path_sets.specs.Halves.{values_of}
+use Rattle.path_sets.specs.Halves.{valuation_of}
 use Rattle.path_sets.specs.Walks.{node_at, IsNumber}
 
 -- how many levels there are, two bits of a valuation at each
@@ -16,8 +16,8 @@ abbrev pub levels : ℕ
 levels = word_bits / 2
 
 -- the number to which a valuation continues from a node, by its two low bits
-abbrev pub turn : Quad → ℕ → ℕ
-turn node valuation =
+abbrev pub quad_child : Quad → ℕ → ℕ
+quad_child node valuation =
     cond (nat_eq (valuation % 4) 0) node.none
     (cond (nat_eq (valuation % 4) 1) node.first (cond (nat_eq (valuation % 4) 2) node.second node.both))
 
@@ -26,7 +26,7 @@ turn node valuation =
 unfoldable pub walk_to : List Quad → ℕ → ℕ → ℕ → ℕ
 walk_to quads zero number valuation = 0
 walk_to quads (suc most) number valuation =
-    option_map_or (λ x. cond (nat_eq valuation 0) x.points (walk_to quads most (turn x valuation) (valuation / 4)))
+    option_map_or (λ x. cond (nat_eq valuation 0) x.points (walk_to quads most (quad_child x valuation) (valuation / 4)))
     (node_at quads number) 0
 
 -- the points that a valuation is at by the diagram of a number
@@ -35,7 +35,7 @@ points_of quads number valuation = walk_to quads (suc valuation) number valuatio
 
 -- the points that a valuation is at by a node
 abbrev pub sees : List Quad → Quad → ℕ → ℕ
-sees quads node valuation = cond (nat_eq valuation 0) node.points (points_of quads (turn node valuation) (valuation / 4))
+sees quads node valuation = cond (nat_eq valuation 0) node.points (points_of quads (quad_child node valuation) (valuation / 4))
 
 -- whether a valuation is at a point by the diagram of a number; for the valuation 0 this is given
 abbrev pub is_at : List Quad → ℕ → Bool → ℕ → ℕ → Bool
@@ -67,12 +67,12 @@ pub record KeepQuads (old new : List Quad) : Type 0 where
   pub longer : length old ≤ length new
   pub same : (n v : ℕ) → IsNumber old n → points_of new n v ≡ points_of old n v
 
--- the point is in the mask of one of the cells, of whose valuation this is left at a level
-abbrev pub Given : List Cell → ℕ → ℕ → ℕ → Type 0
-Given cells level valuation point = (c : Cell) × Member c cells × (values_of c / 4 ^ level ≡ valuation)
+-- the point is in the mask of one of the insertions, of whose valuation this is left at a level
+abbrev pub IsInserted : List Insertion → ℕ → ℕ → ℕ → Type 0
+IsInserted insertions level valuation point = (c : Insertion) × Member c insertions × (valuation_of c / 4 ^ level ≡ valuation)
     × (bit_of c.mask point ≡ true)
 
--- the new diagram has the points of the old one and those of the cells
-abbrev pub Joins : List Cell → ℕ → (ℕ → ℕ) → (ℕ → ℕ) → Type 0
-Joins cells level old new =
-    (v point : ℕ) → (bit_of (new v) point ≡ true) ↔ ((bit_of (old v) point ≡ true) ⊎ Given cells level v point)
+-- the new diagram has the points of the old one and those of the insertions
+abbrev pub Joins : List Insertion → ℕ → (ℕ → ℕ) → (ℕ → ℕ) → Type 0
+Joins insertions level old new =
+    (v point : ℕ) → (bit_of (new v) point ≡ true) ↔ ((bit_of (old v) point ≡ true) ⊎ IsInserted insertions level v point)

@@ -2,7 +2,7 @@
 use Rattle.std.specs.Prelude.{◌≡◌, ◌<◌, ℕ, zero, suc, nat_eq, List, [], ◌∷◌, ◌++◌, Some, length}
 use Rattle.std.specs.Map.{lookup}
 use Rattle.language.specs.Lists.{Member}
-use Rattle.path_sets.specs.declared.shards.Shard.{Shard}
+use Rattle.path_sets.specs.declared.ordered.shard.Shard.{Shard}
 use Rattle.path_sets.specs.Edges.{edges}
 use Rattle.path_sets.specs.Triples.{Triple}
 

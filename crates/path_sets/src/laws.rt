@@ -2,7 +2,7 @@
 
 ghost use Rattle.std.specs.Prelude.{◌≡◌, ◌<◌, ◌≤◌, ◌-◌, ◌^◌, ℕ, List};
 ghost use Rattle.language.specs.Lists.{Member};
-ghost use Rattle.path_sets.specs.declared.node.Node.{Node};
+ghost use Rattle.path_sets.specs.declared.counting.bit_node.BitNode.{BitNode};
 ghost use Rattle.path_sets.specs.Triples.{Triple, triple};
 ghost use Rattle.path_sets.specs.Walks.{IsNumber};
 ghost use Rattle.path_sets.specs.Diagrams.{accepts, AreOrdered, AreReduced, GoDown};
@@ -18,7 +18,7 @@ pub fn members_have_one_count()
 
 /// A law: in ordered and reduced diagrams in which no node occurs twice, equal sets have one number (Bryant 1986).
 pub fn equal_sets_have_one_number()
-    ensures { (nodes : List Node) (n m : ℕ) → GoDown nodes → AreOrdered nodes → AreReduced nodes
+    ensures { (nodes : List BitNode) (n m : ℕ) → GoDown nodes → AreOrdered nodes → AreReduced nodes
         → StandOnce nodes
         → IsNumber nodes n → IsNumber nodes m → ((v : ℕ) → accepts nodes n v ≡ accepts nodes m v)
         → n ≡ m }

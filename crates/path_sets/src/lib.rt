@@ -5,40 +5,19 @@
 //! once, when `insert` returns that it is new.
 #![tactic(auto)]
 
-mod batch;
-mod binary;
-mod cell;
-mod diagram;
+mod counting;
+mod diagrams;
 mod edge_limit;
-mod gathered;
-mod halves;
-mod homes;
-mod inner;
 mod laws;
-mod mask;
-mod merged;
-mod newest;
-mod node;
-mod nodes;
 mod ordered;
 mod path_set;
-mod place;
 mod points;
-mod quad;
-mod quads;
-mod rows;
-mod seek;
-mod shards;
-mod spot;
-mod spots;
-mod union;
-mod waiting;
 
-pub use diagram::DiagramEdges;
+pub use diagrams::diagram_edges::DiagramEdges;
 pub use edge_limit::{EdgeLimit, MOST_EDGES};
-pub use halves::Halves;
 pub use laws::{
     equal_sets_have_one_number, members_have_one_count, the_least_valuations_make_a_chain,
 };
-pub use ordered::OrderedEdges;
+pub use ordered::ordered_edges::OrderedEdges;
 pub use path_set::PathSet;
+pub use points::halves::Halves;

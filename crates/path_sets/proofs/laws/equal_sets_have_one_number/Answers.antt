@@ -1,4 +1,4 @@
-use Rattle.path_sets.proofs.Canonical.{canonical}
+use Rattle.path_sets.proofs.CanonicityLemmas.{canonical}
 use Rattle.path_sets.proofs.laws.equal_sets_have_one_number.Goals as goal
 
 pub returns : goal.returns

@@ -1,0 +1,91 @@
+use Rattle.std.proofs.Common.{◌≡◌, Some, slice_get, slice_set, refl, ◌∙◌, subst}
+use Rattle.std.proofs.lemmas.Option.{slice_get_read}
+use Rattle.indexmap.specs.IndexMap.{keys}
+use Rattle.path_sets.specs.Batches.{AllWithin, CoversEach, masks_in}
+use Rattle.path_sets.specs.Edges.{edge_at}
+use Rattle.path_sets.specs.Members.{Covers, PutsEdge}
+use Rattle.path_sets.specs.GatheredKeys.{AreWithin, mask_key_at, masks_of}
+use Rattle.path_sets.proofs.BatchLemmas.{covers_as, covers_put, home_put, on_err, puts_in, same_masks, gathered_is, within_as, within_put}
+use Rattle.path_sets.proofs.UnionLemmas.{of_ok}
+use Rattle.path_sets.proofs.diagrams.batches.Batches.gather.Given as given
+use Rattle.path_sets.proofs.diagrams.batches.Batches.gather.Goals as goal
+use Rattle.path_sets.proofs.diagrams.batches.Batches.gather.Goals.{After-index_mut}
+
+pub returns-in_err-at-clause-within : goal.returns-in_err-at-clause-within
+returns-in_err-at-clause-within g c =
+    within_as (keys c.args.merged.now.roots) c.args.self.now.batches.items _ c.in_err-at.ensures.gathered c.requires.within
+
+module _ (g : given.Over) (c : After-index_mut g) where
+  at : slice_get c.batch_of.new.self.batches.items c.in_ok-at.at ≡ Some c.index_mut.result.now
+  at = slice_get_read c.batch_of.new.self.batches.items _ c.in_ok-at.at c.index_mut.result.now refl c.in_ok-at.ensures.batch.1
+      c.index_mut.ensures.value
+
+  -- what is gathered is within, and has what the diagrams have there, whatever batch its diagram got
+  within : AllWithin (keys c.args.merged.now.roots) c.batch_of.new.self.batches.items
+  within = within_as (keys c.args.merged.now.roots) c.args.self.now.batches.items _ c.in_ok-at.ensures.gathered c.requires.within
+
+  covers : CoversEach c.args.merged.now.nodes.kept.keys c.args.merged.now.roots.entries c.batch_of.new.self.batches.items
+  covers = covers_as c.args.merged.now.nodes.kept.keys c.args.merged.now.roots.entries c.args.self.now.batches.items
+      c.batch_of.new.self.batches.items c.in_ok-at.ensures.gathered c.requires.covers
+
+pub gather-requires-clause-within : goal.gather-requires-clause-within
+gather-requires-clause-within g c =
+    let i = (goal.at.gather-requires-clause-within g c).After-index_mut in
+    subst (AreWithin (keys c.args.merged.now.roots))
+    (gathered_is c.batch_of.new.self.batches.items c.in_ok-at.at c.index_mut.result.now (at g i)) (within g i c.in_ok-at.at)
+
+pub gather-requires-clause-covers : goal.gather-requires-clause-covers
+gather-requires-clause-covers g c =
+    let i = (goal.at.gather-requires-clause-covers g c).After-index_mut in
+    let m = c.args.merged.now in
+    subst (λ es. Covers m.nodes.kept.keys m.roots.entries (masks_of (keys m.roots) es))
+    (gathered_is c.batch_of.new.self.batches.items c.in_ok-at.at c.index_mut.result.now (at g i)) (covers g i c.in_ok-at.at)
+
+pub invariant_of-self : goal.invariant_of-self
+invariant_of-self g c =
+    let i = (goal.at.invariant_of-self g c).After-index_mut in
+    let s = c.batch_of.new.self in
+    record {
+      home = home_put s.batches.items c.in_ok-at.at c.index_mut.result.now c.gather.new.self (at g i) c.args.key c.gather.ensures.keys
+          s.homes.items s.home c.in_ok-at.ensures.batch.0;
+    }
+
+pub returns-clause-ok : goal.returns-clause-ok
+returns-clause-ok g c =
+    let i = (goal.at.returns-clause-ok g c).After-index_mut in
+    let s = c.batch_of.new.self in
+    let bs = s.batches.items in
+    let k = c.in_ok-at.at in
+    let m = c.args.merged.now in
+    let ns = m.nodes.kept.keys in
+    let rs = m.roots.entries in
+    let diagrams = keys m.roots in
+    let x = edge_at (mask_key_at diagrams c.args.key) c.args.bit in
+    let b = c.index_mut.result.now in
+    let w = c.gather.new.self in
+    let new = masks_in diagrams (slice_set bs k w) in
+    of_ok (PutsEdge ns rs x (masks_of diagrams b.masks.entries) (masks_of diagrams w.masks.entries))
+    (PutsEdge ns rs x (masks_in diagrams c.args.self.now.batches.items) new) c.gather.result
+    (λ added puts. subst (λ gs. PutsEdge ns rs x gs new added) (c.in_ok-at.ensures.masks diagrams)
+    (puts_in bs k b w (at g i) c.args.key c.gather.ensures.keys s.homes.items ns rs c.args.bit s.home c.in_ok-at.ensures.batch.0
+    (within g i) m.unique c.requires.diagram c.requires.bit added puts)) c.gather.ensures.ok
+
+pub returns-clause-err : goal.returns-clause-err
+returns-clause-err g c =
+    let i = (goal.at.returns-clause-err g c).After-index_mut in
+    let diagrams = keys c.args.merged.now.roots in
+    on_err c.gather.result
+    (λ same. same_masks diagrams c.batch_of.new.self.batches.items c.in_ok-at.at c.index_mut.result.now c.gather.new.self (at g i) same
+    ∙ c.in_ok-at.ensures.masks diagrams) c.gather.ensures.err
+
+pub returns-clause-within : goal.returns-clause-within
+returns-clause-within g c =
+    let i = (goal.at.returns-clause-within g c).After-index_mut in
+    within_put c.batch_of.new.self.batches.items c.in_ok-at.at c.index_mut.result.now c.gather.new.self (at g i) c.args.key
+    c.gather.ensures.keys (keys c.args.merged.now.roots) (within g i) c.requires.diagram
+
+pub returns-clause-covers : goal.returns-clause-covers
+returns-clause-covers g c =
+    let i = (goal.at.returns-clause-covers g c).After-index_mut in
+    covers_put c.batch_of.new.self.batches.items c.in_ok-at.at c.index_mut.result.now c.gather.new.self (at g i) c.args.key
+    c.gather.ensures.keys c.args.merged.now.nodes.kept.keys c.args.merged.now.roots.entries (covers g i) c.gather.ensures.covers

@@ -1,9 +1,0 @@
-use Rattle.path_sets.proofs.Alike.{point_nodes}
-use Rattle.path_sets.proofs.merged.Merged.count.Goals as goal
-
-pub returns : goal.returns
-returns g c =
-    let s = c.args.self.now in
-    let r = c.args.row.now in
-    point_nodes s.nodes.kept.keys s.rows.entries r.entry r.block c.args.bit c.root.result c.in_ok-nodes.nodes.kept.keys
-    c.in_ok-nodes.number c.inner_nodes.result c.requires c.root.ensures c.in_ok-nodes.ensures.same c.inner_nodes.ensures

@@ -1,0 +1,12 @@
+use Rattle.std.proofs.Common.{ap, ◌∙◌}
+use Rattle.path_sets.specs.Shards.{all_in, edges_at}
+use Rattle.path_sets.proofs.ShardLemmas.{one_more, one_more_at}
+use Rattle.path_sets.proofs.ordered.ordered_edges.shard_with_room.Goals as goal
+
+pub returns-clause-each : goal.returns-clause-each
+returns-clause-each g c k =
+    ap (λ ss. edges_at ss k) c.in_ok-push.ensures.items ∙ one_more_at c.args.shards.now.items c.new.result k c.new.ensures
+
+pub returns-clause-all : goal.returns-clause-all
+returns-clause-all g c =
+    ap all_in c.in_ok-push.ensures.items ∙ one_more c.args.shards.now.items c.new.result c.new.ensures

@@ -1,8 +1,0 @@
-use Rattle.std.proofs.Common.{◌∙◌}
-use Rattle.indexmap.proofs.CallerLemmas.{insert_entry-new}
-use Rattle.path_sets.specs.Edges.{place_eq}
-use Rattle.path_sets.proofs.points.begin.Goals as goal
-
-pub returns-clause-ok : goal.returns-clause-ok
-returns-clause-ok g c =
-    c.in_ok-insert.ensures.entries ∙ insert_entry-new place_eq c.args.masks.now c.args.place c.args.mask c.requires

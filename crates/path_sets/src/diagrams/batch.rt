@@ -1,0 +1,120 @@
+//! Gathered masks that go into the diagrams together.
+
+ghost use Rattle.std.specs.Prelude.{◌≡◌, ◌<◌, ◌⊎◌, [], None, length, IfOk, OnErr, IfSome, IsNone};
+ghost use Rattle.std.specs.Map.{keys_of, lookup};
+ghost use Rattle.std.proofs.lemmas.Map.Keys.{IsDistinct-prop};
+ghost use Rattle.indexmap.specs.IndexMap.{IsUnique, keys};
+ghost use Rattle.language.specs.Lists.{Member};
+ghost use Rattle.path_sets.specs.declared.diagrams.gathered_key.GatheredKey.{GatheredKey};
+ghost use Rattle.path_sets.specs.Edges.{edge_at};
+ghost use Rattle.path_sets.specs.Members.{Covers, PutsEdge};
+ghost use Rattle.path_sets.specs.GatheredKeys.{AreWithin, mask_key_at, masks_of, gathered_key_eq};
+
+use crate::diagrams::diagrams::Diagrams;
+use crate::diagrams::gathered_key::GatheredKey;
+use crate::diagrams::gathered_masks::{GatheredMasks, add_point_at, find, insert_new};
+use crate::points::mask::add_point;
+use indexmap::IndexMap;
+use std::alloc::{AllocError, Allocator};
+
+/// Masks for some diagrams that were gathered one after another.
+#[derive(Drop)]
+pub(crate) struct Batch<A: Allocator> {
+    pub(crate) masks: GatheredMasks<A>,
+    ghost unique: { IsUnique gathered_key_eq masks } by { IsDistinct-prop gathered_key_eq (keys masks) },
+}
+
+impl<A: Allocator + Copy> Batch<A> {
+    /// No masks; this takes no memory yet.
+    pub(crate) fn new(alloc: A) -> Self
+        ensures { result.masks.entries ≡ [] }
+    {
+        Batch {
+            masks: IndexMap::new(alloc),
+        }
+    }
+
+    /// Gathers a mask with the points that the diagrams have at a key without one, and a point. Returns whether the
+    /// point is new; if it is not, no mask is gathered.
+    fn start_mask(
+        &mut self,
+        waiting: &mut usize,
+        merged: &Diagrams<A>,
+        key: GatheredKey,
+        bit: usize,
+    ) -> Result<bool, AllocError>
+        requires bit { bit < 64 }
+        requires diagram { key.diagram < length (keys merged.now.roots) }
+        requires none { lookup (gathered_key_eq key) self.old.masks.entries ≡ None }
+        requires within { AreWithin (keys merged.now.roots) self.old.masks.entries }
+        requires covers { Covers merged.now.nodes.kept.keys merged.now.roots.entries
+            (masks_of (keys merged.now.roots) self.old.masks.entries) }
+        ensures ok { IfOk result
+            (PutsEdge merged.now.nodes.kept.keys merged.now.roots.entries
+            (edge_at (mask_key_at (keys merged.now.roots) key) bit)
+            (masks_of (keys merged.now.roots) self.old.masks.entries)
+            (masks_of (keys merged.now.roots) self.new.masks.entries)) }
+        ensures err { OnErr result (self.new.masks.entries ≡ self.old.masks.entries) }
+        ensures covers { Covers merged.now.nodes.kept.keys merged.now.roots.entries
+            (masks_of (keys merged.now.roots) self.new.masks.entries) }
+        ensures keys { (s : GatheredKey) → Member s (keys_of self.new.masks.entries)
+            → Member s (keys_of self.old.masks.entries) ⊎ (s ≡ key) }
+    {
+        let mut mask = merged.points_at(key.diagram, key.values.word());
+        if !add_point(&mut mask, bit) {
+            return Ok(false);
+        }
+        insert_new(&mut self.masks, key, mask)?;
+        *waiting = waiting.saturating_add(1);
+        Ok(true)
+    }
+
+    /// Puts a point into the mask of its key; the key at the index `last` is tried first. Returns whether the
+    /// point is new.
+    pub(crate) fn gather(
+        &mut self,
+        last: &mut usize,
+        waiting: &mut usize,
+        merged: &Diagrams<A>,
+        key: GatheredKey,
+        bit: usize,
+    ) -> Result<bool, AllocError>
+        requires bit { bit < 64 }
+        requires diagram { key.diagram < length (keys merged.now.roots) }
+        requires within { AreWithin (keys merged.now.roots) self.old.masks.entries }
+        requires covers { Covers merged.now.nodes.kept.keys merged.now.roots.entries
+            (masks_of (keys merged.now.roots) self.old.masks.entries) }
+        ensures ok { IfOk result
+            (PutsEdge merged.now.nodes.kept.keys merged.now.roots.entries
+            (edge_at (mask_key_at (keys merged.now.roots) key) bit)
+            (masks_of (keys merged.now.roots) self.old.masks.entries)
+            (masks_of (keys merged.now.roots) self.new.masks.entries)) }
+        ensures err { OnErr result (self.new.masks.entries ≡ self.old.masks.entries) }
+        ensures covers { Covers merged.now.nodes.kept.keys merged.now.roots.entries
+            (masks_of (keys merged.now.roots) self.new.masks.entries) }
+        ensures keys { (s : GatheredKey) → Member s (keys_of self.new.masks.entries)
+            → Member s (keys_of self.old.masks.entries) ⊎ (s ≡ key) }
+    {
+        match find(&self.masks, *last, &key) {
+            Some(at) => {
+                *last = at;
+                Ok(add_point_at(&mut self.masks, at, bit))
+            }
+            None => {
+                *last = self.masks.len();
+                self.start_mask(waiting, merged, key, bit)
+            }
+        }
+    }
+
+    /// The mask of a key, if the batch has one; the key at the index `last` is tried first.
+    pub(crate) fn mask(&self, last: usize, key: &GatheredKey) -> Option<u64>
+        ensures some { IfSome result (λ m. Member (key.now, m) self.now.masks.entries) }
+        ensures none { IsNone result → Member key.now (keys_of self.now.masks.entries) → ⊥ }
+    {
+        match find(&self.masks, last, key) {
+            Some(at) => Some(self.masks[at]),
+            None => None,
+        }
+    }
+}

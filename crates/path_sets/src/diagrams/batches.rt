@@ -1,0 +1,203 @@
+//! Path edges that are gathered, in batches, before they go into the diagrams.
+
+ghost use Rattle.std.specs.Prelude.{◌≡◌, ◌<◌, ℕ, [], List, Some, length, slice_get, IfOk, OnErr};
+ghost use Rattle.std.specs.Prelude.{◌≤◌, ◌⊎◌, IfSome, IsNone, IsSome, OnOk};
+ghost use Rattle.std.specs.Map.{keys_of};
+ghost use Rattle.indexmap.specs.IndexMap.{keys};
+ghost use Rattle.language.specs.Lists.{Member};
+ghost use Rattle.path_sets.specs.declared.diagrams.roots.DiagramKey.{DiagramKey};
+ghost use Rattle.path_sets.specs.declared.diagrams.gathered_key.GatheredKey.{GatheredKey};
+ghost use Rattle.path_sets.specs.Batches.{AllWithin, AreHome, CoversEach, masks_in, gathered_at};
+ghost use Rattle.path_sets.specs.Edges.{edge_at};
+ghost use Rattle.path_sets.specs.Members.{PutsEdge};
+ghost use Rattle.path_sets.specs.GatheredKeys.{mask_key_at};
+
+use crate::diagrams::batch::Batch;
+use crate::diagrams::diagrams::Diagrams;
+use crate::diagrams::gathered_key::GatheredKey;
+use crate::diagrams::newest::batch_with_room;
+use std::alloc::{AllocError, Allocator};
+
+/// How many masks may wait for each that has gone into the diagrams.
+const SHARE: usize = 8;
+
+/// The least limit on the number of masks that wait.
+const LEAST: usize = 16_384;
+
+/// The greatest limit on the number of masks that wait.
+const MOST: usize = 1_048_576;
+
+/// The number that means no batch.
+const NO_BATCH: usize = usize::MAX;
+
+/// The masks that are gathered, in batches, of which the oldest goes into the diagrams first. A diagram keeps its batch
+/// while that has any masks, and gets the newest one afterwards, so that most masks go into the diagrams only once.
+#[derive(Drop)]
+pub(crate) struct Batches<A: Allocator> {
+    /// For each diagram, by its index, the number of the batch that it got last.
+    homes: Vec<usize, A>,
+    pub(crate) batches: Vec<Batch<A>, A>,
+    /// The index of the key in its batch that was used last, which is usually that of the next path edge.
+    last: usize,
+    /// The number of the oldest batch that may have masks.
+    oldest: usize,
+    /// How many masks wait.
+    waiting: usize,
+    /// How many masks have gone into the diagrams.
+    gone: usize,
+    /// How many masks may wait before the oldest batch goes into the diagrams.
+    most: usize,
+    ghost home: { AreHome homes.items batches.items },
+}
+
+/// Makes the list long enough for a diagram; the diagrams that are new in it have no batch.
+fn fill<A: Allocator + Copy>(homes: &mut Vec<usize, A>, diagram: usize) -> Result<(), AllocError>
+    ensures within { OnOk result (diagram < length homes.new.items) }
+    ensures stay { (i k : ℕ) → slice_get homes.old.items i ≡ Some k
+        → slice_get homes.new.items i ≡ Some k }
+{
+    while homes.len() <= diagram {
+        homes.push(NO_BATCH)?;
+    }
+    Ok(())
+}
+
+impl<A: Allocator + Copy> Batches<A> {
+    /// No masks; this takes no memory yet.
+    pub(crate) fn new(alloc: A) -> Self
+        ensures { result.batches.items ≡ [] }
+    {
+        Batches {
+            homes: Vec::new(alloc),
+            batches: Vec::new(alloc),
+            last: 0,
+            oldest: 0,
+            waiting: 0,
+            gone: 0,
+            most: LEAST,
+        }
+    }
+
+    /// The number of a diagram's batch, if that has any masks.
+    fn own_batch(&self, diagram: usize) -> Option<usize>
+        ensures some { IfSome result (λ k. (slice_get self.now.homes.items diagram ≡ Some k)
+            × (k < length self.now.batches.items)) }
+        ensures none { IsNone result → (k : ℕ) → slice_get self.now.homes.items diagram ≡ Some k
+            → gathered_at self.now.batches.items k ≡ [] }
+    {
+        if diagram >= self.homes.len() {
+            return None;
+        }
+        let at = self.homes[diagram];
+        if at >= self.batches.len() {
+            return None;
+        }
+        if self.batches[at].masks.is_empty() {
+            return None;
+        }
+        Some(at)
+    }
+
+    /// Gives a diagram whose batch has no masks the batch that new diagrams go to, and returns its number.
+    fn settle(&mut self, diagram: usize) -> Result<usize, AllocError>
+        requires { (k : ℕ) → slice_get self.old.homes.items diagram ≡ Some k
+            → gathered_at self.old.batches.items k ≡ [] }
+        ensures batch { IfOk result (λ k. (slice_get self.new.homes.items diagram ≡ Some k)
+            × (k < length self.new.batches.items)) }
+        ensures gathered { (k : ℕ)
+            → gathered_at self.new.batches.items k ≡ gathered_at self.old.batches.items k }
+        ensures masks { (diagrams : List DiagramKey) → masks_in diagrams self.new.batches.items
+            ≡ masks_in diagrams self.old.batches.items }
+    {
+        fill(&mut self.homes, diagram)?;
+        let at = batch_with_room(*self.homes.allocator(), &mut self.batches)?;
+        self.homes[diagram] = at;
+        Ok(at)
+    }
+
+    /// The number of the batch that a diagram's masks go to.
+    fn batch_of(&mut self, diagram: usize) -> Result<usize, AllocError>
+        ensures batch { IfOk result (λ k. (slice_get self.new.homes.items diagram ≡ Some k)
+            × (k < length self.new.batches.items)) }
+        ensures gathered { (k : ℕ)
+            → gathered_at self.new.batches.items k ≡ gathered_at self.old.batches.items k }
+        ensures masks { (diagrams : List DiagramKey) → masks_in diagrams self.new.batches.items
+            ≡ masks_in diagrams self.old.batches.items }
+    {
+        match self.own_batch(diagram) {
+            Some(at) => Ok(at),
+            None => self.settle(diagram),
+        }
+    }
+
+    /// Puts a point into the mask of its key. Returns whether the point is new.
+    pub(crate) fn gather(
+        &mut self,
+        merged: &Diagrams<A>,
+        key: GatheredKey,
+        bit: usize,
+    ) -> Result<bool, AllocError>
+        requires bit { bit < 64 }
+        requires diagram { key.diagram < length (keys merged.now.roots) }
+        requires within { AllWithin (keys merged.now.roots) self.old.batches.items }
+        requires covers { CoversEach merged.now.nodes.kept.keys merged.now.roots.entries
+            self.old.batches.items }
+        ensures ok { IfOk result
+            (PutsEdge merged.now.nodes.kept.keys merged.now.roots.entries
+            (edge_at (mask_key_at (keys merged.now.roots) key) bit)
+            (masks_in (keys merged.now.roots) self.old.batches.items)
+            (masks_in (keys merged.now.roots) self.new.batches.items)) }
+        ensures err { OnErr result (masks_in (keys merged.now.roots) self.new.batches.items
+            ≡ masks_in (keys merged.now.roots) self.old.batches.items) }
+        ensures within { AllWithin (keys merged.now.roots) self.new.batches.items }
+        ensures covers { CoversEach merged.now.nodes.kept.keys merged.now.roots.entries
+            self.new.batches.items }
+    {
+        let at = self.batch_of(key.diagram)?;
+        self.batches[at].gather(&mut self.last, &mut self.waiting, merged, key, bit)
+    }
+
+    /// The mask of a key, if it is gathered.
+    pub(crate) fn mask(&self, key: &GatheredKey) -> Option<u64>
+        ensures some { IfSome result (λ m. (k : ℕ)
+            × Member (key.now, m) (gathered_at self.now.batches.items k)) }
+        ensures none { IsNone result → (k : ℕ)
+            → Member key.now (keys_of (gathered_at self.now.batches.items k)) → ⊥ }
+    {
+        match self.own_batch(key.diagram) {
+            Some(at) => self.batches[at].mask(self.last, key),
+            None => None,
+        }
+    }
+
+    /// The number of the oldest batch, if as many masks wait as may.
+    pub(crate) fn full(&self) -> Option<usize>
+        ensures some { IfSome result (λ k. (k ≡ self.now.oldest)
+            × (k < length self.now.batches.items)) }
+        ensures many { IsSome result → self.now.most ≤ self.now.waiting }
+        ensures room { IsNone result → (self.now.waiting < self.now.most)
+            ⊎ (length self.now.batches.items ≤ self.now.oldest) }
+    {
+        if self.waiting >= self.most && self.oldest < self.batches.len() {
+            return Some(self.oldest);
+        }
+        None
+    }
+
+    /// Empties a batch, whose masks have gone into the diagrams, and updates how many masks may wait.
+    pub(crate) fn clear(&mut self, at: usize)
+        requires { at < length self.old.batches.items }
+        ensures here { gathered_at self.new.batches.items at ≡ [] }
+        ensures others { (k : ℕ) → (k ≡ at → ⊥)
+            → gathered_at self.new.batches.items k ≡ gathered_at self.old.batches.items k }
+    {
+        let gone = self.batches[at].masks.len();
+        self.waiting = self.waiting.saturating_sub(gone);
+        self.gone = self.gone.saturating_add(gone);
+        self.most = self.gone.saturating_mul(SHARE).max(LEAST).min(MOST);
+        if at + 1 < self.batches.len() {
+            self.oldest = at + 1;
+        }
+        self.batches[at] = Batch::new(*self.homes.allocator());
+    }
+}

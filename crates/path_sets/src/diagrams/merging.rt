@@ -1,0 +1,140 @@
+//! How gathered masks go into the diagrams.
+
+ghost use Rattle.std.specs.Prelude.{◌≡◌, ℕ, ◌<◌, ◌≤◌, true, List, Some, length, slice_get, IfOk};
+ghost use Rattle.std.specs.Prelude.{OnOk};
+ghost use Rattle.std.specs.Prelude.{IsPermutation};
+ghost use Rattle.indexmap.specs.IndexMap.{index_map_len, keys};
+ghost use Rattle.language.specs.Lists.{Member};
+ghost use Rattle.path_sets.specs.declared.diagrams.insertion.Insertion.{Insertion};
+ghost use Rattle.path_sets.specs.declared.diagrams.roots.DiagramKey.{DiagramKey};
+ghost use Rattle.path_sets.specs.Triples.{Triple};
+ghost use Rattle.path_sets.specs.Edges.{edges};
+ghost use Rattle.path_sets.specs.Diagrams.{TakesGiven, merged_has};
+ghost use Rattle.path_sets.specs.Insertions.{AreInsertions, InInsertions};
+ghost use Rattle.path_sets.specs.Batches.{AllWithin, masks_in};
+ghost use Rattle.path_sets.specs.GatheredKeys.{AreWithin, masks_of};
+
+use crate::diagrams::batch::Batch;
+use crate::diagrams::diagrams::Diagrams;
+use crate::diagrams::gathered_key::GatheredKey;
+use crate::diagrams::gathered_masks::GatheredMasks;
+use crate::diagrams::insertion::{Insertion, insertion_at, insertion_of, sort_key};
+use std::alloc::{AllocError, Allocator};
+
+/// The key at an index, and its mask.
+fn gathered_key_at<A: Allocator + Copy>(masks: &GatheredMasks<A>, at: usize) -> (GatheredKey, u64)
+    requires { at < length masks.now.entries }
+    ensures { slice_get masks.now.entries at ≡ Some result }
+{
+    match masks.get_index(at) {
+        Some((key, mask)) => (*key, *mask),
+        None => unreachable!(),
+    }
+}
+
+/// The insertions of the keys.
+fn insertions_of<A: Allocator + Copy>(
+    masks: &GatheredMasks<A>,
+) -> Result<Vec<Insertion, A>, AllocError>
+    ensures { IfOk result
+        (λ insertions. (diagrams : List DiagramKey) → AreWithin diagrams masks.now.entries
+        → AreInsertions diagrams (masks_of diagrams masks.now.entries) insertions.items) }
+{
+    let mut insertions = Vec::with_capacity(*masks.allocator(), masks.len())?;
+    for at in 0..masks.len() {
+        let (key, mask) = gathered_key_at(masks, at);
+        insertions.push(insertion_of(key.diagram, key.values.word(), mask))?;
+    }
+    Ok(insertions)
+}
+
+/// Sorts insertions, so that those of a diagram come one after another, and within a diagram those whose first bits are
+/// the same.
+fn sort<A: Allocator + Copy>(insertions: &mut Vec<Insertion, A>) -> Result<(), AllocError>
+    ensures { IsPermutation insertions.old.items insertions.new.items }
+{
+    insertions.sort_by_cached_key(sort_key)
+}
+
+/// How many insertions, from the first on, are of the diagram at an index, which is the diagram of the first insertion.
+fn run_of(insertions: &[Insertion], diagram: usize) -> usize
+    requires { 0 < length insertions.now }
+    ensures within { result ≤ length insertions.now }
+    ensures some { 0 < result }
+    ensures all { (i : ℕ) (c : Insertion) → 0 < i → i < result → slice_get insertions.now i ≡ Some c
+        → c.diagram ≡ diagram }
+{
+    let mut end = 1;
+    while end < insertions.len() {
+        if insertion_at(insertions, end).diagram != diagram {
+            return end;
+        }
+        end += 1;
+    }
+    end
+}
+
+/// Puts the path edges of these insertions into the diagrams, each run of insertions of one diagram at once. If memory
+/// is refused, some of them may be in.
+fn put_insertions<A: Allocator + Copy>(
+    merged: &mut Diagrams<A>,
+    insertions: &[Insertion],
+) -> Result<(), AllocError>
+    requires { (c : Insertion) → Member c insertions.now
+        → c.diagram < index_map_len merged.old.roots }
+    ensures keys { keys merged.new.roots ≡ keys merged.old.roots }
+    ensures takes { TakesGiven (InInsertions (keys merged.old.roots) insertions.now)
+        merged.old.nodes.kept.keys merged.new.nodes.kept.keys
+        merged.old.roots.entries merged.new.roots.entries }
+    ensures all { OnOk result ((t : Triple) → InInsertions (keys merged.old.roots) insertions.now t
+        → merged_has merged.new.nodes.kept.keys merged.new.roots.entries t ≡ true) }
+{
+    let mut left = insertions;
+    while !left.is_empty() {
+        let diagram = insertion_at(left, 0).diagram;
+        let (run, more) = left.split_at(run_of(left, diagram));
+        merged.put(diagram, run)?;
+        left = more;
+    }
+    Ok(())
+}
+
+/// Puts all path edges of the masks into the diagrams. If memory is refused, some of them may be in.
+pub(crate) fn put_all<A: Allocator + Copy>(
+    merged: &mut Diagrams<A>,
+    masks: &GatheredMasks<A>,
+) -> Result<(), AllocError>
+    requires { AreWithin (keys merged.old.roots) masks.now.entries }
+    ensures keys { keys merged.new.roots ≡ keys merged.old.roots }
+    ensures takes { TakesGiven
+        (λ t. Member t (edges (masks_of (keys merged.old.roots) masks.now.entries)))
+        merged.old.nodes.kept.keys merged.new.nodes.kept.keys
+        merged.old.roots.entries merged.new.roots.entries }
+    ensures all { OnOk result
+        ((t : Triple) → Member t (edges (masks_of (keys merged.old.roots) masks.now.entries))
+        → merged_has merged.new.nodes.kept.keys merged.new.roots.entries t ≡ true) }
+{
+    let mut insertions = insertions_of(masks)?;
+    sort(&mut insertions)?;
+    put_insertions(merged, &insertions)
+}
+
+/// Puts all path edges of the batches into the diagrams. If memory is refused, some of them may be in.
+pub(crate) fn put_batches<A: Allocator + Copy>(
+    merged: &mut Diagrams<A>,
+    batches: &[Batch<A>],
+) -> Result<(), AllocError>
+    requires { AllWithin (keys merged.old.roots) batches.now }
+    ensures takes { TakesGiven
+        (λ t. Member t (edges (masks_in (keys merged.old.roots) batches.now)))
+        merged.old.nodes.kept.keys merged.new.nodes.kept.keys
+        merged.old.roots.entries merged.new.roots.entries }
+    ensures all { OnOk result
+        ((t : Triple) → Member t (edges (masks_in (keys merged.old.roots) batches.now))
+        → merged_has merged.new.nodes.kept.keys merged.new.roots.entries t ≡ true) }
+{
+    for at in 0..batches.len() {
+        put_all(merged, &batches[at].masks)?;
+    }
+    Ok(())
+}

@@ -1,0 +1,31 @@
+//! The batch that diagrams without one go to.
+
+ghost use Rattle.std.specs.Prelude.{◌≡◌, ◌<◌, ℕ, List, length, IfOk};
+ghost use Rattle.path_sets.specs.declared.diagrams.roots.DiagramKey.{DiagramKey};
+ghost use Rattle.path_sets.specs.Batches.{masks_in, gathered_at};
+
+use crate::diagrams::batch::Batch;
+use std::alloc::{AllocError, Allocator};
+
+/// How many masks a batch has before diagrams without a batch go to the next one. So many stay in a processor's cache,
+/// and with the masks that its own diagrams still get, a batch mostly has room for no more than 4,096.
+const MANY: usize = 3_840;
+
+/// The number of the batch that diagrams without one go to; a new batch is made if the last one has many masks.
+pub(crate) fn batch_with_room<A: Allocator + Copy>(
+    alloc: A,
+    batches: &mut Vec<Batch<A>, A>,
+) -> Result<usize, AllocError>
+    ensures within { IfOk result (λ k. k < length batches.new.items) }
+    ensures gathered { (k : ℕ) → gathered_at batches.new.items k ≡ gathered_at batches.old.items k }
+    ensures masks { (diagrams : List DiagramKey)
+        → masks_in diagrams batches.new.items ≡ masks_in diagrams batches.old.items }
+{
+    if let Some(batch) = batches.as_slice().last() {
+        if batch.masks.len() < MANY {
+            return Ok(batches.len() - 1);
+        }
+    }
+    batches.push(Batch::new(alloc))?;
+    Ok(batches.len() - 1)
+}
