@@ -41,6 +41,9 @@ type Map<K, V> = HashMap<K, V, BuildHasherDefault<Mix>>;
 
 // ---- reading
 
+/// The name of the place behind the temporaries in which a procedure keeps its value.
+const RESULT: &str = "result of the procedure";
+
 #[derive(Clone, Debug)]
 enum Expr {
     Const(bool),
@@ -57,7 +60,10 @@ enum Core {
     Assume(Option<Expr>),
     Goto(String),
     Return,
-    Call(String, Vec<Expr>),
+    /// The value of a procedure, and the bit that keeps it.
+    Give(u8, Expr),
+    /// Who is called, the arguments, and the bit that the value is for.
+    Call(String, Vec<Expr>, Option<u8>),
 }
 
 struct Stmt {
@@ -202,6 +208,24 @@ impl<'t> Reader<'t> {
         all
     }
 
+    fn call(&mut self, target: Option<u8>) -> Core {
+        let name = self.next().to_string();
+        self.at += 1;
+        let mut arguments = Vec::new();
+        while self.peek() != ")" {
+            arguments.push(self.expr(0));
+            self.takes(",");
+        }
+        self.want(")");
+        Core::Call(name, arguments, target)
+    }
+
+    /// Whether the procedure whose body comes next returns a value.
+    fn gives(&self) -> bool {
+        let body = self.words[self.at..].split(|w| *w == "end").next().unwrap();
+        body.windows(2).any(|w| w[0] == "return" && w[1] != ";")
+    }
+
     fn stmt(&mut self) -> Stmt {
         self.points += 1;
         let point = self.points;
@@ -251,18 +275,21 @@ impl<'t> Reader<'t> {
             }
             "return" => {
                 self.at += 1;
-                Core::Return
-            }
-            _ if self.words[self.at + 1] == "(" => {
-                let name = self.next().to_string();
-                self.at += 1;
-                let mut arguments = Vec::new();
-                while self.peek() != ")" {
-                    arguments.push(self.expr(0));
-                    self.takes(",");
+                if self.peek() == ";" {
+                    Core::Return
+                } else {
+                    Core::Give(self.bit(RESULT), self.expr(0))
                 }
-                self.want(")");
-                Core::Call(name, arguments)
+            }
+            _ if self.words[self.at + 1] == "(" => self.call(None),
+            _ if self.words[self.at + 1] == ":="
+                && self.words[self.at + 3] == "("
+                && !matches!(self.words[self.at + 2], "(" | "!") =>
+            {
+                let name = self.next();
+                let target = self.bit(name);
+                self.at += 1;
+                self.call(Some(target))
             }
             _ => {
                 let targets = self.names().iter().map(|n| self.bit(n)).collect();
@@ -383,6 +410,7 @@ enum Flow {
     Call {
         callee: usize,
         arguments: Vec<Eval>,
+        target: Option<u8>,
         next: usize,
     },
 }
@@ -390,6 +418,7 @@ enum Flow {
 struct Graph {
     flows: Vec<Flow>,
     start: usize,
+    result: Option<u8>,
 }
 
 struct Lower<'p> {
@@ -444,9 +473,16 @@ impl Lower<'_> {
                     Some(e) => Flow::Test(Eval::new(e), body, next),
                 }
             }
-            Core::Call(name, arguments) => Flow::Call {
+            Core::Give(bit, e) => Flow::Each {
+                writes: vec![(1 << bit, Eval::new(e))],
+                mask: 1 << bit,
+                any: Vec::new(),
+                next: 0,
+            },
+            Core::Call(name, arguments, target) => Flow::Call {
                 callee: self.procedures[name],
                 arguments: arguments.iter().map(Eval::new).collect(),
+                target: *target,
                 next,
             },
             Core::Assign(targets, sides) => {
@@ -496,8 +532,10 @@ struct Program {
     graphs: Vec<Graph>,
 }
 
-/// The names of the procedures, and of each one its body and how many points it has.
-fn procedures(reader: &mut Reader) -> (HashMap<String, usize>, Vec<(Vec<Stmt>, usize)>) {
+/// The names of the procedures, and of each one its body, how many points it has, and the bit of its value.
+fn procedures(
+    reader: &mut Reader,
+) -> (HashMap<String, usize>, Vec<(Vec<Stmt>, usize, Option<u8>)>) {
     let (mut names, mut bodies) = (HashMap::new(), Vec::new());
     while reader.peek() != "thread" {
         names.insert(reader.next().to_string(), bodies.len());
@@ -515,13 +553,24 @@ fn procedures(reader: &mut Reader) -> (HashMap<String, usize>, Vec<(Vec<Stmt>, u
             reader.want(";");
         }
         reader.points = 0;
-        bodies.push((reader.stmts(), reader.points));
+        let result = reader
+            .gives()
+            .then(|| (reader.globals.len() + reader.locals.len()) as u8);
+        if result.is_some() {
+            reader.locals.push(RESULT.to_string());
+        }
+        bodies.push((reader.stmts(), reader.points, result));
         reader.want("end");
     }
     (names, bodies)
 }
 
-fn graph_of(names: &HashMap<String, usize>, body: &[Stmt], points: usize) -> Graph {
+fn graph_of(
+    names: &HashMap<String, usize>,
+    body: &[Stmt],
+    points: usize,
+    result: Option<u8>,
+) -> Graph {
     let mut lower = Lower {
         labels: HashMap::new(),
         procedures: names,
@@ -532,6 +581,7 @@ fn graph_of(names: &HashMap<String, usize>, body: &[Stmt], points: usize) -> Gra
     Graph {
         flows: lower.flows,
         start,
+        result,
     }
 }
 
@@ -545,7 +595,7 @@ fn program_of(text: &str) -> Program {
     let (names, bodies) = procedures(&mut reader);
     let graphs = bodies
         .iter()
-        .map(|(body, points)| graph_of(&names, body, *points))
+        .map(|(body, points, result)| graph_of(&names, body, *points, *result))
         .collect();
     Program {
         globals: reader.globals,
@@ -780,11 +830,15 @@ impl<S: EdgeSet> Table<S> {
     }
 
     fn back(&mut self, graph: &Graph, globals: u64, site: Edge, b: u64) {
-        if let Flow::Call { next, .. } = &graph.flows[site.point as usize] {
+        if let Flow::Call { next, target, .. } = &graph.flows[site.point as usize] {
+            let mut values = site.values & !globals | b & globals;
+            if let Some(bit) = target {
+                values = values & !(1 << bit) | b >> 63 << bit;
+            }
             self.reach(Edge {
                 entry: site.entry,
                 point: *next as u32,
-                values: site.values & !globals | b,
+                values,
             });
         }
     }
@@ -815,7 +869,8 @@ impl<S: EdgeSet> Table<S> {
         out: &mut Vec<(usize, Mail)>,
     ) {
         if edge.point == 0 {
-            let b = edge.values & globals;
+            // A value is in bit 63 of what is left; no program here has as many globals.
+            let b = edge.values & globals | graph.result.map_or(0, |bit| edge.values >> bit << 63);
             if self.exits.insert((edge.entry, b), ()).is_none() {
                 let entry = &mut self.entries[edge.entry as usize];
                 entry.exits.push(b);
