@@ -14,4 +14,5 @@ pub mod OneBitDiagrams
 pub mod Members
 pub mod GatheredKeys
 pub mod Batches
+pub mod Contents
 pub mod Suffixes

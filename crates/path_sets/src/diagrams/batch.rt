@@ -1,14 +1,11 @@
 //! Gathered masks that go into the diagrams together.
 
-ghost use Rattle.std.specs.Prelude.{◌≡◌, ◌<◌, ◌⊎◌, [], None, length, IfOk, OnErr, IfSome, IsNone};
+ghost use Rattle.std.specs.Prelude.{◌≡◌, [], None, IfOk, OnErr, IfSome, IsNone};
 ghost use Rattle.std.specs.Map.{keys_of, lookup};
 ghost use Rattle.std.proofs.lemmas.Map.Keys.{IsDistinct-prop};
 ghost use Rattle.indexmap.specs.IndexMap.{IsUnique, keys};
 ghost use Rattle.language.specs.Lists.{Member};
-ghost use Rattle.path_sets.specs.declared.diagrams.gathered_key.GatheredKey.{GatheredKey};
-ghost use Rattle.path_sets.specs.Edges.{edge_at};
-ghost use Rattle.path_sets.specs.Members.{Covers, PutsEdge};
-ghost use Rattle.path_sets.specs.GatheredKeys.{AreWithin, mask_key_at, masks_of, gathered_key_eq};
+ghost use Rattle.path_sets.specs.GatheredKeys.{gathered_key_eq};
 
 use crate::diagrams::diagrams::Diagrams;
 use crate::diagrams::gathered_key::GatheredKey;
@@ -25,6 +22,9 @@ pub(crate) struct Batch<A: Allocator> {
 }
 
 impl<A: Allocator + Copy> Batch<A> {
+    ghost use Rattle.path_sets.specs.Contents.{AreCovered, batch_masks, Gathers, MayGather};
+    ghost use Rattle.path_sets.specs.Contents.{NoKeyBut};
+
     /// No masks; this takes no memory yet.
     pub(crate) fn new(alloc: A) -> Self
         ensures { result.masks.entries ≡ [] }
@@ -43,22 +43,13 @@ impl<A: Allocator + Copy> Batch<A> {
         key: GatheredKey,
         bit: usize,
     ) -> Result<bool, AllocError>
-        requires bit { bit < 64 }
-        requires diagram { key.diagram < length (keys merged.now.roots) }
         requires none { lookup (gathered_key_eq key) self.old.masks.entries ≡ None }
-        requires within { AreWithin (keys merged.now.roots) self.old.masks.entries }
-        requires covers { Covers merged.now.nodes.kept.keys merged.now.roots.entries
-            (masks_of (keys merged.now.roots) self.old.masks.entries) }
-        ensures ok { IfOk result
-            (PutsEdge merged.now.nodes.kept.keys merged.now.roots.entries
-            (edge_at (mask_key_at (keys merged.now.roots) key) bit)
-            (masks_of (keys merged.now.roots) self.old.masks.entries)
-            (masks_of (keys merged.now.roots) self.new.masks.entries)) }
+        requires may { MayGather merged.now key bit self.old }
+        ensures ok { IfOk result (Gathers merged.now key bit (batch_masks merged.now self.old)
+            (batch_masks merged.now self.new)) }
         ensures err { OnErr result (self.new.masks.entries ≡ self.old.masks.entries) }
-        ensures covers { Covers merged.now.nodes.kept.keys merged.now.roots.entries
-            (masks_of (keys merged.now.roots) self.new.masks.entries) }
-        ensures keys { (s : GatheredKey) → Member s (keys_of self.new.masks.entries)
-            → Member s (keys_of self.old.masks.entries) ⊎ (s ≡ key) }
+        ensures covers { AreCovered merged.now (batch_masks merged.now self.new) }
+        ensures keys { NoKeyBut key self.old.masks.entries self.new.masks.entries }
     {
         let mut mask = merged.points_at(key.diagram, key.values.word());
         if !add_point(&mut mask, bit) {
@@ -79,21 +70,12 @@ impl<A: Allocator + Copy> Batch<A> {
         key: GatheredKey,
         bit: usize,
     ) -> Result<bool, AllocError>
-        requires bit { bit < 64 }
-        requires diagram { key.diagram < length (keys merged.now.roots) }
-        requires within { AreWithin (keys merged.now.roots) self.old.masks.entries }
-        requires covers { Covers merged.now.nodes.kept.keys merged.now.roots.entries
-            (masks_of (keys merged.now.roots) self.old.masks.entries) }
-        ensures ok { IfOk result
-            (PutsEdge merged.now.nodes.kept.keys merged.now.roots.entries
-            (edge_at (mask_key_at (keys merged.now.roots) key) bit)
-            (masks_of (keys merged.now.roots) self.old.masks.entries)
-            (masks_of (keys merged.now.roots) self.new.masks.entries)) }
+        requires { MayGather merged.now key bit self.old }
+        ensures ok { IfOk result (Gathers merged.now key bit (batch_masks merged.now self.old)
+            (batch_masks merged.now self.new)) }
         ensures err { OnErr result (self.new.masks.entries ≡ self.old.masks.entries) }
-        ensures covers { Covers merged.now.nodes.kept.keys merged.now.roots.entries
-            (masks_of (keys merged.now.roots) self.new.masks.entries) }
-        ensures keys { (s : GatheredKey) → Member s (keys_of self.new.masks.entries)
-            → Member s (keys_of self.old.masks.entries) ⊎ (s ≡ key) }
+        ensures covers { AreCovered merged.now (batch_masks merged.now self.new) }
+        ensures keys { NoKeyBut key self.old.masks.entries self.new.masks.entries }
     {
         match find(&self.masks, *last, &key) {
             Some(at) => {

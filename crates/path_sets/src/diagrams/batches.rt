@@ -3,14 +3,10 @@
 ghost use Rattle.std.specs.Prelude.{◌≡◌, ◌<◌, ℕ, [], List, Some, length, slice_get, IfOk, OnErr};
 ghost use Rattle.std.specs.Prelude.{◌≤◌, ◌⊎◌, IfSome, IsNone, IsSome, OnOk};
 ghost use Rattle.std.specs.Map.{keys_of};
-ghost use Rattle.indexmap.specs.IndexMap.{keys};
 ghost use Rattle.language.specs.Lists.{Member};
 ghost use Rattle.path_sets.specs.declared.diagrams.roots.DiagramKey.{DiagramKey};
-ghost use Rattle.path_sets.specs.declared.diagrams.gathered_key.GatheredKey.{GatheredKey};
-ghost use Rattle.path_sets.specs.Batches.{AllWithin, AreHome, CoversEach, masks_in, gathered_at};
-ghost use Rattle.path_sets.specs.Edges.{edge_at};
-ghost use Rattle.path_sets.specs.Members.{PutsEdge};
-ghost use Rattle.path_sets.specs.GatheredKeys.{mask_key_at};
+ghost use Rattle.path_sets.specs.Batches.{AllWithin, AreHome, masks_in, gathered_at};
+ghost use Rattle.path_sets.specs.Contents.{EachIsCovered, Gathers, all_masks, diagrams_in};
 
 use crate::diagrams::batch::Batch;
 use crate::diagrams::diagrams::Diagrams;
@@ -138,20 +134,17 @@ impl<A: Allocator + Copy> Batches<A> {
         bit: usize,
     ) -> Result<bool, AllocError>
         requires bit { bit < 64 }
-        requires diagram { key.diagram < length (keys merged.now.roots) }
-        requires within { AllWithin (keys merged.now.roots) self.old.batches.items }
-        requires covers { CoversEach merged.now.nodes.kept.keys merged.now.roots.entries
-            self.old.batches.items }
-        ensures ok { IfOk result
-            (PutsEdge merged.now.nodes.kept.keys merged.now.roots.entries
-            (edge_at (mask_key_at (keys merged.now.roots) key) bit)
-            (masks_in (keys merged.now.roots) self.old.batches.items)
-            (masks_in (keys merged.now.roots) self.new.batches.items)) }
-        ensures err { OnErr result (masks_in (keys merged.now.roots) self.new.batches.items
-            ≡ masks_in (keys merged.now.roots) self.old.batches.items) }
-        ensures within { AllWithin (keys merged.now.roots) self.new.batches.items }
-        ensures covers { CoversEach merged.now.nodes.kept.keys merged.now.roots.entries
-            self.new.batches.items }
+        requires diagram { key.diagram < length (diagrams_in merged.now) }
+        requires within { AllWithin (diagrams_in merged.now) self.old.batches.items }
+        requires covers { EachIsCovered merged.now self.old.batches.items }
+        ensures ok { IfOk result (Gathers merged.now key bit
+            (all_masks merged.now self.old.batches.items)
+            (all_masks merged.now self.new.batches.items)) }
+        ensures err { OnErr result
+            (all_masks merged.now self.new.batches.items
+            ≡ all_masks merged.now self.old.batches.items) }
+        ensures within { AllWithin (diagrams_in merged.now) self.new.batches.items }
+        ensures covers { EachIsCovered merged.now self.new.batches.items }
     {
         let at = self.batch_of(key.diagram)?;
         self.batches[at].gather(&mut self.last, &mut self.waiting, merged, key, bit)

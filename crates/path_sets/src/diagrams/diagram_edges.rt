@@ -1,13 +1,12 @@
 //! A set of path edges that keeps a decision diagram for each entry and block of points.
 
 ghost use Rattle.std.specs.Prelude.{◌≡◌, ◌<◌, Some, length, slice_get, IfOk};
-ghost use Rattle.indexmap.specs.IndexMap.{keys};
 ghost use Rattle.language.specs.Lists.{Member, NoneTwice, NoneTwice-prop};
 ghost use Rattle.language.specs.Words.{word_bits};
 ghost use Rattle.path_sets.specs.Suffixes.{HasNodes};
 ghost use Rattle.path_sets.specs.Triples.{triple};
-ghost use Rattle.path_sets.specs.Members.{all_edges};
-ghost use Rattle.path_sets.specs.Batches.{AllWithin, CoversEach, masks_in};
+ghost use Rattle.path_sets.specs.Contents.{EachIsCovered, diagrams_in, whole};
+ghost use Rattle.path_sets.specs.Batches.{AllWithin};
 
 use crate::diagrams::batches::Batches;
 use crate::diagrams::diagrams::Diagrams;
@@ -31,24 +30,19 @@ pub struct DiagramEdges<A: Allocator> {
     gathered: Batches<A>,
     merged: Diagrams<A>,
     count: u64,
-    ghost within: { AllWithin (keys merged.roots) gathered.batches.items },
-    ghost covers: { CoversEach merged.nodes.kept.keys merged.roots.entries gathered.batches.items },
-    ghost counted: { count ≡ length (all_edges merged.nodes.kept.keys merged.roots.entries
-        (masks_in (keys merged.roots) gathered.batches.items)) },
-    ghost once: { NoneTwice (all_edges merged.nodes.kept.keys merged.roots.entries
-        (masks_in (keys merged.roots) gathered.batches.items)) } by { NoneTwice-prop
-            (all_edges merged.nodes.kept.keys merged.roots.entries
-            (masks_in (keys merged.roots) gathered.batches.items)) },
+    ghost within: { AllWithin (diagrams_in merged) gathered.batches.items },
+    ghost covers: { EachIsCovered merged gathered.batches.items },
+    ghost counted: { count ≡ length (whole merged gathered.batches.items) },
+    ghost once: { NoneTwice (whole merged gathered.batches.items) } by { NoneTwice-prop
+        (whole merged gathered.batches.items) },
 }
 
 impl<A: Allocator + Copy> DiagramEdges<A> {
     /// Puts the masks of a batch into the diagrams. If memory is refused, all of them stay gathered.
     fn merge(&mut self, at: usize) -> Result<(), AllocError>
         requires { at < length self.old.gathered.batches.items }
-        ensures { all_edges self.new.merged.nodes.kept.keys self.new.merged.roots.entries
-            (masks_in (keys self.new.merged.roots) self.new.gathered.batches.items)
-            ≡ all_edges self.old.merged.nodes.kept.keys self.old.merged.roots.entries
-            (masks_in (keys self.old.merged.roots) self.old.gathered.batches.items) }
+        ensures { whole self.new.merged self.new.gathered.batches.items
+            ≡ whole self.old.merged self.old.gathered.batches.items }
     {
         put_all(&mut self.merged, &self.gathered.batches[at].masks)?;
         self.gathered.clear(at);
@@ -58,10 +52,8 @@ impl<A: Allocator + Copy> DiagramEdges<A> {
     /// Puts the oldest of the masks that are gathered into the diagrams, if there are many. If memory is refused, all
     /// of them stay gathered.
     fn make_room(&mut self) -> Result<(), AllocError>
-        ensures { all_edges self.new.merged.nodes.kept.keys self.new.merged.roots.entries
-            (masks_in (keys self.new.merged.roots) self.new.gathered.batches.items)
-            ≡ all_edges self.old.merged.nodes.kept.keys self.old.merged.roots.entries
-            (masks_in (keys self.old.merged.roots) self.old.gathered.batches.items) }
+        ensures { whole self.new.merged self.new.gathered.batches.items
+            ≡ whole self.old.merged self.old.gathered.batches.items }
     {
         match self.gathered.full() {
             Some(at) => self.merge(at),
@@ -71,11 +63,9 @@ impl<A: Allocator + Copy> DiagramEdges<A> {
 
     /// The index of a diagram; if it is not there yet, it is empty.
     fn settle(&mut self, diagram: DiagramKey) -> Result<usize, AllocError>
-        ensures at { IfOk result (λ at. slice_get (keys self.new.merged.roots) at ≡ Some diagram) }
-        ensures members { all_edges self.new.merged.nodes.kept.keys self.new.merged.roots.entries
-            (masks_in (keys self.new.merged.roots) self.new.gathered.batches.items)
-            ≡ all_edges self.old.merged.nodes.kept.keys self.old.merged.roots.entries
-            (masks_in (keys self.old.merged.roots) self.old.gathered.batches.items) }
+        ensures at { IfOk result (λ at. slice_get (diagrams_in self.new.merged) at ≡ Some diagram) }
+        ensures members { whole self.new.merged self.new.gathered.batches.items
+            ≡ whole self.old.merged self.old.gathered.batches.items }
     {
         self.merged.settle(diagram)
     }
@@ -85,8 +75,7 @@ impl<A: Allocator + Copy> DiagramEdges<A> {
     /// of the level. It takes memory in proportion to all diagrams; if memory is refused, the set stays as it is.
     pub fn nodes(&self, entry: Word, point: Point) -> Result<u64, AllocError>
         ensures { IfOk result (HasNodes word_bits (λ v. Member (triple entry point v)
-            (all_edges self.now.merged.nodes.kept.keys self.now.merged.roots.entries
-            (masks_in (keys self.now.merged.roots) self.now.gathered.batches.items)))) }
+            (whole self.now.merged self.now.gathered.batches.items))) }
     {
         let (mask_key, bit) = key_and_bit(entry, point, 0);
         let diagram = DiagramKey {
@@ -100,9 +89,7 @@ impl<A: Allocator + Copy> DiagramEdges<A> {
 }
 
 impl<A: Allocator + Copy> PathSet<A> for DiagramEdges<A> {
-    ghost members = { λ s.
-        all_edges s.merged.nodes.kept.keys s.merged.roots.entries
-        (masks_in (keys s.merged.roots) s.gathered.batches.items) };
+    ghost members = { λ s. whole s.merged s.gathered.batches.items };
 
     fn empty(alloc: A) -> Self {
         DiagramEdges {

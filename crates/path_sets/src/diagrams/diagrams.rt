@@ -11,7 +11,7 @@ ghost use Rattle.path_sets.specs.Triples.{Triple, triple};
 ghost use Rattle.path_sets.specs.Masks.{bit_of};
 ghost use Rattle.path_sets.specs.declared.diagrams.roots.DiagramKey.{DiagramKey};
 ghost use Rattle.path_sets.specs.Insertions.{RootsStay};
-ghost use Rattle.path_sets.specs.Diagrams.{HaveNumbers, InRun, TakesGiven, merged_has, diagram_eq};
+ghost use Rattle.path_sets.specs.Diagrams.{HaveNumbers, InRun, diagram_eq};
 
 use crate::counting::inner::inner_nodes;
 use crate::counting::one_bit::one_bit_diagram;
@@ -35,9 +35,11 @@ pub(crate) struct Diagrams<A: Allocator> {
 }
 
 impl<A: Allocator + Copy> Diagrams<A> {
+    ghost use Rattle.path_sets.specs.Contents.{Takes, diagrams_in, is_merged};
+
     /// No diagrams; this takes no memory yet.
     pub(crate) fn new(alloc: A) -> Self
-        ensures { (t : Triple) → merged_has result.nodes.kept.keys result.roots.entries t ≡ false }
+        ensures { (edge : Triple) → is_merged result edge ≡ false }
     {
         Diagrams {
             nodes: Quads::new(alloc),
@@ -72,9 +74,9 @@ impl<A: Allocator + Copy> Diagrams<A> {
     pub(crate) fn points_at(&self, at: usize, values: Word) -> u64
         requires { at < index_map_len self.now.roots }
         ensures { (diagram : DiagramKey) (bit : ℕ)
-            → slice_get (keys self.now.roots) at ≡ Some diagram → bit < 64
-            → bit_of result bit ≡ merged_has self.now.nodes.kept.keys self.now.roots.entries
-            (triple diagram.entry (64 * diagram.block + bit) values) }
+            → slice_get (diagrams_in self.now) at ≡ Some diagram
+            → bit < 64 → bit_of result bit
+            ≡ is_merged self.now (triple diagram.entry (64 * diagram.block + bit) values) }
     {
         self.nodes.points(root_at(&self.roots, at), values)
     }
@@ -96,12 +98,11 @@ impl<A: Allocator + Copy> Diagrams<A> {
     pub(crate) fn put(&mut self, at: usize, run: &[Insertion]) -> Result<(), AllocError>
         requires { at < index_map_len self.old.roots }
         ensures keys { keys self.new.roots ≡ keys self.old.roots }
-        ensures takes { (diagram : DiagramKey) → slice_get (keys self.old.roots) at ≡ Some diagram
-            → TakesGiven (InRun diagram run.now) self.old.nodes.kept.keys self.new.nodes.kept.keys
-            self.old.roots.entries self.new.roots.entries }
-        ensures all { OnOk result ((diagram : DiagramKey) (t : Triple)
-            → slice_get (keys self.old.roots) at ≡ Some diagram → InRun diagram run.now t
-            → merged_has self.new.nodes.kept.keys self.new.roots.entries t ≡ true) }
+        ensures takes { (diagram : DiagramKey) → slice_get (diagrams_in self.old) at ≡ Some diagram
+            → Takes (InRun diagram run.now) self.old self.new }
+        ensures all { OnOk result ((diagram : DiagramKey) (edge : Triple)
+            → slice_get (diagrams_in self.old) at ≡ Some diagram → InRun diagram run.now edge
+            → is_merged self.new edge ≡ true) }
     {
         let root = root_at(&self.roots, at);
         let number = union(&mut self.nodes, run, root, 0)?;
@@ -112,10 +113,9 @@ impl<A: Allocator + Copy> Diagrams<A> {
     /// How many inner nodes the diagram of the set at a point has; the point is given as a bit of a mask.
     pub(crate) fn count(&self, diagram: &DiagramKey, bit: usize) -> Result<u64, AllocError>
         requires { bit < 64 }
-        ensures { IfOk result
-            (HasNodes word_bits
-            (λ v. (v < 2 ^ word_bits) × (merged_has self.now.nodes.kept.keys self.now.roots.entries
-            (triple diagram.now.entry (64 * diagram.now.block + bit) v) ≡ true))) }
+        ensures { IfOk result (HasNodes word_bits (λ v. (v < 2 ^ word_bits)
+            × (is_merged self.now (triple diagram.now.entry (64 * diagram.now.block + bit) v)
+            ≡ true))) }
     {
         let (nodes, number) = one_bit_diagram(
             &self.nodes,

@@ -1,17 +1,16 @@
 //! How gathered masks go into the diagrams.
 
-ghost use Rattle.std.specs.Prelude.{◌≡◌, ℕ, ◌<◌, ◌≤◌, true, List, Some, length, slice_get, IfOk};
+ghost use Rattle.std.specs.Prelude.{◌≡◌, ℕ, ◌<◌, ◌≤◌, List, Some, length, slice_get, IfOk};
 ghost use Rattle.std.specs.Prelude.{OnOk};
 ghost use Rattle.std.specs.Prelude.{IsPermutation};
 ghost use Rattle.indexmap.specs.IndexMap.{index_map_len, keys};
 ghost use Rattle.language.specs.Lists.{Member};
 ghost use Rattle.path_sets.specs.declared.diagrams.insertion.Insertion.{Insertion};
 ghost use Rattle.path_sets.specs.declared.diagrams.roots.DiagramKey.{DiagramKey};
-ghost use Rattle.path_sets.specs.Triples.{Triple};
 ghost use Rattle.path_sets.specs.Edges.{edges};
-ghost use Rattle.path_sets.specs.Diagrams.{TakesGiven, merged_has};
+ghost use Rattle.path_sets.specs.Contents.{HasAll, Takes, all_masks, diagrams_in};
 ghost use Rattle.path_sets.specs.Insertions.{AreInsertions, InInsertions};
-ghost use Rattle.path_sets.specs.Batches.{AllWithin, masks_in};
+ghost use Rattle.path_sets.specs.Batches.{AllWithin};
 ghost use Rattle.path_sets.specs.GatheredKeys.{AreWithin, masks_of};
 
 use crate::diagrams::batch::Batch;
@@ -83,11 +82,10 @@ fn put_insertions<A: Allocator + Copy>(
     requires { (c : Insertion) → Member c insertions.now
         → c.diagram < index_map_len merged.old.roots }
     ensures keys { keys merged.new.roots ≡ keys merged.old.roots }
-    ensures takes { TakesGiven (InInsertions (keys merged.old.roots) insertions.now)
-        merged.old.nodes.kept.keys merged.new.nodes.kept.keys
-        merged.old.roots.entries merged.new.roots.entries }
-    ensures all { OnOk result ((t : Triple) → InInsertions (keys merged.old.roots) insertions.now t
-        → merged_has merged.new.nodes.kept.keys merged.new.roots.entries t ≡ true) }
+    ensures takes { Takes
+        (InInsertions (diagrams_in merged.old) insertions.now) merged.old merged.new }
+    ensures all { OnOk result
+        (HasAll (InInsertions (diagrams_in merged.old) insertions.now) merged.new) }
 {
     let mut left = insertions;
     while !left.is_empty() {
@@ -104,15 +102,12 @@ pub(crate) fn put_all<A: Allocator + Copy>(
     merged: &mut Diagrams<A>,
     masks: &GatheredMasks<A>,
 ) -> Result<(), AllocError>
-    requires { AreWithin (keys merged.old.roots) masks.now.entries }
+    requires { AreWithin (diagrams_in merged.old) masks.now.entries }
     ensures keys { keys merged.new.roots ≡ keys merged.old.roots }
-    ensures takes { TakesGiven
-        (λ t. Member t (edges (masks_of (keys merged.old.roots) masks.now.entries)))
-        merged.old.nodes.kept.keys merged.new.nodes.kept.keys
-        merged.old.roots.entries merged.new.roots.entries }
-    ensures all { OnOk result
-        ((t : Triple) → Member t (edges (masks_of (keys merged.old.roots) masks.now.entries))
-        → merged_has merged.new.nodes.kept.keys merged.new.roots.entries t ≡ true) }
+    ensures takes { let gathered = edges (masks_of (diagrams_in merged.old) masks.now.entries) in
+        Takes (λ edge. Member edge gathered) merged.old merged.new }
+    ensures all { let gathered = edges (masks_of (diagrams_in merged.old) masks.now.entries) in
+        OnOk result (HasAll (λ edge. Member edge gathered) merged.new) }
 {
     let mut insertions = insertions_of(masks)?;
     sort(&mut insertions)?;
@@ -124,14 +119,11 @@ pub(crate) fn put_batches<A: Allocator + Copy>(
     merged: &mut Diagrams<A>,
     batches: &[Batch<A>],
 ) -> Result<(), AllocError>
-    requires { AllWithin (keys merged.old.roots) batches.now }
-    ensures takes { TakesGiven
-        (λ t. Member t (edges (masks_in (keys merged.old.roots) batches.now)))
-        merged.old.nodes.kept.keys merged.new.nodes.kept.keys
-        merged.old.roots.entries merged.new.roots.entries }
-    ensures all { OnOk result
-        ((t : Triple) → Member t (edges (masks_in (keys merged.old.roots) batches.now))
-        → merged_has merged.new.nodes.kept.keys merged.new.roots.entries t ≡ true) }
+    requires { AllWithin (diagrams_in merged.old) batches.now }
+    ensures takes { let gathered = edges (all_masks merged.old batches.now) in
+        Takes (λ edge. Member edge gathered) merged.old merged.new }
+    ensures all { let gathered = edges (all_masks merged.old batches.now) in
+        OnOk result (HasAll (λ edge. Member edge gathered) merged.new) }
 {
     for at in 0..batches.len() {
         put_all(merged, &batches[at].masks)?;

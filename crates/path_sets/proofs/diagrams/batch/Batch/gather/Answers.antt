@@ -24,7 +24,7 @@ module _ (g : given.Over) (c : After-add_point_at g) where
       (edges (masks_of (keys c.args.merged.now.roots) c.add_point_at.new.masks.entries)) c.add_point_at.result
   puts =
       marked_masks (keys c.args.merged.now.roots) c.args.merged.now.unique c.args.self.now.masks.entries
-      c.add_point_at.new.masks.entries c.in-Some.at c.args.key c.args.bit c.requires.bit c.requires.within c.args.self.now.unique
+      c.add_point_at.new.masks.entries c.in-Some.at c.args.key c.args.bit c.requires.small c.requires.within c.args.self.now.unique
       c.in-Some.ensures.here c.add_point_at.result c.add_point_at.ensures.marks
 
 pub returns-in-Some-clause-ok : goal.returns-in-Some-clause-ok
@@ -32,7 +32,7 @@ returns-in-Some-clause-ok g c =
     let i = (goal.at.returns-in-Some-clause-ok g c).After-add_point_at in
     let m = c.args.merged.now in
     let diagrams = keys m.roots in
-    puts_marked m.nodes.kept.keys m.roots.entries (mask_key g i) c.args.bit c.requires.bit
+    puts_marked m.nodes.kept.keys m.roots.entries (mask_key g i) c.args.bit c.requires.small
     (masks_of diagrams c.args.self.now.masks.entries) (masks_of diagrams c.add_point_at.new.masks.entries) c.requires.covers
     (key_masks diagrams c.args.self.now.masks.entries c.args.key (there g i)) c.add_point_at.result (puts g i)
 
@@ -41,7 +41,7 @@ returns-in-Some-clause-covers g c =
     let i = (goal.at.returns-in-Some-clause-covers g c).After-add_point_at in
     let m = c.args.merged.now in
     let diagrams = keys m.roots in
-    covers_marked m.nodes.kept.keys m.roots.entries (mask_key g i) c.args.bit c.requires.bit
+    covers_marked m.nodes.kept.keys m.roots.entries (mask_key g i) c.args.bit c.requires.small
     (masks_of diagrams c.args.self.now.masks.entries) (masks_of diagrams c.add_point_at.new.masks.entries) c.requires.covers
     c.add_point_at.result (puts g i)
     (keys_masks diagrams c.args.self.now.masks.entries c.add_point_at.new.masks.entries c.add_point_at.ensures.keys)

@@ -22,7 +22,7 @@ module _ (g : given.Over) (c : After-saturating_add g) where
   mask_key = mask_key_at (keys c.args.merged.now.roots) c.args.key
 
   own : (r : DiagramKey) × (slice_get (keys c.args.merged.now.roots) c.args.key.diagram ≡ Some r)
-  own = item_there (keys c.args.merged.now.roots) c.args.key.diagram c.requires.diagram
+  own = item_there (keys c.args.merged.now.roots) c.args.key.diagram c.requires.may.diagram
 
   -- the mask that was asked for has the points that the diagrams have
   knows : (b : ℕ) → b < 64 → bit_of c.points_at-mask.result b
@@ -47,25 +47,25 @@ module _ (g : given.Over) (c : After-saturating_add g) where
 pub points_at-mask-requires : goal.points_at-mask-requires
 points_at-mask-requires g c =
     let m = c.args.merged.now in
-    let (r, at) = item_there (keys m.roots) c.args.key.diagram c.requires.diagram in
+    let (r, at) = item_there (keys m.roots) c.args.key.diagram c.requires.may.diagram in
     diagram_within m.roots.entries c.args.key.diagram r at
 
 pub returns-clause-ok : goal.returns-clause-ok
 returns-clause-ok g c =
     let m = c.args.merged.now in
     let old = c.args.self.now.masks.entries in
-    puts_begun m.nodes.kept.keys m.roots.entries (mask_key g c) c.args.bit c.requires.bit (masks_of (keys m.roots) old) _
-    c.requires.covers c.points_at-mask.result c.add_point.new.mask
-    (none_there (keys m.roots) m.unique old c.args.key c.requires.diagram c.requires.within c.requires.none)
+    puts_begun m.nodes.kept.keys m.roots.entries (mask_key g c) c.args.bit c.requires.may.small (masks_of (keys m.roots) old) _
+    c.requires.may.covers c.points_at-mask.result c.add_point.new.mask
+    (none_there (keys m.roots) m.unique old c.args.key c.requires.may.diagram c.requires.may.within c.requires.none)
     (knows g c) (marks g c) (made g c)
 
 pub returns-clause-covers : goal.returns-clause-covers
 returns-clause-covers g c =
     let m = c.args.merged.now in
     let old = c.args.self.now.masks.entries in
-    covers_begun m.nodes.kept.keys m.roots.entries (mask_key g c) c.args.bit c.requires.bit (masks_of (keys m.roots) old) _
-    c.requires.covers c.points_at-mask.result c.add_point.new.mask
-    (none_there (keys m.roots) m.unique old c.args.key c.requires.diagram c.requires.within c.requires.none)
+    covers_begun m.nodes.kept.keys m.roots.entries (mask_key g c) c.args.bit c.requires.may.small (masks_of (keys m.roots) old) _
+    c.requires.may.covers c.points_at-mask.result c.add_point.new.mask
+    (none_there (keys m.roots) m.unique old c.args.key c.requires.may.diagram c.requires.may.within c.requires.none)
     (knows g c) (marks g c) (made g c)
 
 pub returns-clause-keys : goal.returns-clause-keys

@@ -28,18 +28,17 @@ module _ (g : given.Over) (c : After-index_mut g) where
   covers = covers_as c.args.merged.now.nodes.kept.keys c.args.merged.now.roots.entries c.args.self.now.batches.items
       c.batch_of.new.self.batches.items c.in_ok-at.ensures.gathered c.requires.covers
 
-pub gather-requires-clause-within : goal.gather-requires-clause-within
-gather-requires-clause-within g c =
-    let i = (goal.at.gather-requires-clause-within g c).After-index_mut in
-    subst (AreWithin (keys c.args.merged.now.roots))
-    (gathered_is c.batch_of.new.self.batches.items c.in_ok-at.at c.index_mut.result.now (at g i)) (within g i c.in_ok-at.at)
-
-pub gather-requires-clause-covers : goal.gather-requires-clause-covers
-gather-requires-clause-covers g c =
-    let i = (goal.at.gather-requires-clause-covers g c).After-index_mut in
+pub gather-requires : goal.gather-requires
+gather-requires g c =
+    let i = (goal.at.gather-requires g c).After-index_mut in
     let m = c.args.merged.now in
-    subst (λ es. Covers m.nodes.kept.keys m.roots.entries (masks_of (keys m.roots) es))
-    (gathered_is c.batch_of.new.self.batches.items c.in_ok-at.at c.index_mut.result.now (at g i)) (covers g i c.in_ok-at.at)
+    let bs = c.batch_of.new.self.batches.items in
+    let own = gathered_is bs c.in_ok-at.at c.index_mut.result.now (at g i) in record {
+      small = c.requires.bit;
+      diagram = c.requires.diagram;
+      within = subst (AreWithin (keys m.roots)) own (within g i c.in_ok-at.at);
+      covers = subst (λ es. Covers m.nodes.kept.keys m.roots.entries (masks_of (keys m.roots) es)) own (covers g i c.in_ok-at.at);
+    }
 
 pub invariant_of-self : goal.invariant_of-self
 invariant_of-self g c =
