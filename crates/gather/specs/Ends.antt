@@ -19,8 +19,8 @@ use Rattle.procedure_worker.specs.declared.outcome.End.{End}
 use Rattle.procedure_worker.specs.declared.outcome.End.TheVariants.{Failed}
 use Rattle.procedure_worker.specs.declared.outcome.Outcome.{Outcome}
 use Rattle.procedure_worker.specs.Works.{Start, begun, IsPassOf, IsFresh, HasEnded}
-use Rattle.jobs.specs.declared.jobs.Came.{Came}
-use Rattle.jobs.specs.Jobs.{CameOf, IsDeclined}
+use Rattle.jobs.specs.declared.jobs.JobResult.{JobResult}
+use Rattle.jobs.specs.Jobs.{IsResultOf, IsDeclined}
 use Rattle.gather.specs.declared.finding.Finding.{Finding}
 use Rattle.gather.specs.Findings.{end_of, IsLeftOf, AreLeftOf}
 
@@ -81,11 +81,11 @@ module _ {G A S P : Type 0} (members : S → List Triple) (sight : P → Sight D
   -- What the lanes of all procedures returned, by number. A lane that ran has worked. For a lane that was declined
   -- there is evidence that its start was refused, or that of a lane before it; after such a lane all were declined.
   pub record HaveReturned (graphs : Graphs G) (limit : EdgeLimit) (board : TableId)
-      (cames : List (Came (P × Finding A))) : Type 0 where
-    pub all : length cames ≡ length (graphs_of graphs)
-    pub each : (q : ℕ) (c : Came (P × Finding A)) → slice_get cames q ≡ Some c
-        → CameOf (HasWorked (begun graphs q limit board)) (WasDeclined (begun graphs q limit board)) q c
-    pub behind : (i k : ℕ) (c d : Came (P × Finding A)) → i ≤ k → slice_get cames i ≡ Some c → slice_get cames k ≡ Some d
+      (results : List (JobResult (P × Finding A))) : Type 0 where
+    pub all : length results ≡ length (graphs_of graphs)
+    pub each : (q : ℕ) (c : JobResult (P × Finding A)) → slice_get results q ≡ Some c
+        → IsResultOf (HasWorked (begun graphs q limit board)) (WasDeclined (begun graphs q limit board)) q c
+    pub behind : (i k : ℕ) (c d : JobResult (P × Finding A)) → i ≤ k → slice_get results i ≡ Some c → slice_get results k ≡ Some d
         → IsDeclined c → IsDeclined d
 
 -- The graphs are some program's, and the passes are those of all its procedures, by number, as given by a board that

@@ -7,7 +7,7 @@ use Rattle.switchboard.specs.declared.calls.Cause.{Cause}
 use Rattle.procedure_worker.specs.declared.outcome.End.{End}
 use Rattle.procedure_worker.specs.declared.outcome.End.TheVariants as end
 use Rattle.procedure_worker.specs.declared.outcome.Outcome.{Outcome}
-use Rattle.procedure_worker.specs.declared.room.NoRoom.{NoRoom}
+use Rattle.procedure_worker.specs.declared.memory.OutOfMemory.{OutOfMemory}
 use Rattle.gather.specs.declared.finding.Finding.{Finding}
 use Rattle.gather.specs.declared.finding.Finding.TheVariants.{Closed, Unread, Aborted, Failed}
 
@@ -21,7 +21,7 @@ module _ {A : Type 0} where
   end_of (Closed s) = end.Closed
   end_of (Unread error) = end.Closed
   end_of Aborted = end.Aborted
-  end_of (Failed c lack) = end.Failed c
+  end_of (Failed c out_of_memory) = end.Failed c
 
   -- how the lanes ended
   abbrev pub ends_in : List (Finding A) → List End
@@ -31,7 +31,7 @@ module _ {A : Type 0} where
 -- was read off its table.
 pub record IsLeftOf {G A S : Type 0} (o : Outcome G A S) (f : Finding A) : Type 0 where
   pub ended : o.end ≡ end_of f
-  pub lack : (c : Cause) (l : Option NoRoom) → f ≡ Failed c l → o.lack ≡ l
+  pub out_of_memory : (c : Cause) (l : Option OutOfMemory) → f ≡ Failed c l → o.out_of_memory ≡ l
   pub found : (t : Table G A S) (s : Effect) → o.table ≡ Some t → f ≡ Closed s → IsReadOff t.found s
 
 -- The findings are what is left of the outcomes, one of each, in their order.

@@ -25,11 +25,11 @@ module _ {R G A S B K P : Type 0} (identity : B → TableId) (sight : P → Sigh
     pub near : l.number < length (graphs_of l.context.now.graphs.now)
     pub fresh : IsFresh (start_of l) (sight l.pass)
 
-  -- what came back is what a lane returns that began so and ran
+  -- what result back is what a lane returns that began so and ran
   abbrev pub RunsSo : (S → List Triple) → Lane R P G A B S K → P × Finding A → Type 0
   RunsSo members l = HasWorked members sight (start_of l)
 
-  -- what came back is what a lane returns that began so and was declined
+  -- what result back is what a lane returns that began so and was declined
   abbrev pub DeclinesSo : (S → List Triple) → Lane R P G A B S K → P × Finding A → Type 0
   DeclinesSo members l = WasDeclined members sight (start_of l)
 

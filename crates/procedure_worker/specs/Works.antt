@@ -1,6 +1,6 @@
 -- What a worker knows while it works, and what it returns.
 use Rattle.std.specs.Prelude.{◌≡◌, ◌≢◌, ◌⊎◌, ◌↔◌, ◌<◌, ◌++◌, ◌∷◌, ℕ, Bool, true, false, IsSome, List, [], Option}
-use Rattle.std.specs.Prelude.{Some, None, length, map}
+use Rattle.std.specs.Prelude.{Some, None, Err, length, map}
 use Rattle.std.specs.Bool.{OnFalse}
 use Rattle.atomic_table.specs.Seated.{TableId}
 use Rattle.post_ledger.specs.Orders.{own, HasJob, IsClosed}
@@ -37,16 +37,12 @@ use Rattle.procedure_worker.specs.declared.desk.Desk.{Desk}
 use Rattle.procedure_worker.specs.declared.outcome.End.{End}
 use Rattle.procedure_worker.specs.declared.outcome.End.TheVariants as end
 use Rattle.procedure_worker.specs.declared.outcome.Outcome.{Outcome}
-use Rattle.procedure_worker.specs.declared.room.NoRoom.{NoRoom}
-use Rattle.procedure_worker.specs.declared.stop.Finish.{Finish}
-use Rattle.procedure_worker.specs.declared.stop.Finish.TheVariants as finish
+use Rattle.procedure_worker.specs.declared.memory.OutOfMemory.{OutOfMemory}
 use Rattle.procedure_worker.specs.declared.stop.Reason.{Reason}
 use Rattle.procedure_worker.specs.declared.stop.Reason.TheVariants as reason
-use Rattle.procedure_worker.specs.declared.stop.Stop.{Stop}
-use Rattle.procedure_worker.specs.declared.stop.Stop.TheVariants as stop
 use Rattle.procedure_worker.specs.declared.worker.Worker.{Worker}
 use Rattle.procedure_worker.specs.Own.{taken_in, posted_in}
-use Rattle.procedure_worker.specs.Stops.{cause_of, end_of, end_at}
+use Rattle.procedure_worker.specs.Stops.{StopReason, WorkerEnd, cause_of, end_of, end_at}
 
 -- What a worker begins with: the flow graphs, the number of its procedure, how many path edges its table may keep, and
 -- the board.
@@ -79,19 +75,19 @@ cause_for fault.EdgeLimit = cause.EdgeLimit
 
 module _ {M W : Type 0} (fits : W → ℕ → M → Type 0) where
   -- the pass has made an abort for this reason's cause, and the worker ends so
-  abbrev pub Failed : Reason → Finish → Sight M W → Sight M W → Type 0
-  Failed why e s t = (e ≡ finish.Failed why) × MadeAbort fits (record { by = s.number; cause = cause_of why }) s t
+  abbrev pub Failed : Reason → WorkerEnd → Sight M W → Sight M W → Type 0
+  Failed why e s t = (e ≡ Err (Some why)) × MadeAbort fits (record { by = s.number; cause = cause_of why }) s t
 
   -- the message is completed; or no call was left, and the worker ends
-  abbrev pub Completes : ℕ → Option Finish → Sight M W → Sight M W → Type 0
+  abbrev pub Completes : ℕ → Option WorkerEnd → Sight M W → Sight M W → Type 0
   Completes job None s t = WasDone fits job s t
   Completes job (Some e) s t = (s.calls ≡ 0) × Failed reason.Spent e s t
 
   -- the worker ends for this reason: the message is completed if the board was aborted, unless no call was left
-  abbrev pub StopsSo : ℕ → Stop → Finish → Sight M W → Sight M W → Type 0
-  StopsSo job stop.Aborted e s t = ((e ≡ finish.Aborted) × WasDone fits job s t) ⊎
+  abbrev pub StopsSo : ℕ → StopReason → WorkerEnd → Sight M W → Sight M W → Type 0
+  StopsSo job None e s t = ((e ≡ (Err None)) × WasDone fits job s t) ⊎
       ((s.calls ≡ 0) × Failed reason.Spent e s t)
-  StopsSo job (stop.Failed why) e s t = Failed why e s t
+  StopsSo job (Some why) e s t = Failed why e s t
 
 -- the end is at the table's fault, if the table has failed
 abbrev pub IsAtFault : {G A S : Type 0} → End → Table G A S → Type 0
@@ -99,8 +95,8 @@ IsAtFault e t = (f : TableFault) → failure t ≡ Some f → e ≡ end.Failed (
 
 -- What a worker's end rests on. It failed for lack of memory if and only if there is evidence of a refusal; and if
 -- its table has failed, it failed for that fault.
-pub record IsFounded {G A S : Type 0} (e : End) (lack : Option NoRoom) (t : Table G A S) : Type 0 where
-  pub memory : (e ≡ end.Failed cause.Memory) ↔ IsSome lack
+pub record IsFounded {G A S : Type 0} (e : End) (out_of_memory : Option OutOfMemory) (t : Table G A S) : Type 0 where
+  pub memory : (e ≡ end.Failed cause.Memory) ↔ IsSome out_of_memory
   pub fault : IsAtFault e t
 
 -- The pass has looked, and found every message of its mailbox taken, on a board that it sees neither closed nor
@@ -156,9 +152,9 @@ module _ {G : Type 0} (b : Start G) where
   HasStood cause.Spent s = s.calls ≡ 0
 
   -- the reason to stop stands: the board was aborted, or the cause
-  abbrev pub StoppedFor : Stop → Sight Due (Graphs G) → Type 0
-  StoppedFor stop.Aborted s = IsSome s.seen.aborted
-  StoppedFor (stop.Failed why) s = HasStood (cause_of why) s
+  abbrev pub StoppedFor : StopReason → Sight Due (Graphs G) → Type 0
+  StoppedFor None s = IsSome s.seen.aborted
+  StoppedFor (Some why) s = HasStood (cause_of why) s
 
   -- The pass has made an abort for this cause, which has stood; the abort that the board keeps is this one, or
   -- another pass's.
@@ -208,7 +204,7 @@ module _ {G : Type 0} (b : Start G) where
     abbrev pub HasEnded : Sight Due (Graphs G) → Outcome G A S → Type 0
     HasEnded s o =
         (t : Table G A S) × (o.table ≡ Some t)
-        × ((took : List Due) × (sent : List (ℕ × Due)) × EndsSo o.end s t took sent) × IsFounded o.end o.lack t
+        × ((took : List Due) × (sent : List (ℕ × Due)) × EndsSo o.end s t took sent) × IsFounded o.end o.out_of_memory t
 
     module _ {P : Type 0} where
       -- The worker between two takes.
@@ -248,7 +244,7 @@ module _ {G : Type 0} (b : Start G) where
         pub has : HasJob b.number job s.seen.order
 
       -- The worker has a job, and stops for this reason.
-      pub record IsStopped (job : ℕ) (why : Stop) (s : Sight Due (Graphs G)) (w : Worker P G A S) : Type 0 where
+      pub record IsStopped (job : ℕ) (why : StopReason) (s : Sight Due (Graphs G)) (w : Worker P G A S) : Type 0 where
         pub took : List Due
         pub posts : List (ℕ × Due)
         pub stands : Stands s w.table took posts
@@ -258,7 +254,7 @@ module _ {G : Type 0} (b : Start G) where
         pub fault : IsAtFault (end_at why) w.table
 
       -- The worker has ended, for its table's fault if that has failed.
-      abbrev pub HasStopped : Finish → Sight Due (Graphs G) → Worker P G A S → Type 0
+      abbrev pub HasStopped : WorkerEnd → Sight Due (Graphs G) → Worker P G A S → Type 0
       HasStopped e s w =
           ((took : List Due) × (sent : List (ℕ × Due)) × EndsSo (end_of e) s w.table took sent)
           × IsAtFault (end_of e) w.table
@@ -270,11 +266,11 @@ module _ {G : Type 0} (b : Start G) where
         pub takes : took_by t ≡ took_by s
 
       -- The message is completed, with all posted that it implies, and no other was taken; or the worker has ended.
-      abbrev pub HasDealt : Option Finish → Sight Due (Graphs G) → Sight Due (Graphs G) → Worker P G A S → Type 0
+      abbrev pub HasDealt : Option WorkerEnd → Sight Due (Graphs G) → Sight Due (Graphs G) → Worker P G A S → Type 0
       HasDealt None s t w = IsReady t w × (took_by t ≡ took_by s)
       HasDealt (Some e) s t w = HasStopped e t w
 
       -- The worker has taken a message and dealt with it, or has found none yet; or it has ended.
-      abbrev pub HasTurned : Option Finish → Sight Due (Graphs G) → Sight Due (Graphs G) → Worker P G A S → Type 0
+      abbrev pub HasTurned : Option WorkerEnd → Sight Due (Graphs G) → Sight Due (Graphs G) → Worker P G A S → Type 0
       HasTurned None s t w = IsReady t w × MayGoOn s t
       HasTurned (Some e) s t w = HasStopped e t w

@@ -1,5 +1,5 @@
 //! What a worker returns.
-use crate::room::NoRoom;
+use crate::memory::OutOfMemory;
 use path_sets::PathSet;
 use std::alloc::Allocator;
 use summaries::Table;
@@ -24,5 +24,5 @@ pub struct Outcome<'g, G: Allocator, A: Allocator, S: PathSet<A>> {
     pub table: Option<Table<'g, G, A, S>>,
     pub end: End,
     /// Evidence that memory was refused, if the worker failed for that.
-    pub lack: Option<NoRoom>,
+    pub out_of_memory: Option<OutOfMemory>,
 }
