@@ -96,7 +96,7 @@ module _ {G A S : Type 0} where
     all_read ss read =
         let are : findings ≡ map closed_with ss = read every_closed in
         record {
-          all = sym (length-map ss (closed_with {A = A})) ∙ sym (ap length are) ∙ of.lanes.left.all ∙ of.lanes.ended.each_outcome
+          all = sym (length-map ss (closed_with {Alloc = A})) ∙ sym (ap length are) ∙ of.lanes.left.all ∙ of.lanes.ended.each_outcome
               ∙ sym (tables_all members graphs of.limit of.board of.passes outcomes histories closed of.lanes.ended of.settled no_end);
           each = λ q t s is_t is_s.
               let (o, there, is) = outcome_of members graphs of.limit of.board of.passes outcomes histories closed

@@ -7,7 +7,7 @@ ghost use Rattle.gather.specs.Lanes.{AreLanes};
 use crate::finding::Finding;
 use crate::kinds::{CrewBoard, CrewSet, WorkBoard, WorkSet};
 use crate::lane::Lane;
-use jobs::{JobResult, Hire, run_all};
+use jobs::{Hire, JobResult, run_all};
 use procedure_worker::{Context, Gate};
 use std::alloc::{AllocError, Allocator};
 use std::marker::PhantomData;

@@ -44,7 +44,11 @@ pub(crate) fn finding_of<G: Allocator, A: Allocator + Copy, S: PathSet<A>>(
     requires { (t : Table G A S) × (outcome.table ≡ Some t) }
     ensures { IsLeftOf outcome.entry result }
 {
-    let Outcome { table, end, out_of_memory } = outcome;
+    let Outcome {
+        table,
+        end,
+        out_of_memory,
+    } = outcome;
     let Some(table) = table else { unreachable!() };
     match end {
         End::Closed => match read_off(alloc, table) {

@@ -39,6 +39,7 @@ pub enum Answer {
 /// What the workers of a rewritten program did and found, and what follows for the program as it was written.
 #[derive(Drop)]
 pub struct Report<H: Allocator, A: Allocator> {
+    /// Whether the program is safe within the rounds.
     pub answer: Answer,
     /// What was posted, taken and completed, for each mailbox.
     pub ledger: Ledger<Due, H>,

@@ -9,7 +9,7 @@ use Rattle.jobs.specs.declared.jobs.JobResult.TheVariants.{Run, Declined}
 
 -- each job may be run
 abbrev pub AllCanRun : {J : Type 0} → (J → Type 0) → List J → Type 0
-AllCanRun {J} can_run jobs = (i : ℕ) (j : J) → slice_get jobs i ≡ Some j → can_run j
+AllCanRun {J} can_run jobs = (number : ℕ) (job : J) → slice_get jobs number ≡ Some job → can_run job
 
 -- what a job returned
 abbrev pub returned_by : {B : Type 0} → JobResult B → B
@@ -38,14 +38,15 @@ IsDeclined (Declined b none) = Unit {0}
 -- declined.
 pub record AreResults {J B : Type 0} (runs declines : J → B → Type 0) (jobs : List J) (results : List (JobResult B)) : Type 0 where
   pub all : length results ≡ length jobs
-  pub each : (i : ℕ) (j : J) (c : JobResult B) → slice_get jobs i ≡ Some j → slice_get results i ≡ Some c
-      → IsResultOf (runs j) (declines j) i c
-  pub behind : (i k : ℕ) (c d : JobResult B) → i ≤ k → slice_get results i ≡ Some c → slice_get results k ≡ Some d
-      → IsDeclined c → IsDeclined d
+  pub each : (number : ℕ) (job : J) (result : JobResult B) → slice_get jobs number ≡ Some job → slice_get results number ≡ Some result
+      → IsResultOf (runs job) (declines job) number result
+  pub behind : (number later : ℕ) (result later_result : JobResult B) → number ≤ later → slice_get results number ≡ Some result
+      → slice_get results later ≡ Some later_result
+      → IsDeclined result → IsDeclined later_result
 
 -- the job with this number returns this
 abbrev pub OfJob : {J B : Type 0} → List J → (J → B → Type 0) → ℕ → B → Type 0
-OfJob {J} jobs gives n b = (j : J) → slice_get jobs n ≡ Some j → gives j b
+OfJob {J} jobs gives n b = (job : J) → slice_get jobs n ≡ Some job → gives job b
 
 -- evidence that a job that was begun has no thread
 abbrev pub refusal_of : {B P : Type 0} → Begun B P → Option NoThread
@@ -67,6 +68,7 @@ module _ {J B L : Type 0} (declines : J → B → Type 0) (jobs : List J) where
   -- The jobs were begun, in their order; after one that has no thread none has one.
   pub record AreBegun (begun : List (Begun B (JobPromise J L))) : Type 0 where
     pub all : length begun ≡ length jobs
-    pub each : (i : ℕ) (b : Begun B (JobPromise J L)) → slice_get begun i ≡ Some b → WasBegun i b
-    pub behind : (i k : ℕ) (b c : Begun B (JobPromise J L)) → i ≤ k → slice_get begun i ≡ Some b → slice_get begun k ≡ Some c
-        → HasNoThread b → HasNoThread c
+    pub each : (number : ℕ) (begun_job : Begun B (JobPromise J L)) → slice_get begun number ≡ Some begun_job → WasBegun number begun_job
+    pub behind : (number later : ℕ) (begun_job later_job : Begun B (JobPromise J L)) → number ≤ later
+        → slice_get begun number ≡ Some begun_job → slice_get begun later ≡ Some later_job
+        → HasNoThread begun_job → HasNoThread later_job

@@ -3,7 +3,7 @@ ghost use Rattle.std.specs.Prelude.{◌≡◌, IfOk, IfErr};
 ghost use Rattle.jobs.specs.Jobs.{AllCanRun, OfJob};
 
 use crate::hire::Hire;
-use crate::jobs::{JobPromise, Job};
+use crate::jobs::{Job, JobPromise};
 use crate::slot::{Lineup, Slot, taken};
 use std::marker::PhantomData;
 use std::sync::{Mutex, Wait};

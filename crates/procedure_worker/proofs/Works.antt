@@ -538,7 +538,7 @@ module _ {G : Type 0} (b : Start G) where
     -- The table failed at the message.
     taking_stops : {P : Type 0} (d : Due) {T : Type 0} (f : TableFault) (why : Reason) (job : ℕ) (e : WorkerEnd)
         (s t : Sight Due (Graphs G)) (w : Worker P G A S) (y : Table G A S) → cause_of why ≡ cause_for f →
-        IsTaking b members job d s w → TableTakes members d {T = T} (Err f) w.table y → Failed FitsIn why e s t →
+        IsTaking b members job d s w → TableTakes members d {Returned = T} (Err f) w.table y → Failed FitsIn why e s t →
         HasStopped b members e t (record w { table = y })
     taking_stops d {T} f why job e s t w y same k given failed =
         let stands = given_stands d {T = T} (Err f) job s w y k given in

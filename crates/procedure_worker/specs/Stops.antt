@@ -64,8 +64,8 @@ FailsFor reason.Spent P = ⊥
 FailsFor reason.EdgeLimit P = P fault.EdgeLimit
 FailsFor (reason.OutOfMemory witness) P = P fault.Memory
 
-module _ {G A S : Type 0} (members : S → List Triple) where
+module _ {GraphAlloc Alloc S : Type 0} (members : S → List Triple) where
   -- the table takes the message, or has failed for this reason
-  abbrev pub TakesOrFails : {T : Type 0} → Due → Result T Reason → Table G A S → Table G A S → Type 0
+  abbrev pub TakesOrFails : {T : Type 0} → Due → Result T Reason → Table GraphAlloc Alloc S → Table GraphAlloc Alloc S → Type 0
   TakesOrFails d (Ok x) old new = TableTakes members d (Ok x) old new
-  TakesOrFails {T} d (Err why) old new = FailsFor why (λ f. TableTakes members d {T = T} (Err f) old new)
+  TakesOrFails {T} d (Err why) old new = FailsFor why (λ f. TableTakes members d {Returned = T} (Err f) old new)

@@ -22,6 +22,7 @@ pub enum End {
 pub struct Outcome<'g, G: Allocator, A: Allocator, S: PathSet<A>> {
     /// What `work` returns has one. An outcome that stands for a worker without a thread has none.
     pub table: Option<Table<'g, G, A, S>>,
+    /// How the worker ended.
     pub end: End,
     /// Evidence that memory was refused, if the worker failed for that.
     pub out_of_memory: Option<OutOfMemory>,

@@ -9,8 +9,8 @@ ghost use Rattle.procedure_worker.specs.Works.{HasAnswered, HasDealt, HasTurned}
 
 use crate::desk::Desk;
 use crate::gate::Gate;
-use crate::pause::pause;
 use crate::memory::{deliver, next, post};
+use crate::pause::pause;
 use crate::stop::{Finish, Reason, Stop};
 use flow_graph::Graphs;
 use path_sets::PathSet;

@@ -9,7 +9,8 @@ use Rattle.language.specs.Value.{written_locals}
 use Rattle.round_rewrite.specs.Table.{numbers, in_round, expression_form, copy_value, targets, sides, draws, each}
 use Rattle.round_rewrite.specs.Places.{places, is_global}
 use Rattle.resolved.specs.Scoped.{PlaceInScope, PlacesInScope, SideInScope, SidesInScope}
-use Rattle.round_rewrite.proofs.LayoutLemmas.{row, with_row, row_bit, row_with, with_own, with_right, length-with_row, long-with_row, bit_right}
+use Rattle.round_rewrite.proofs.LayoutLemmas.{row, with_row, row_bit, row_with, with_own, with_right, length-with_row, long-with_row}
+use Rattle.round_rewrite.proofs.LayoutLemmas.{bit_right}
 use Rattle.round_rewrite.proofs.RoundBitLemmas.{same, same_refl, same_false}
 use Rattle.round_rewrite.proofs.LayoutLemmas.{bits_of, lay, Moment, globals_at}
 use Rattle.round_rewrite.proofs.Translate.{at_is, expression_is, or_false}

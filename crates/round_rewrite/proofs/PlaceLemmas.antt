@@ -11,9 +11,11 @@ use Rattle.round_rewrite.specs.Table.{numbers, copied, globals}
 use Rattle.round_rewrite.specs.Places.{copy_at, save_at, bits_at, bits_from, stop_at, bad_at, global_count}
 use Rattle.round_rewrite.specs.Names.{fresh_name, bit_name, bit_names, copy_name, save_name, drawn_name, naming_by_text}
 use Rattle.checked.specs.Rewritable.{has_double, AreFree}
-use Rattle.round_rewrite.proofs.SpellingLemmas.{same_text_refl, same_text_false, same_text-append, copies_differ, saves_differ, save_no_copy}
+use Rattle.round_rewrite.proofs.SpellingLemmas.{same_text_refl, same_text_false, same_text-append, copies_differ, saves_differ}
+use Rattle.round_rewrite.proofs.SpellingLemmas.{save_no_copy}
 use Rattle.round_rewrite.proofs.SpellingLemmas.{low_no_copy, low_no_save, drawn_differ, no_drawn, digit_is}
-use Rattle.round_rewrite.proofs.NumberingLemmas.{number_right, number_left, not_free, free_name, Spelled, length-rows, none_in_rows, in_rows}
+use Rattle.round_rewrite.proofs.NumberingLemmas.{number_right, number_left, not_free, free_name, Spelled, length-rows, none_in_rows}
+use Rattle.round_rewrite.proofs.NumberingLemmas.{in_rows}
 use Rattle.resolved.specs.Limits.{most_places}
 use Rattle.round_rewrite.specs.Limits.{most_rounds, round_bits}
 use Rattle.round_rewrite.proofs.RoundBitLemmas.{bits_few}

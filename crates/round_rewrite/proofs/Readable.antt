@@ -14,10 +14,12 @@ use Rattle.grammar.specs.InGrammar.{IsId, AreIds, ExpressionInGrammar, SideInGra
 use Rattle.grammar.specs.InGrammar.{ProcedureInGrammar, ThreadInGrammar, InGrammar}
 use Rattle.resolved.specs.Statements.{variables_of, variables_of_side, variables_of_sides, variables_of_all}
 use Rattle.resolved.proofs.Each.{each_left, each_right}
-use Rattle.round_rewrite.specs.Table.{numbers, no_mark, temporaries, in_round, expression_form, side, all_rounds, targets, sides, draws, drawing}
+use Rattle.round_rewrite.specs.Table.{numbers, no_mark, temporaries, in_round, expression_form, side, all_rounds, targets, sides, draws}
+use Rattle.round_rewrite.specs.Table.{drawing}
 use Rattle.round_rewrite.specs.Table.{stop_test, rise, prologue, statement, rewritten, guess, guesses, starts, check, checks, copied}
 use Rattle.round_rewrite.specs.Table.{globals, receiver_draws, received, raised, each, reset_targets}
-use Rattle.round_rewrite.specs.Names.{fresh_name, bit_name, bit_names, copy_name, save_name, drawn_name, naming_by_text, rewritten_procedure}
+use Rattle.round_rewrite.specs.Names.{fresh_name, bit_name, bit_names, copy_name, save_name, drawn_name, naming_by_text}
+use Rattle.round_rewrite.specs.Names.{rewritten_procedure}
 use Rattle.round_rewrite.specs.Names.{main_procedure, rewritten_tree}
 use Rattle.round_rewrite.specs.Narrow.{IsNarrow}
 use Rattle.round_rewrite.specs.Places.{global_count}
@@ -184,10 +186,14 @@ module _ (own : List Name) (last d : ℕ) (small : last < most_rounds) (few : d 
       let here : List Name = map (λ k. copy_name k x) (all_rounds (naming_by_text own) last) in
       by_test (is_declared x.text own)
       (λ e.
-      subst (λ c. 0 < length (cond (not c) (here ++ targets (naming_by_text own) last xs rs) (x ∷ targets (naming_by_text own) last xs rs))) (sym e)
+      subst
+          (λ c. 0 < length (cond (not c) (here ++ targets (naming_by_text own) last xs rs) (x ∷ targets (naming_by_text own) last xs rs)))
+          (sym e)
       (omega arith))
       (λ e.
-      subst (λ c. 0 < length (cond (not c) (here ++ targets (naming_by_text own) last xs rs) (x ∷ targets (naming_by_text own) last xs rs))) (sym e)
+      subst
+          (λ c. 0 < length (cond (not c) (here ++ targets (naming_by_text own) last xs rs) (x ∷ targets (naming_by_text own) last xs rs)))
+          (sym e)
       (omega arith))
 
   some_targets : (xs : List Name) (rs : List (RightSide Name)) → 0 < length xs → 0 < length rs
@@ -197,7 +203,8 @@ module _ (own : List Name) (last d : ℕ) (small : last < most_rounds) (few : d 
   some_targets (x ∷ xs) (r ∷ rs) h g = some_target x xs r rs
 
   statement_in_grammar : (m : Mark Name) (c : Simple Name Name Name) (b k : Block Name Name Name) → SimpleInGrammar c
-      → temporaries (naming_by_text own).is_shared (one m c b) ≤ d → BlockInGrammar k → BlockInGrammar (statement (naming_by_text own) last c k)
+      → temporaries (naming_by_text own).is_shared (one m c b) ≤ d → BlockInGrammar k
+          → BlockInGrammar (statement (naming_by_text own) last c k)
   statement_in_grammar m skip b k w room h = (tt, tt, h)
   statement_in_grammar m (assign xs rs) b k w room h =
       drawing_in_grammar (draws (naming_by_text own).is_shared xs rs)
@@ -247,7 +254,8 @@ module _ (own : List Name) (last d : ℕ) (small : last < most_rounds) (few : d 
     tt,
     (
       w.0,
-      arguments_ids_used (map (expression_form (naming_by_text own) last) es) (arguments_use own last d IsId IsId held es (arguments_use_ids es w.1)),
+      arguments_ids_used (map (expression_form (naming_by_text own) last) es)
+          (arguments_use own last d IsId IsId held es (arguments_use_ids es w.1)),
     ),
     stop_test_in_grammar k h,
   )
@@ -273,12 +281,14 @@ module _ (own : List Name) (last d : ℕ) (small : last < most_rounds) (few : d 
       )
   block_in_grammar (loop m r a k) h room =
       prologue_in_grammar m
-      (loop no_mark (side (naming_by_text own) last r) (join (rewritten (naming_by_text own) last a) (prologue (naming_by_text own) last no_mark done))
+      (loop no_mark (side (naming_by_text own) last r)
+          (join (rewritten (naming_by_text own) last a) (prologue (naming_by_text own) last no_mark done))
       (rewritten (naming_by_text own) last k)) h.0 (
         tt,
         side_ids_used (side (naming_by_text own) last r) (side_uses own last d IsId IsId held r (side_uses_ids r h.1)),
         some_joined (rewritten (naming_by_text own) last a) (prologue (naming_by_text own) last no_mark done) tt,
-        join_in_grammar (rewritten (naming_by_text own) last a) (prologue (naming_by_text own) last no_mark done) (block_in_grammar a h.3 (omega arith))
+        join_in_grammar (rewritten (naming_by_text own) last a) (prologue (naming_by_text own) last no_mark done)
+            (block_in_grammar a h.3 (omega arith))
             (prologue_in_grammar no_mark done tt tt),
         block_in_grammar k h.4 (omega arith),
       )
@@ -392,7 +402,8 @@ module _ (last : ℕ) (small : last < most_rounds) where
   some_guesses : (xs : List Name) (k m : ℕ) (b : Block Name Name Name) → IsSome b
       → IsSome (guesses (naming_by_text []) last xs (numbers k m) b)
   some_guesses xs k zero b h = h
-  some_guesses xs k (suc m) b h = some_guess xs k (guesses (naming_by_text []) last xs (numbers (suc k) m) b) (some_guesses xs (suc k) m b h)
+  some_guesses xs k (suc m) b h =
+      some_guess xs k (guesses (naming_by_text []) last xs (numbers (suc k) m) b) (some_guesses xs (suc k) m b h)
 
   some_starts : (lines : List ThreadLine) (b : Block Name Name Name) → 0 < length lines
       → IsSome (starts (naming_by_text []) last (map (λ (line : ThreadLine). line.name) lines) b)

@@ -20,7 +20,8 @@ use Rattle.round_rewrite.specs.Names.{fresh_name, copy_name, drawn_name, naming_
 use Rattle.checked.specs.Rewritable.{Declared, AllDeclared, ExpressionDeclared, ExpressionsDeclared, SideDeclared, SidesDeclared}
 use Rattle.checked.specs.Rewritable.{SimpleDeclared, BlockDeclared}
 use Rattle.round_rewrite.proofs.RoundBitLemmas.{map-reversed}
-use Rattle.round_rewrite.proofs.PlaceLemmas.{Vocabulary, scope, wider, copy_place, kept_place, drawn_place, bits_placed, stop_place, bad_place}
+use Rattle.round_rewrite.proofs.PlaceLemmas.{Vocabulary, scope, wider, copy_place, kept_place, drawn_place, bits_placed, stop_place}
+use Rattle.round_rewrite.proofs.PlaceLemmas.{bad_place}
 use Rattle.language.specs.Parts as parts
 
 -- a test made once

@@ -12,7 +12,8 @@ use Rattle.round_rewrite.specs.Limits.{round_bits}
 use Rattle.round_rewrite.specs.Table.{Naming, no_mark, temporaries, each, reset_targets, starts}
 use Rattle.round_rewrite.specs.Places.{places, is_global, bits_at, bits_from, stop_at}
 use Rattle.resolved.specs.Scoped.{EachThread}
-use Rattle.round_rewrite.proofs.RoundBitLemmas.{low_first, Outside, outside_both, outside_bits, frame_kept, certain_zeros, one_choice, zeros_are}
+use Rattle.round_rewrite.proofs.RoundBitLemmas.{low_first, Outside, outside_both, outside_bits, frame_kept, certain_zeros, one_choice}
+use Rattle.round_rewrite.proofs.RoundBitLemmas.{zeros_are}
 use Rattle.round_rewrite.proofs.RoundBitLemmas.{written_both, zeros_first, length-bits, length-reversed_low}
 use Rattle.round_rewrite.proofs.LayoutLemmas.{Long, AreRows, bits_of, lay, Shape, stop_with, bits_written}
 use Rattle.round_rewrite.proofs.Plain.{PlainAfter}

@@ -9,7 +9,8 @@ use Rattle.language.specs.Rest.{Code}
 use Rattle.language.specs.Step.{Frame, frame, State, state, result_of, given_back, StepsTo, Fails}
 use Rattle.round_rewrite.specs.Table.{no_mark, prologue, received, temporaries}
 use Rattle.round_rewrite.specs.Places.{places, is_global}
-use Rattle.round_rewrite.proofs.LayoutLemmas.{row, row_middle, with_middle, Long, long-append, bits_of, lay, Shape, Moment, globals_at, turned}
+use Rattle.round_rewrite.proofs.LayoutLemmas.{row, row_middle, with_middle, Long, long-append, bits_of, lay, Shape, Moment, globals_at}
+use Rattle.round_rewrite.proofs.LayoutLemmas.{turned}
 use Rattle.round_rewrite.proofs.LayoutLemmas.{row_long}
 use Rattle.round_rewrite.proofs.Plain.{PlainAfter}
 use Rattle.round_rewrite.proofs.Prologue.{Exits, rose, went, stopped, exits}

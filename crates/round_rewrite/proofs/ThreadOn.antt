@@ -9,7 +9,8 @@ use Rattle.language.specs.Rest.{Code}
 use Rattle.language.specs.Step.{Frame, frame, State, state, result_of, given_back, StepsTo, AfterSteps, Fails}
 use Rattle.round_rewrite.specs.Table.{no_mark, temporaries, side, prologue, stop_test}
 use Rattle.round_rewrite.specs.Places.{places, is_global, stop_at, bad_at}
-use Rattle.round_rewrite.proofs.LayoutLemmas.{row, with_row, row_middle, with_middle, bits_of, lay, Shape, Moment, globals_at, turned, both_with}
+use Rattle.round_rewrite.proofs.LayoutLemmas.{row, with_row, row_middle, with_middle, bits_of, lay, Shape, Moment, globals_at, turned}
+use Rattle.round_rewrite.proofs.LayoutLemmas.{both_with}
 use Rattle.round_rewrite.proofs.Plain.{PlainAfter}
 use Rattle.round_rewrite.proofs.RunLemmas.{Leads}
 use Rattle.round_rewrite.proofs.DrawLemmas.{landed_leads}

@@ -10,7 +10,8 @@ use Rattle.language.specs.Resolve.{is_declared}
 use Rattle.resolved.specs.Statements.{variables_of, variables_of_side, variables_of_sides, variables_of_all}
 use Rattle.resolved.proofs.Each.{each_left, each_right}
 use Rattle.round_rewrite.specs.Limits.{round_bits}
-use Rattle.round_rewrite.specs.Table.{Naming, numbers, each, literal, has_value, added, raised, in_round, read_by_round, read, expression_form}
+use Rattle.round_rewrite.specs.Table.{Naming, numbers, each, literal, has_value, added, raised, in_round, read_by_round, read}
+use Rattle.round_rewrite.specs.Table.{expression_form}
 use Rattle.round_rewrite.specs.Table.{side, copy_value, all_rounds, targets, sides}
 use Rattle.round_rewrite.specs.Table.{draws, receiver_draws, no_mark, prologue, received, receiver}
 use Rattle.round_rewrite.specs.Names.{fresh_name, bit_names, copy_name, drawn_name, naming_by_text}
@@ -149,7 +150,8 @@ sides_even own last j (x ∷ xs) (value v ∷ rs) =
     ≡ length (cond (not c) (there ++ sides N last j xs rs) (value (expression_form N last v) ∷ sides N last j xs rs))) (sym e)
     (length-append here (targets N last xs rs)
     ∙ (ap₂ (λ a b. a + b)
-    (length-map (all_rounds N last) (λ k. copy_name k x) ∙ sym (length-map (all_rounds N last) (copy_value N last (expression_form N last v) x)))
+    (length-map (all_rounds N last) (λ k. copy_name k x)
+        ∙ sym (length-map (all_rounds N last) (copy_value N last (expression_form N last v) x)))
     (sides_even own last j xs rs)
     ∙ sym (length-append there (sides N last j xs rs)))))
 
@@ -206,7 +208,8 @@ module _ (own : List Name) (last d : ℕ) (D S : Name → Type 0) (held : Held o
       → AllByRecursion D (variables_of_all (map (expression_form (naming_by_text own) last) es))
   arguments_use [] h = tt
   arguments_use (e ∷ es) h =
-      each_both D (variables_of (expression_form (naming_by_text own) last e)) (variables_of_all (map (expression_form (naming_by_text own) last) es))
+      each_both D (variables_of (expression_form (naming_by_text own) last e))
+          (variables_of_all (map (expression_form (naming_by_text own) last) es))
       (expression_uses e (each_left S (variables_of e) (variables_of_all es) h))
       (arguments_use es (each_right S (variables_of e) (variables_of_all es) h))
 
@@ -237,7 +240,8 @@ module _ (own : List Name) (last d : ℕ) (D S : Name → Type 0) (held : Held o
   copies_held x h hidden j zero le = tt
   copies_held x h hidden j (suc m) le = (held.copied x h hidden j (omega arith), copies_held x h hidden (suc j) m (omega arith))
 
-  pub targets_held : (xs : List Name) (rs : List (RightSide Name)) → AllByRecursion S xs → AllByRecursion D (targets (naming_by_text own) last xs rs)
+  pub targets_held : (xs : List Name) (rs : List (RightSide Name)) → AllByRecursion S xs
+      → AllByRecursion D (targets (naming_by_text own) last xs rs)
   targets_held [] rs h = tt
   targets_held (x ∷ xs) [] h = tt
   targets_held (x ∷ xs) (r ∷ rs) h =
@@ -255,7 +259,8 @@ module _ (own : List Name) (last d : ℕ) (D S : Name → Type 0) (held : Held o
   sides_use j [] rs h g room = tt
   sides_use j (x ∷ xs) [] h g room = tt
   sides_use j (x ∷ xs) (any ∷ rs) h g room =
-      let here : List (RightSide Name) = map (copy_value (naming_by_text own) last (var (drawn_name j)) x) (all_rounds (naming_by_text own) last) in
+      let here : List (RightSide Name) =
+          map (copy_value (naming_by_text own) last (var (drawn_name j)) x) (all_rounds (naming_by_text own) last) in
       let Rest : ℕ → List (RightSide Name) = λ k. sides (naming_by_text own) last k xs rs in
       let drawn : ℕ = draws (naming_by_text own).is_shared xs rs in
       by_test (is_declared x.text own)
@@ -269,7 +274,9 @@ module _ (own : List Name) (last d : ℕ) (D S : Name → Type 0) (held : Held o
       (sides_both D here (Rest (suc j)) (row_uses (var (drawn_name j)) (held.drawn j (omega arith), tt) x h.0 e 0 (suc last) (omega arith))
       (sides_use (suc j) xs rs h.1 g (omega arith))))
   sides_use j (x ∷ xs) (value v ∷ rs) h g room =
-      let here : List (RightSide Name) = map (copy_value (naming_by_text own) last (expression_form (naming_by_text own) last v) x) (all_rounds (naming_by_text own) last) in
+      let here : List (RightSide Name) =
+          map (copy_value (naming_by_text own) last (expression_form (naming_by_text own) last v) x)
+          (all_rounds (naming_by_text own) last) in
       let others : List (RightSide Name) = sides (naming_by_text own) last j xs rs in
       let uses : AllByRecursion D (variables_of (expression_form (naming_by_text own) last v)) =
       expression_uses v (each_left S (variables_of v) (variables_of_sides rs) g) in
@@ -277,16 +284,23 @@ module _ (own : List Name) (last d : ℕ) (D S : Name → Type 0) (held : Held o
       sides_use j xs rs h.1 (each_right S (variables_of v) (variables_of_sides rs) g) room in
       by_test (is_declared x.text own)
       (λ e.
-      subst (λ c. AllByRecursion D (variables_of_sides (cond (not c) (here ++ others) (value (expression_form (naming_by_text own) last v) ∷ others))))
+      subst
+          (λ c.
+          AllByRecursion D
+          (variables_of_sides (cond (not c) (here ++ others) (value (expression_form (naming_by_text own) last v) ∷ others))))
       (sym e)
       (each_both D (variables_of (expression_form (naming_by_text own) last v)) (variables_of_sides others) uses rec))
       (λ e.
-      subst (λ c. AllByRecursion D (variables_of_sides (cond (not c) (here ++ others) (value (expression_form (naming_by_text own) last v) ∷ others))))
+      subst
+          (λ c.
+          AllByRecursion D
+          (variables_of_sides (cond (not c) (here ++ others) (value (expression_form (naming_by_text own) last v) ∷ others))))
       (sym e)
       (sides_both D here others (row_uses (expression_form (naming_by_text own) last v) uses x h.0 e 0 (suc last) (omega arith)) rec))
 
   -- what gets the value of a call
-  pub receiver_held : (x : Name) → S x → receiver_draws (naming_by_text own).is_shared (Some x) ≤ d → D (receiver (naming_by_text own) last x)
+  pub receiver_held : (x : Name) → S x → receiver_draws (naming_by_text own).is_shared (Some x) ≤ d
+      → D (receiver (naming_by_text own) last x)
   receiver_held x h room = by_test (is_declared x.text own)
       (λ e. subst (λ c. D (cond (not c) (drawn_name 0) x)) (sym e) (held.kept x h e))
       (λ e.

@@ -26,7 +26,8 @@ use Rattle.checked.proofs.Rewriting.{checked_rewritable}
 use Rattle.round_rewrite.specs.Table as table
 use Rattle.round_rewrite.specs.Table.{numbers, temporaries, raised, each, reset_targets, in_round, expression_form, side, targets, sides}
 use Rattle.round_rewrite.specs.Table.{draws, drawing, stop_test, prologue}
-use Rattle.round_rewrite.specs.Table.{receiver_draws, received, statement, rewritten, guess, guesses, starts, check, checks, main, copied, globals}
+use Rattle.round_rewrite.specs.Table.{receiver_draws, received, statement, rewritten, guess, guesses, starts, check, checks, main, copied}
+use Rattle.round_rewrite.specs.Table.{globals}
 use Rattle.round_rewrite.specs.Names as renamed
 use Rattle.round_rewrite.specs.Names.{bit_names, copy_name, save_name, drawn_name, naming_by_text, rewritten_procedure, main_procedure}
 use Rattle.round_rewrite.specs.Names.{rewritten_tree}
@@ -128,7 +129,8 @@ module _ (own : List Name) (last : ℕ) where
       landing_labels true = refl
       landing_labels false = refl
 
-  pub labels_kept : (b : Block Name Name Name) → labels_of (statements_of (rewritten (naming_by_text own) last b)) ≡ labels_of (statements_of b)
+  pub labels_kept : (b : Block Name Name Name)
+      → labels_of (statements_of (rewritten (naming_by_text own) last b)) ≡ labels_of (statements_of b)
   labels_kept done = refl
   labels_kept (one m c k) = ap (λ l. label_of m.label ++ l) (statement_labels c (rewritten (naming_by_text own) last k) ∙ labels_kept k)
   labels_kept (choose m r a b k) =
@@ -136,13 +138,16 @@ module _ (own : List Name) (last : ℕ) where
       (labels_both (statements_of (rewritten (naming_by_text own) last a)) (statements_of a)
       (statements_of (rewritten (naming_by_text own) last b) ++ statements_of (rewritten (naming_by_text own) last k))
       (statements_of b ++ statements_of k) (labels_kept a)
-      (labels_both (statements_of (rewritten (naming_by_text own) last b)) (statements_of b) (statements_of (rewritten (naming_by_text own) last k))
+      (labels_both (statements_of (rewritten (naming_by_text own) last b)) (statements_of b)
+          (statements_of (rewritten (naming_by_text own) last k))
       (statements_of k) (labels_kept b) (labels_kept k)))
   labels_kept (loop m r a k) =
       ap (λ l. label_of m.label ++ l)
-      (labels_both (statements_of (join (rewritten (naming_by_text own) last a) (prologue (naming_by_text own) last table.no_mark done))) (statements_of a)
+      (labels_both (statements_of (join (rewritten (naming_by_text own) last a) (prologue (naming_by_text own) last table.no_mark done)))
+          (statements_of a)
       (statements_of (rewritten (naming_by_text own) last k)) (statements_of k)
-      (labels_join (rewritten (naming_by_text own) last a) (prologue (naming_by_text own) last table.no_mark done) refl ∙ labels_kept a) (labels_kept k))
+      (labels_join (rewritten (naming_by_text own) last a) (prologue (naming_by_text own) last table.no_mark done) refl ∙ labels_kept a)
+          (labels_kept k))
 
 -- the procedure of a name, rewritten
 named_rewritten : (last : ℕ) (x : List ℕ) (ps : List Procedure)
@@ -439,7 +444,8 @@ module _ (t : Tree) (last : ℕ) (ok : IsChecked t) (small : last < most_rounds)
         let inside : AllByRecursion W (statements_of b ++ statements_of k) =
         each_right W (statements_of a) (statements_of b ++ statements_of k) h.1 in
         prologue_works m
-        (choose table.no_mark (side (naming_by_text own) last r) (rewritten (naming_by_text own) last a) (rewritten (naming_by_text own) last b)
+        (choose table.no_mark (side (naming_by_text own) last r) (rewritten (naming_by_text own) last a)
+            (rewritten (naming_by_text own) last b)
         (rewritten (naming_by_text own) last k)) (
           test_works p' (side (naming_by_text own) last r)
               (side_uses own last drawn (In p') Known held r (each_left _ (variables_of_side r) [] h.0.variables)),
@@ -454,14 +460,16 @@ module _ (t : Tree) (last : ℕ) (ok : IsChecked t) (small : last < most_rounds)
     block_works (loop m r a k) h room =
         let W : Statement → Type 0 = λ s. Was s.head in
         prologue_works m
-        (loop table.no_mark (side (naming_by_text own) last r) (join (rewritten (naming_by_text own) last a) (prologue (naming_by_text own) last table.no_mark done))
+        (loop table.no_mark (side (naming_by_text own) last r)
+            (join (rewritten (naming_by_text own) last a) (prologue (naming_by_text own) last table.no_mark done))
         (rewritten (naming_by_text own) last k)) (
           test_works p' (side (naming_by_text own) last r)
               (side_uses own last drawn (In p') Known held r (each_left _ (variables_of_side r) [] h.0.variables)),
           each_both (λ (s : Statement). Works t' p' s.head)
               (statements_of (join (rewritten (naming_by_text own) last a) (prologue (naming_by_text own) last table.no_mark done)))
               (statements_of (rewritten (naming_by_text own) last k))
-              (each_join (λ (s : Statement). Works t' p' s.head) (rewritten (naming_by_text own) last a) (prologue (naming_by_text own) last table.no_mark done)
+              (each_join (λ (s : Statement). Works t' p' s.head) (rewritten (naming_by_text own) last a)
+                  (prologue (naming_by_text own) last table.no_mark done)
               (block_works a (each_left W (statements_of a) (statements_of k) h.1) (omega arith)) (prologue_works table.no_mark done tt))
               (block_works k (each_right W (statements_of a) (statements_of k) h.1) (omega arith)),
         )
@@ -542,7 +550,8 @@ module _ (t : Tree) (last : ℕ) (ok : IsChecked t) (small : last < most_rounds)
       → Work first (statements_of (checks (naming_by_text []) last xs (numbers k m) b))
   checks_work xs k zero b le g h = h
   checks_work xs k (suc m) b le g h =
-      check_works xs k (checks (naming_by_text []) last xs (numbers (suc k) m) b) (omega arith) g (checks_work xs (suc k) m b (omega arith) g h)
+      check_works xs k (checks (naming_by_text []) last xs (numbers (suc k) m) b) (omega arith) g
+          (checks_work xs (suc k) m b (omega arith) g h)
 
   main_works : AllByRecursion (λ (s : Statement). Works t' first s.head) (statements_of first.body)
   main_works =
