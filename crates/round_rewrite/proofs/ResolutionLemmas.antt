@@ -16,7 +16,7 @@ use Rattle.round_rewrite.specs.Table.{sides, draws, receiver_draws, temporaries,
 use Rattle.round_rewrite.specs.Table.{statement}
 use Rattle.round_rewrite.specs.Table.{rewritten, draws_of}
 use Rattle.round_rewrite.specs.Places.{places, is_global, copy_at, stop_at, bad_at}
-use Rattle.round_rewrite.specs.Names.{fresh_name, copy_name, drawn_name, naming_by_text}
+use Rattle.round_rewrite.specs.Names.{fresh_name, copy_name, drawn_name, spelling}
 use Rattle.checked.specs.Rewritable.{Declared, AllDeclared, ExpressionDeclared, ExpressionsDeclared, SideDeclared, SidesDeclared}
 use Rattle.checked.specs.Rewritable.{SimpleDeclared, BlockDeclared}
 use Rattle.round_rewrite.proofs.RoundBitLemmas.{map-reversed}
@@ -77,7 +77,7 @@ module _ (t : Tree) (vocabulary : Vocabulary) (ps' : List Name)
   s' = wider vocabulary ps'
 
   abbrev pub N : Naming Name Name Name Name
-  N = naming_by_text own
+  N = spelling own
 
   abbrev pub P : Naming Place Place ℕ ℕ
   P = places (length gs) last (length own)
