@@ -4,7 +4,7 @@ use Rattle.std.proofs.lemmas.Bool.{cases_lt}
 use Rattle.refusals.specs.declared.refusal.Refusal.{Refusal}
 use Rattle.cli.specs.Replies.{Refuses, Replies}
 use Rattle.cli.specs.Served.{IsReply}
-use Rattle.cli.specs.SummaryFor.{IsMessage}
+use Rattle.cli.specs.Told.{IsMessage}
 use Rattle.cli.specs.Written.{bytes_of}
 use Rattle.orders.specs.declared.order.Order.{Order}
 use Rattle.cli.specs.declared.reply.Reply.{Reply}

@@ -6,7 +6,7 @@ pub mod Verdict
 pub mod Refused
 pub mod Replies
 pub mod Streams
-pub mod SummaryFor
+pub mod Told
 pub mod Served
 pub mod Ran
 pub mod Ended

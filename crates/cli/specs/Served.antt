@@ -10,7 +10,7 @@ use Rattle.cli.specs.Refused.{RefusalStands}
 use Rattle.cli.specs.Replies.{Replies}
 use Rattle.orders.specs.Parts.{edges_of, rounds_of}
 use Rattle.cli.specs.Streams.{Said, Says, Stays, Streams, StreamTakes}
-use Rattle.cli.specs.SummaryFor.{IsExplanation, IsReason}
+use Rattle.cli.specs.Told.{IsExplanation, IsReason}
 use Rattle.orders.specs.declared.order.Order.{Order}
 use Rattle.refusals.specs.declared.refusal.Refusal.{Refusal}
 

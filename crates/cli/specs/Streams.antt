@@ -1,7 +1,7 @@
 -- What a stream that is written to holds, and what it takes.
 use Rattle.std.specs.Prelude.{◌≡◌, ◌⊎◌, ◌<◌, ℕ, Bool, true, false, IsTrue, List, [], Option, codes, length, take}
 use Rattle.std.specs.Io.KnownBytes.{Appends}
-use Rattle.cli.specs.SummaryFor.{IsReason}
+use Rattle.cli.specs.Told.{IsReason}
 
 -- what is known of a stream: the bytes that it holds, if they are known, and whether a write to it may have failed
 pub record KnownStream : Type 0 where

@@ -3,7 +3,7 @@
 ghost use Rattle.std.specs.Prelude.{ℕ, IfOk, List};
 ghost use Rattle.std.specs.String.{string_bytes};
 ghost use Rattle.cli.specs.Streams.{Logs, Writes, streams};
-ghost use Rattle.cli.specs.SummaryFor.{IsReason};
+ghost use Rattle.cli.specs.Told.{IsReason};
 
 use crate::sink::Stream;
 use diagnostics::push_escaped;

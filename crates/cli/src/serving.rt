@@ -4,7 +4,7 @@ ghost use Rattle.std.specs.Prelude.{◌≤◌, ℕ, List, []};
 ghost use Rattle.std.specs.IoError.{error_kind};
 ghost use Rattle.cli.specs.Served.{Answered, Serves, TellsUnread, without_memory};
 ghost use Rattle.cli.specs.Streams.{KnownStream, Logs, Says, streams};
-ghost use Rattle.cli.specs.SummaryFor.{IsMessage};
+ghost use Rattle.cli.specs.Told.{IsMessage};
 
 use crate::answers::answer;
 use crate::saying::{say, tell, tell_reason};

@@ -11,7 +11,7 @@ use syntax::read;
 /// What is asked: a program, for how many rounds, with how many path edges a procedure at most, and what the workers
 /// have.
 #[derive(Drop)]
-pub struct EntryFor {
+pub struct Asked {
     pub program: Checked<Global>,
     pub rounds: Rounds,
     pub limit: EdgeLimit,
@@ -32,13 +32,13 @@ pub struct Parts {
 pub struct Trial<'a, R> {
     pub rt: &'a R,
     pub alloc: Global,
-    pub asked: &'a EntryFor,
+    pub asked: &'a Asked,
 }
 
 /// What two numbers and a text ask; nothing if the text is not a program, or a number is past its limit.
-pub fn read_case(alloc: Global, parts: Parts, numbers: &str, text: &str) -> Option<EntryFor> {
+pub fn read_case(alloc: Global, parts: Parts, numbers: &str, text: &str) -> Option<Asked> {
     let (rounds, edges) = numbers.split_once(' ')?;
-    Some(EntryFor {
+    Some(Asked {
         program: checked(alloc, text)?,
         rounds: Rounds::new(rounds.parse::<u8>().ok()?)?,
         limit: EdgeLimit::new(edges.parse::<u32>().ok()?)?,
@@ -54,7 +54,7 @@ fn checked<A: Allocator + Copy>(alloc: A, text: &str) -> Option<Checked<A>> {
 /// What one thread tabulates.
 pub fn on_one_thread<A: Allocator + Copy, S: PathSet<A>>(
     alloc: A,
-    asked: &EntryFor,
+    asked: &Asked,
 ) -> Result<Summaries<A>, NoVerdict> {
     tabulate_rounds::<S, A, Global>(alloc, &asked.program, asked.rounds, asked.limit)
 }

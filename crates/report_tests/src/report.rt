@@ -1,6 +1,6 @@
 //! The results of workers, as text.
 
-use crate::program::{EntryFor, Parts, Trial, on_one_thread};
+use crate::program::{Asked, Parts, Trial, on_one_thread};
 use flow_graph::Graphs;
 use gather::{Answer, Report, check_rounds, check_rounds_with};
 use path_sets::{DiagramEdges, OrderedEdges};
@@ -15,7 +15,7 @@ use switchboard::{LockPerBox, OneLock};
 fn report_of<R, K, A>(
     rt: &R,
     alloc: A,
-    asked: &EntryFor,
+    asked: &Asked,
     parts: Parts,
     gate: &K,
 ) -> Result<Report<A, A>, NoVerdict>
@@ -101,7 +101,7 @@ fn write_report<A: Allocator>(
 pub fn answer<R: Wait + Threads + Sync, A: Allocator + Copy + Send + Sync>(
     rt: &R,
     alloc: A,
-    asked: &EntryFor,
+    asked: &Asked,
 ) -> Result<Answer, NoVerdict> {
     let report = report_of(rt, alloc, asked, asked.parts, &Open)?;
     Ok(report.answer)

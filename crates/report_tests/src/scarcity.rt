@@ -1,6 +1,6 @@
 //! The results of workers if memory is refused.
 
-use crate::program::{EntryFor, Trial};
+use crate::program::{Asked, Trial};
 use crate::report::answer;
 use gather::Answer;
 use scarce::Scarce;
@@ -20,7 +20,7 @@ enum Came {
 }
 
 /// One run, whose allocation of a number is refused.
-fn run<R: Wait + Threads + Sync>(rt: &R, alloc: Global, asked: &EntryFor, nth: u64) -> Came {
+fn run<R: Wait + Threads + Sync>(rt: &R, alloc: Global, asked: &Asked, nth: u64) -> Came {
     let scarce = Scarce::refusing(alloc, nth);
     let came = answer(rt, &scarce, asked);
     match (scarce.refused(), came) {
