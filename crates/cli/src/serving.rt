@@ -26,6 +26,8 @@ fn tell_why<X: Alloc, L: Stream>(
     refusal: &Option<Refusal>,
     log: &mut L,
 )
+where
+    X::A: Copy,
     ensures { (message : List ℕ) × IsMessage path.now text.now order refusal.now message
         × Logs (L.held log.old) (L.held log.new) message }
 {

@@ -2,7 +2,7 @@
 use Rattle.std.proofs.Common.{◌≡◌, ◌++◌, ℕ, List, Result, Ok, Err}
 use Rattle.std.specs.Prelude.{OnOk}
 use Rattle.diagnostics.specs.Position.{IsPosition}
-use Rattle.diagnostics.specs.Message.{Locates, caret_line, head, source_line}
+use Rattle.diagnostics.specs.Message.{Locates, WritesPlace, caret_line, head, place_of, source_line}
 
 pub located : {T E : Type 0} (r : Result T E) (path text : List ℕ) (at line column : ℕ) (before behind : List ℕ)
     (told : List ℕ → List ℕ) (old new : List ℕ) → IsPosition text at line column before behind
@@ -11,3 +11,11 @@ pub located : {T E : Type 0} (r : Result T E) (path text : List ℕ) (at line co
 located (Ok _) path text at line column before behind told old new place message =
     record { line = line; column = column; before = before; behind = behind; place = place; message = message }
 located (Err _) path text at line column before behind told old new place message = tt
+
+-- so does its line and its column alone
+pub placed : {T E : Type 0} (r : Result T E) (text : List ℕ) (at line column : ℕ) (before behind old new : List ℕ)
+    → IsPosition text at line column before behind → OnOk r (new ≡ old ++ place_of line column)
+    → OnOk r (WritesPlace text at old new)
+placed (Ok _) text at line column before behind old new place message =
+    record { line = line; column = column; before = before; behind = behind; place = place; message = message }
+placed (Err _) text at line column before behind old new place message = tt

@@ -10,9 +10,22 @@ use Rattle.diagnostics.specs.Position.{IsPosition}
 use Rattle.diagnostics.specs.declared.message.Wrong.{Wrong}
 use Rattle.diagnostics.specs.declared.message.Wrong.TheVariants.{Edges, NotAscii, Unexpected, Wide, Word}
 
--- the beginning of a message about a place: `FILE:LINE:COLUMN: `
+-- the line and the column of a place: `LINE:COLUMN`
+abbrev pub place_of : ℕ → ℕ → List ℕ
+place_of line column = decimal line ++ (codes ":" ++ decimal column)
+
+-- The message is the old one, and the line and the column of the offset.
+pub record WritesPlace (text : List ℕ) (at : ℕ) (old new : List ℕ) : Type 0 where
+  pub line : ℕ
+  pub column : ℕ
+  pub before : List ℕ
+  pub behind : List ℕ
+  pub place : IsPosition text at line column before behind
+  pub message : new ≡ old ++ place_of line column
+
+-- the beginning of a message about a place: `FILE:LINE:COLUMN: error: `
 abbrev pub head : List ℕ → ℕ → ℕ → List ℕ
-head path line column = escaped path ++ (codes ":" ++ (decimal line ++ (codes ":" ++ (decimal column ++ codes ": "))))
+head path line column = escaped path ++ (codes ":" ++ (decimal line ++ (codes ":" ++ (decimal column ++ codes ": error: "))))
 
 -- how a byte of a text is shown: a tab and what is printable stay, a carriage return is a blank, and another byte is a
 -- question mark
@@ -112,7 +125,7 @@ first_foreign text = position (λ byte. nat_le 128 byte) text
 
 -- the line for a text of which no byte is named
 abbrev pub some_foreign : List ℕ → List ℕ
-some_foreign path = escaped path ++ codes ": a byte is not ASCII\n"
+some_foreign path = escaped path ++ codes ": error: a byte is not ASCII\n"
 
 -- The message is about the first byte that is not ASCII; if every byte is ASCII, it has no place.
 abbrev pub LocatesForeign : List ℕ → List ℕ → List ℕ → List ℕ → Type 0

@@ -186,7 +186,22 @@ fn push_caret<A: Allocator>(message: &mut String<A>, before: &[u8]) -> Result<()
     push(message, "^\n")
 }
 
-/// Writes where a place is: `FILE:LINE:COLUMN: `.
+/// Writes the line and the column of an offset of a text: `LINE:COLUMN`. An offset past the text counts as its end.
+pub fn push_place<A: Allocator>(
+    message: &mut String<A>,
+    text: &[u8],
+    at: usize,
+) -> Result<(), AllocError>
+    ensures { OnOk result (told.WritesPlace text.now (min (length text.now) at)
+        (string_bytes message.old) (string_bytes message.new)) }
+{
+    let place = position_of(text, text.len().min(at));
+    let line = place.line;
+    let column = place.column;
+    write!(message, "{line}:{column}")
+}
+
+/// Writes where a place is: `FILE:LINE:COLUMN: error: `.
 fn push_head<A: Allocator>(
     message: &mut String<A>,
     path: &str,
@@ -198,7 +213,7 @@ fn push_head<A: Allocator>(
     push_escaped(message, path)?;
     let line = place.line;
     let column = place.column;
-    write!(message, ":{line}:{column}: ")
+    write!(message, ":{line}:{column}: error: ")
 }
 
 /// Writes how many places a procedure needs, and how many it may have.
@@ -340,7 +355,7 @@ fn push_some_foreign<A: Allocator>(message: &mut String<A>, path: &str) -> Resul
         (string_bytes message.new ≡ string_bytes message.old ++ told.some_foreign path.now) }
 {
     push_escaped(message, path)?;
-    push(message, ": a byte is not ASCII\n")
+    push(message, ": error: a byte is not ASCII\n")
 }
 
 /// Writes that a byte of the text is not ASCII, and where the first one is.

@@ -41,8 +41,8 @@ fn push_written<A: Allocator>(message: &mut String<A>, character: char) -> Resul
 }
 
 /// Writes the name of a file. A control character in it is written as an escape: `\t`, `\n`, `\r`, or `\x` and its code
-/// in two hexadecimal digits. So a name neither ends a line of the message nor moves the cursor of a terminal. All other
-/// characters are written as they are, a backslash too.
+/// in two hexadecimal digits. So a name neither ends a line of the message nor moves the cursor of a terminal. All
+/// other characters are written as they are, a backslash too.
 pub fn push_escaped<A: Allocator>(message: &mut String<A>, name: &str) -> Result<(), AllocError>
     ensures { OnOk result
         (string_bytes message.new ≡ string_bytes message.old ++ escaped name.now) }

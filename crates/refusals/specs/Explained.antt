@@ -1,6 +1,7 @@
 -- What standard error says about a refusal.
-use Rattle.std.specs.Prelude.{◌≡◌, ℕ, Bool, ◌||◌, ◌==◌, List, [], ◌++◌, Option, Some, None, MatchOption}
-use Rattle.std.specs.Prelude.{bytes_eq, codes, drop, if◌then◌else◌, length, min, nat_lt}
+use Rattle.std.specs.Prelude.{◌≡◌, Bool, true, false, MatchBool, ℕ, ◌*◌, ◌-◌, ◌||◌, ◌==◌, List, [], ◌∷◌, ◌++◌, Option, MatchOption}
+use Rattle.std.specs.Prelude.{codes, if◌then◌else◌, length, min, nat_eq, nat_lt}
+use Rattle.std.specs.List.{starts_with}
 use Rattle.std.specs.Fmt.{decimal}
 use Rattle.syntax.specs.declared.fault.ReadFault.{ReadFault}
 use Rattle.syntax.specs.declared.fault.ReadFault.TheVariants as read
@@ -8,7 +9,7 @@ use Rattle.checked.specs.declared.fault.ScopeFault.{ScopeFault}
 use Rattle.checked.specs.declared.fault.ScopeFault.TheVariants as scope
 use Rattle.resolved.specs.Limits.{most_places}
 use Rattle.diagnostics.specs.Name.{escaped}
-use Rattle.diagnostics.specs.Message.{Locates, LocatesForeign, exceeds, first_word, needs, of_name, unexpected}
+use Rattle.diagnostics.specs.Message.{Locates, LocatesForeign, exceeds, needs, of_name, unexpected}
 use Rattle.path_sets.specs.EdgeLimits.{most_of}
 use Rattle.path_sets.specs.Limits.{most_edges}
 use Rattle.round_rewrite.specs.Programs.{count_of}
@@ -16,36 +17,13 @@ use Rattle.tokens.specs.Limits.{most_bytes}
 use Rattle.orders.specs.Parts.{rounds_of}
 use Rattle.orders.specs.declared.order.Order.{Order}
 use Rattle.orders.specs.declared.order.Order.TheVariants.{Check, Sequential}
-use Rattle.refusals.specs.Hints.{AddsHint}
+use Rattle.checked.specs.Checked.{offset}
+use Rattle.fault_details.specs.Details.{CountsThreads, Says}
+use Rattle.hints.specs.Hint.{AddsHint}
+use Rattle.refusals.specs.declared.explanation.TheConstants.{ALL_ASCII, FEWER, FEWER_END, HIGHER, MARKED, NO_HIGHER, ONE_ROUND}
+use Rattle.refusals.specs.declared.explanation.TheConstants.{PLACES, PLACES_END, WIDE_CHARACTERS}
 use Rattle.refusals.specs.declared.refusal.Refusal.{Refusal}
 use Rattle.refusals.specs.declared.refusal.Refusal.TheVariants.{Unread, Unchecked, TooWide, EdgeLimit, Memory, NoWorker, Spent}
-
--- The word is a constant in other languages.
-abbrev pub is_constant : List ℕ → Bool
-is_constant word =
-    bytes_eq word (codes "true") || bytes_eq word (codes "false") || bytes_eq word (codes "T") || bytes_eq word (codes "F")
-
--- what the message says about the name at an offset, which is not declared
-abbrev pub undeclared : List ℕ → ℕ → List ℕ
-undeclared text at =
-    if is_constant (first_word (drop (min (length text) at) text))
-    then codes " is not declared; the constants are `0` and `1`\n"
-    else codes " is not declared\n"
-
--- the offset of a fault of scopes, and what the message says about the name there; lack of memory has no place
-abbrev pub scope_told : List ℕ → ScopeFault → Option (ℕ × List ℕ)
-scope_told text (scope.Undeclared at) = Some (at, undeclared text at)
-scope_told text (scope.DeclaredTwice at) =
-    Some (at, codes " is declared a second time, or assigned twice by one statement\n")
-scope_told text (scope.WrongCount at) =
-    Some (at, codes ": targets and right sides, or arguments and formals, differ in number\n")
-scope_told text (scope.BadThread at) = Some (at, codes " is not a procedure without formals\n")
-scope_told text (scope.BadLabel at) = Some (at, codes " is not a label of this procedure, or labels a second statement\n")
-scope_told text (scope.Reserved at) =
-    Some (at, codes " has two underscores in a row, which only the rewriting may write\n")
-scope_told text (scope.TooMany at) =
-    Some (at, codes " is past the limit of 31 procedures, 8 threads and 1000 statements\n")
-scope_told text scope.Memory = None
 
 -- the line for lack of memory
 abbrev pub no_memory : List ℕ
@@ -53,41 +31,41 @@ no_memory = codes "bebopk: out of memory\n"
 
 -- the line for a text that is too long
 abbrev pub long_line : List ℕ → List ℕ
-long_line path = escaped path ++ (codes ": the text has more than " ++ (decimal most_bytes ++ codes " bytes\n"))
+long_line path = escaped path ++ (codes ": error: the text has more than " ++ (decimal most_bytes ++ codes " bytes\n"))
+
+-- the hint for a text with a byte that is not ASCII: at its beginning a byte-order mark, or one of UTF-16, or none
+abbrev pub ascii_hint : List ℕ → List ℕ
+ascii_hint text =
+    if starts_with nat_eq text (239 ∷ 187 ∷ 191 ∷ []) then MARKED.now
+    else if starts_with nat_eq text (255 ∷ 254 ∷ []) || starts_with nat_eq text (254 ∷ 255 ∷ []) then WIDE_CHARACTERS.now
+    else ALL_ASCII.now
 
 -- Why a text is not read is said at a place in it, or in a line about the file.
 abbrev pub ExplainsUnread : List ℕ → List ℕ → ReadFault → List ℕ → List ℕ → Type 0
 ExplainsUnread path text read.TooLong old new = new ≡ old ++ long_line path
-ExplainsUnread path text read.NotAscii old new = LocatesForeign path text old new
+ExplainsUnread path text read.NotAscii old new =
+    (located : List ℕ) × LocatesForeign path text old located × (new ≡ located ++ ascii_hint text)
 ExplainsUnread path text (read.Syntax at) old new =
     (located : List ℕ) × Locates path text (min (length text) at) unexpected old located
     × AddsHint text (min (length text) at) located new
 ExplainsUnread path text read.TooDeep old new = new ≡ old ++ (escaped path
-    ++ codes ": more than 64 of `(`, `begin`, `if` and `while` are open at once, or more than 64 operators are in one run\n")
+    ++ codes ": error: more than 64 of `(`, `begin`, `if` and `while` are open at once, or more than 64 operators are in one run\n")
 ExplainsUnread path text read.Memory old new = new ≡ old ++ no_memory
 
--- the hint about the rounds of a check that was too large; empty for one round
-abbrev pub one_round : ℕ → List ℕ
-one_round rounds = if nat_lt 1 rounds then codes "hint: one round is enough for one thread\n" else []
+-- the hint about the rounds of a check that was too large: with one thread one is enough, with several fewer may be
+abbrev pub fewer : ℕ → ℕ → List ℕ
+fewer rounds threads =
+    if nat_lt rounds 2 then [] else if nat_lt threads 2 then ONE_ROUND.now
+    else FEWER.now ++ (decimal rounds ++ FEWER_END.now)
 
--- what helps if the highest limit of path edges was passed
-abbrev pub no_higher : ℕ → List ℕ
-no_higher rounds =
-    codes "hint: no limit is higher; use fewer rounds, fewer bits for a counter, locals in place of globals, or one property at a time\n"
-    ++ one_round rounds
-
--- what helps if another limit was passed
-abbrev pub higher : ℕ → List ℕ
-higher rounds = codes "hint: --edges N raises the limit, up to " ++ (decimal most_edges ++ (codes "\n" ++ one_round rounds))
-
--- what helps if this limit was passed
-abbrev pub ways_out : ℕ → ℕ → List ℕ
-ways_out rounds most = if most == most_edges then no_higher rounds else higher rounds
+-- what helps if this limit of path edges was passed
+abbrev pub ways_out : ℕ → List ℕ
+ways_out most = if most == most_edges then NO_HIGHER.now else HIGHER.now ++ (decimal most_edges ++ codes "\n")
 
 -- the line about `main__`, which has no place, and has more path edges than this
 abbrev pub main_line : List ℕ → ℕ → List ℕ
 main_line path most =
-    escaped path ++ (codes ": `main__`, which calls the threads, has more than " ++ (decimal most ++ codes " path edges\n"))
+    escaped path ++ (codes ": error: `main__`, which calls the threads, has more than " ++ (decimal most ++ codes " path edges\n"))
 
 -- Which procedure has more path edges than this is said at its name, or in the line about `main__`.
 abbrev pub TellsOver : List ℕ → List ℕ → Option ℕ → ℕ → List ℕ → List ℕ → Type 0
@@ -95,33 +73,58 @@ TellsOver path text at most old new =
     MatchOption at (new ≡ old ++ main_line path most)
     (λ o. Locates path text (min (length text) o) (of_name (exceeds most)) old new)
 
+-- It is said which procedure has more path edges than this, and then what helps.
+abbrev pub ExplainsOver : List ℕ → List ℕ → Option ℕ → ℕ → ℕ → List ℕ → List ℕ → Type 0
+ExplainsOver path text at rounds most old new =
+    (told : List ℕ) × TellsOver path text at most old told
+    × ((threads : ℕ) × CountsThreads text threads × (new ≡ (told ++ ways_out most) ++ fewer rounds threads))
+
 -- For a passed limit of path edges it is said which procedure passed it, and then what helps; nothing for an order
 -- without such a limit.
 abbrev pub ExplainsLimit : List ℕ → List ℕ → Option ℕ → Order → List ℕ → List ℕ → Type 0
 ExplainsLimit path text at (Check rounds edges stats) old new =
-    (told : List ℕ) × TellsOver path text at (most_of edges) old told
-    × (new ≡ told ++ ways_out (count_of rounds) (most_of edges))
+    ExplainsOver path text at (count_of rounds) (most_of edges) old new
 ExplainsLimit path text at (Sequential rounds) old new = new ≡ old
 
 -- the line for a program that is too wide in some procedure
 abbrev pub wide_line : List ℕ → ℕ → List ℕ
 wide_line path rounds =
-    escaped path ++ (codes ": some procedure needs more than " ++ (decimal most_places
+    escaped path ++ (codes ": error: some procedure needs more than " ++ (decimal most_places
     ++ (codes " places with --rounds " ++ (decimal rounds ++ codes "\n"))))
+
+-- what a place is, and how many of them a global takes
+abbrev pub places_line : ℕ → List ℕ
+places_line rounds = PLACES.now ++ (decimal (rounds * 2 - 1) ++ PLACES_END.now)
+
+-- The fault is that memory ran out.
+abbrev pub is_memory : ScopeFault → Bool
+is_memory scope.Memory = true
+is_memory fault = false
+
+-- What is said of a fault of scopes is said at its place.
+abbrev pub LocatesFault : List ℕ → List ℕ → ScopeFault → List ℕ → List ℕ → Type 0
+LocatesFault path text fault old new =
+    (words : List ℕ) × Says text fault words
+    × Locates path text (min (length text) (offset fault)) (of_name words) old new
+
+-- Why a program is not checked is said at a place in it, unless memory ran out.
+abbrev pub ExplainsFault : List ℕ → List ℕ → ScopeFault → List ℕ → List ℕ → Type 0
+ExplainsFault path text fault old new =
+    MatchBool (is_memory fault) (new ≡ old ++ no_memory) (LocatesFault path text fault old new)
 
 -- The message continues the old one with what is said about the refusal: at a place, which is the text's end if the
 -- offset is past it, or in a line about the file.
 abbrev pub Explains : List ℕ → List ℕ → Order → Refusal → List ℕ → List ℕ → Type 0
 Explains path text order (Unread fault) old new = ExplainsUnread path text fault old new
-Explains path text order (Unchecked fault) old new =
-    MatchOption (scope_told text fault) (new ≡ old ++ no_memory)
-    (λ t. Locates path text (min (length text) t.0) (of_name t.1) old new)
+Explains path text order (Unchecked fault) old new = ExplainsFault path text fault old new
 Explains path text order (TooWide wide) old new =
     MatchOption wide (new ≡ old ++ wide_line path (rounds_of order))
-    (λ w. Locates path text (min (length text) w.at) (of_name (needs w.places (rounds_of order) most_places)) old new)
+    (λ w. (located : List ℕ)
+    × Locates path text (min (length text) w.at) (of_name (needs w.places (rounds_of order) most_places)) old located
+    × (new ≡ located ++ places_line (rounds_of order)))
 Explains path text order (EdgeLimit at) old new = ExplainsLimit path text at order old new
 Explains path text order Memory old new = new ≡ old ++ no_memory
 Explains path text order NoWorker old new =
-    new ≡ old ++ (escaped path ++ codes ": the system refused a thread for a procedure\n")
+    new ≡ old ++ (escaped path ++ codes ": error: the system refused a thread for a procedure\n")
 Explains path text order Spent old new =
-    new ≡ old ++ (escaped path ++ codes ": the worker of a procedure has used up its calls\n")
+    new ≡ old ++ (escaped path ++ codes ": error: the worker of a procedure has used up its calls\n")

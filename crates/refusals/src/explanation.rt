@@ -1,17 +1,20 @@
 //! What standard error says about a refusal.
 
-ghost use Rattle.std.specs.Prelude.{◌≡◌, ◌++◌, OnOk, option_map};
+ghost use Rattle.std.specs.Prelude.{◌≡◌, ◌++◌, OnOk};
 ghost use Rattle.std.specs.String.{string_bytes};
-ghost use Rattle.refusals.specs.Explained.{Explains, ExplainsLimit, ExplainsUnread, TellsOver, no_memory};
+ghost use Rattle.refusals.specs.Explained.{Explains, ExplainsFault, ExplainsLimit, ExplainsOver};
+ghost use Rattle.refusals.specs.Explained.{LocatesFault};
+ghost use Rattle.refusals.specs.Explained.{ExplainsUnread, TellsOver, ascii_hint, fewer, is_memory};
+ghost use Rattle.refusals.specs.Explained.{no_memory};
 ghost use Rattle.diagnostics.specs.Name.{escaped};
 ghost use Rattle.orders.specs.Parts.{rounds_of};
-ghost use Rattle.refusals.specs.Explained.{is_constant, one_round, scope_told, undeclared};
-ghost use Rattle.refusals.specs.Explained.{long_line, main_line, ways_out, wide_line};
+ghost use Rattle.refusals.specs.Explained.{long_line, main_line, places_line, ways_out, wide_line};
 ghost use Rattle.refusals.specs.declared.refusal.Refusal.TheVariants.{TooWide};
 
-use crate::hints::{is, push_hint, rest_of};
 use crate::refusal::Refusal;
-use diagnostics::{Wrong, at_offset, first_word, not_ascii, push_escaped};
+use diagnostics::{Wrong, at_offset, not_ascii, push_escaped};
+use fault_details::{threads_in, words_of};
+use hints::push_hint;
 use orders::Order;
 use path_sets::MOST_EDGES;
 use resolved::MOST_PLACES;
@@ -26,7 +29,32 @@ pub const NO_MEMORY: &str = "bebopk: out of memory\n";
 
 /// What helps if the highest limit of path edges was passed.
 const NO_HIGHER: &str =
-    "hint: no limit is higher; use fewer rounds, fewer bits for a counter, locals in place of globals, or one property at a time\n";
+    "hint: no limit is higher; use fewer bits for a counter, locals in place of globals, or one property at a time\n";
+
+/// What helps if another limit of path edges was passed; the highest limit follows.
+const HIGHER: &str = "hint: --edges N raises the limit, up to ";
+
+/// What helps if a program of one thread is checked for more rounds.
+const ONE_ROUND: &str = "hint: one round is enough for one thread\n";
+
+/// What helps if a program of several threads is checked for more than one round; the rounds come between.
+const FEWER: &str = "hint: fewer rounds than ";
+
+const FEWER_END: &str =
+    " may answer, and another order of the thread lines may need fewer rounds\n";
+
+/// What is said of places, before and after how many each global takes.
+const PLACES: &str = "hint: a place is a variable of the sequential program: each global takes ";
+
+const PLACES_END: &str = ", and each formal, local and temporary takes one\n";
+
+/// What is said of bytes that are not ASCII: at the beginning of a text with a byte-order mark, of one in UTF-16,
+/// elsewhere.
+const MARKED: &str = "hint: the text begins with a byte-order mark: save it without one\n";
+
+const WIDE_CHARACTERS: &str = "hint: the text looks like UTF-16: save it as ASCII\n";
+
+const ALL_ASCII: &str = "hint: each byte of a text is ASCII, in comments too\n";
 
 /// Writes that memory ran out.
 fn push_no_memory<A: Allocator>(message: &mut String<A>) -> Result<(), AllocError>
@@ -54,7 +82,23 @@ fn push_too_long<A: Allocator>(message: &mut String<A>, path: &str) -> Result<()
         (string_bytes message.new ≡ string_bytes message.old ++ long_line path.now) }
 {
     push_escaped(message, path)?;
-    write!(message, ": the text has more than {MOST_BYTES} bytes\n")
+    write!(
+        message,
+        ": error: the text has more than {MOST_BYTES} bytes\n"
+    )
+}
+
+/// The hint for a text with a byte that is not ASCII.
+fn ascii_hint(text: &[u8]) -> &'static str
+    ensures { result.now ≡ ascii_hint text.now }
+{
+    if text.starts_with(&[0xef, 0xbb, 0xbf]) {
+        MARKED
+    } else if text.starts_with(&[0xff, 0xfe]) || text.starts_with(&[0xfe, 0xff]) {
+        WIDE_CHARACTERS
+    } else {
+        ALL_ASCII
+    }
 }
 
 /// Writes why a text is not read.
@@ -70,97 +114,91 @@ fn unread<A: Allocator>(
 {
     match fault {
         ReadFault::TooLong => push_too_long(message, path),
-        ReadFault::NotAscii => not_ascii(message, path, text),
+        ReadFault::NotAscii => {
+            not_ascii(message, path, text)?;
+            message.push_str(ascii_hint(text))
+        }
         ReadFault::Syntax(at) => {
             at_offset(message, path, text, *at, Wrong::Unexpected)?;
-            push_hint(alloc, message, text, *at)
+            push_hint(alloc, message, text, *at as usize)
         }
         ReadFault::TooDeep => push_about(
             message,
             path,
-            ": more than 64 of `(`, `begin`, `if` and `while` are open at once, or more than 64 operators are in one run\n",
+            ": error: more than 64 of `(`, `begin`, `if` and `while` are open at once, or more than 64 operators are in one run\n",
         ),
         ReadFault::Memory => push_no_memory(message),
     }
 }
 
-/// Whether a word is a constant in other languages.
-fn is_constant(word: &[u8]) -> bool
-    ensures { result ≡ is_constant word.now }
+/// Whether a fault is that memory ran out.
+fn is_memory(fault: &ScopeFault) -> bool
+    ensures { result ≡ is_memory fault.now }
 {
-    is(word, "true") || is(word, "false") || is(word, "T") || is(word, "F")
+    matches!(fault, ScopeFault::Memory)
 }
 
-/// What the message says about the name at an offset, which is not declared.
-fn undeclared(text: &[u8], at: u32) -> &'static str
-    ensures { result.now ≡ undeclared text.now at }
+/// Writes what is wrong with a program that has a fault of scopes, at its place.
+fn located<A: Allocator + Copy>(
+    alloc: A,
+    message: &mut String<A>,
+    path: &str,
+    text: &[u8],
+    fault: &ScopeFault,
+) -> Result<(), AllocError>
+    ensures { OnOk result (LocatesFault path.now text.now fault.now (string_bytes message.old)
+        (string_bytes message.new)) }
 {
-    if is_constant(first_word(rest_of(text, at))) {
-        " is not declared; the constants are `0` and `1`\n"
+    let words = words_of(alloc, text, fault)?;
+    let what = Wrong::Word(words.as_str());
+    at_offset(message, path, text, fault.offset(), what)
+}
+
+/// Writes why a program is not checked.
+fn unchecked<A: Allocator + Copy>(
+    alloc: A,
+    message: &mut String<A>,
+    path: &str,
+    text: &[u8],
+    fault: &ScopeFault,
+) -> Result<(), AllocError>
+    ensures { OnOk result (ExplainsFault path.now text.now fault.now (string_bytes message.old)
+        (string_bytes message.new)) }
+{
+    if is_memory(fault) {
+        push_no_memory(message)
     } else {
-        " is not declared\n"
+        located(alloc, message, path, text, fault)
     }
 }
 
-/// The offset of a fault of scopes, and what the message says about the name there; `None` if memory ran out.
-fn told(text: &[u8], fault: &ScopeFault) -> Option<(u32, &'static str)>
-    ensures { option_map (λ t. (t.0, t.1.now)) result ≡ scope_told text.now fault.now }
+/// Writes the hint about the rounds of a check that was too large, if fewer may do.
+fn push_fewer<A: Allocator>(
+    message: &mut String<A>,
+    rounds: u8,
+    threads: usize,
+) -> Result<(), AllocError>
+    ensures { OnOk result
+        (string_bytes message.new ≡ string_bytes message.old ++ fewer rounds threads) }
 {
-    match fault {
-        ScopeFault::Undeclared(at) => Some((*at, undeclared(text, *at))),
-        ScopeFault::DeclaredTwice(at) => Some((
-            *at,
-            " is declared a second time, or assigned twice by one statement\n",
-        )),
-        ScopeFault::WrongCount(at) => Some((
-            *at,
-            ": targets and right sides, or arguments and formals, differ in number\n",
-        )),
-        ScopeFault::BadThread(at) => Some((*at, " is not a procedure without formals\n")),
-        ScopeFault::BadLabel(at) => Some((
-            *at,
-            " is not a label of this procedure, or labels a second statement\n",
-        )),
-        ScopeFault::Reserved(at) => Some((
-            *at,
-            " has two underscores in a row, which only the rewriting may write\n",
-        )),
-        ScopeFault::TooMany(at) => Some((
-            *at,
-            " is past the limit of 31 procedures, 8 threads and 1000 statements\n",
-        )),
-        ScopeFault::Memory => None,
-    }
-}
-
-/// The hint about the rounds of a check that was too large; empty for one round.
-fn one_round(rounds: u8) -> &'static str
-    ensures { result.now ≡ one_round rounds }
-{
-    if rounds > 1 {
-        "hint: one round is enough for one thread\n"
+    if rounds < 2 {
+        Ok(())
+    } else if threads < 2 {
+        message.push_str(ONE_ROUND)
     } else {
-        ""
+        write!(message, "{FEWER}{rounds}{FEWER_END}")
     }
 }
 
 /// Writes what helps if this limit of path edges was passed.
-fn push_ways_out<A: Allocator>(
-    message: &mut String<A>,
-    rounds: u8,
-    edges: u32,
-) -> Result<(), AllocError>
+fn push_ways_out<A: Allocator>(message: &mut String<A>, edges: u32) -> Result<(), AllocError>
     ensures { OnOk result
-        (string_bytes message.new ≡ string_bytes message.old ++ ways_out rounds edges) }
+        (string_bytes message.new ≡ string_bytes message.old ++ ways_out edges) }
 {
-    let one = one_round(rounds);
     if edges == MOST_EDGES {
-        write!(message, "{NO_HIGHER}{one}")
+        write!(message, "{NO_HIGHER}")
     } else {
-        write!(
-            message,
-            "hint: --edges N raises the limit, up to {MOST_EDGES}\n{one}"
-        )
+        write!(message, "{HIGHER}{MOST_EDGES}\n")
     }
 }
 
@@ -176,7 +214,7 @@ fn push_main<A: Allocator>(
     push_escaped(message, path)?;
     write!(
         message,
-        ": `main__`, which calls the threads, has more than {edges} path edges\n"
+        ": error: `main__`, which calls the threads, has more than {edges} path edges\n"
     )
 }
 
@@ -189,7 +227,8 @@ fn over<A: Allocator>(
     edges: u32,
 ) -> Result<(), AllocError>
     ensures { OnOk result
-        (TellsOver path.now text.now at edges (string_bytes message.old) (string_bytes message.new)) }
+        (TellsOver path.now text.now at edges (string_bytes message.old)
+        (string_bytes message.new)) }
 {
     match at {
         Some(at) => at_offset(message, path, text, at, Wrong::Edges(edges)),
@@ -198,7 +237,8 @@ fn over<A: Allocator>(
 }
 
 /// Writes which procedure has passed the limit of path edges, and what helps; nothing for an order that has no limit.
-fn edge_limit<A: Allocator>(
+fn edge_limit<A: Allocator + Copy>(
+    alloc: A,
     message: &mut String<A>,
     path: &str,
     text: &[u8],
@@ -210,12 +250,37 @@ fn edge_limit<A: Allocator>(
 {
     match order {
         Order::Check { rounds, edges, .. } => {
-            let edges = edges.edges();
-            over(message, path, text, at, edges)?;
-            push_ways_out(message, rounds.count(), edges)
+            over_limit(
+                alloc,
+                message,
+                path,
+                text,
+                at,
+                rounds.count(),
+                edges.edges(),
+            )
         }
         Order::Sequential { .. } => Ok(()),
     }
+}
+
+/// Writes which procedure has more path edges than a limit, and what helps.
+fn over_limit<A: Allocator + Copy>(
+    alloc: A,
+    message: &mut String<A>,
+    path: &str,
+    text: &[u8],
+    at: Option<u32>,
+    rounds: u8,
+    edges: u32,
+) -> Result<(), AllocError>
+    ensures { OnOk result (ExplainsOver path.now text.now at rounds edges (string_bytes message.old)
+        (string_bytes message.new)) }
+{
+    let threads = threads_in(alloc, text)?;
+    over(message, path, text, at, edges)?;
+    push_ways_out(message, edges)?;
+    push_fewer(message, rounds, threads)
 }
 
 /// How many rounds an order names.
@@ -239,8 +304,17 @@ fn push_wide<A: Allocator>(
     push_escaped(message, path)?;
     write!(
         message,
-        ": some procedure needs more than {MOST_PLACES} places with --rounds {rounds}\n"
+        ": error: some procedure needs more than {MOST_PLACES} places with --rounds {rounds}\n"
     )
+}
+
+/// Writes what a place is, and how many of them a global takes.
+fn push_places<A: Allocator>(message: &mut String<A>, rounds: u8) -> Result<(), AllocError>
+    ensures { OnOk result
+        (string_bytes message.new ≡ string_bytes message.old ++ places_line rounds) }
+{
+    let each = (u32::from(rounds) * 2).saturating_sub(1);
+    write!(message, "{PLACES}{each}{PLACES_END}")
 }
 
 /// Writes which procedure has too many places, and how many it needs for how many rounds.
@@ -257,24 +331,22 @@ fn too_wide<A: Allocator>(
 {
     let rounds = rounds_in(order);
     match wide {
-        Some(wide) => at_offset(
-            message,
-            path,
-            text,
-            wide.at,
-            Wrong::Wide(wide.places, rounds, MOST_PLACES),
-        ),
+        Some(wide) => {
+            let what = Wrong::Wide(wide.places, rounds, MOST_PLACES);
+            at_offset(message, path, text, wide.at, what)?;
+            push_places(message, rounds)
+        }
         None => push_wide(message, path, rounds),
     }
 }
 
-/// Writes what standard error says about a refusal: for a fault at a place a line `FILE:LINE:COLUMN: ` with what is
-/// wrong there, the source line (at most 60 bytes of it before the place and 40 from it on, with `..` for what is left
-/// out), and a caret under the place; for each other refusal one line. Each control character of the file's name is
-/// written as an escape (`push_escaped`). Lines and columns are counted from 1, and each byte is a column. A line
+/// Writes what standard error says about a refusal: for a fault at a place a line `FILE:LINE:COLUMN: error: ` with what
+/// is wrong there, the source line (at most 60 bytes of it before the place and 40 from it on, with `..` for what is
+/// left out), and a caret under the place; for each other refusal one line. Each control character of the file's name
+/// is written as an escape (`push_escaped`). Lines and columns are counted from 1, and each byte is a column. A line
 /// `hint: ` follows if a rule of the language, or of the command line, may help. The memory for the tokens before a
 /// syntax fault is taken from `alloc`. An error means that memory ran out; a part of the message may have been written.
-pub fn explain<A: Allocator>(
+pub fn explain<A: Allocator + Copy>(
     alloc: A,
     message: &mut String<A>,
     path: &str,
@@ -287,22 +359,19 @@ pub fn explain<A: Allocator>(
 {
     match refusal {
         Refusal::Unread(fault) => unread(alloc, message, path, text, fault),
-        Refusal::Unchecked(fault) => match told(text, fault) {
-            Some((at, what)) => at_offset(message, path, text, at, Wrong::Word(what)),
-            None => push_no_memory(message),
-        },
+        Refusal::Unchecked(fault) => unchecked(alloc, message, path, text, fault),
         Refusal::TooWide(wide) => too_wide(message, path, text, order, *wide),
-        Refusal::EdgeLimit(at) => edge_limit(message, path, text, *at, order),
+        Refusal::EdgeLimit(at) => edge_limit(alloc, message, path, text, *at, order),
         Refusal::Memory => push_no_memory(message),
         Refusal::NoWorker => push_about(
             message,
             path,
-            ": the system refused a thread for a procedure\n",
+            ": error: the system refused a thread for a procedure\n",
         ),
         Refusal::Spent => push_about(
             message,
             path,
-            ": the worker of a procedure has used up its calls\n",
+            ": error: the worker of a procedure has used up its calls\n",
         ),
     }
 }

@@ -2,7 +2,6 @@
 #![tactic(auto)]
 
 mod explanation;
-mod hints;
 mod lines;
 mod refusal;
 

@@ -1,0 +1,3 @@
+pub mod Seeking
+pub mod Counting
+pub mod Details

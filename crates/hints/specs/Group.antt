@@ -1,0 +1,101 @@
+-- Groups of kinds of tokens.
+use Rattle.std.specs.Prelude.{Bool, true, false, ◌||◌, Option, None, Some}
+use Rattle.tokens.specs.Token.{is_operator, same_kind}
+use Rattle.tokens.specs.declared.vocabulary.Kind.{Kind}
+use Rattle.tokens.specs.declared.vocabulary.Kind.TheVariants as kind
+use Rattle.hints.specs.declared.group.Group.{Group}
+use Rattle.hints.specs.declared.group.Group.TheVariants as group
+
+-- A name, a constant and `)` end an operand.
+abbrev pub is_operand : Kind → Bool
+is_operand kind.Id = true
+is_operand kind.Zero = true
+is_operand kind.One = true
+is_operand kind.Close = true
+is_operand _ = false
+
+-- A keyword, `;`, `:`, `:=` and `(` begin a phrase.
+abbrev pub is_head : Kind → Bool
+is_head kind.Comma = false
+is_head kind.Close = false
+is_head kind.Any = false
+is_head kind.Id = false
+is_head kind.Zero = false
+is_head kind.One = false
+is_head kind.Implies = false
+is_head kind.Or = false
+is_head kind.Xor = false
+is_head kind.And = false
+is_head kind.Equal = false
+is_head kind.Differs = false
+is_head kind.Not = false
+is_head _ = true
+
+-- A statement comes directly after these, unless it has a label.
+abbrev pub is_start : Kind → Bool
+is_start kind.Begin = true
+is_start kind.Then = true
+is_start kind.Else = true
+is_start kind.Do = true
+is_start kind.Fi = true
+is_start kind.Od = true
+is_start kind.Semicolon = true
+is_start _ = false
+
+-- A statement ends with these.
+abbrev pub is_ended : Kind → Bool
+is_ended kind.Semicolon = true
+is_ended kind.Fi = true
+is_ended kind.Od = true
+is_ended _ = false
+
+-- `begin`, `if` and `while` are closed by a word of their own.
+abbrev pub is_opener : Kind → Bool
+is_opener kind.Begin = true
+is_opener kind.If = true
+is_opener kind.While = true
+is_opener _ = false
+
+-- Statements are in the sections that these begin.
+abbrev pub is_section : Kind → Bool
+is_section kind.Begin = true
+is_section kind.If = true
+is_section kind.While = true
+is_section kind.Then = true
+is_section kind.Else = true
+is_section kind.Do = true
+is_section _ = false
+
+-- `if`, `while`, `assert` and `assume` have a condition.
+abbrev pub is_test : Kind → Bool
+is_test kind.If = true
+is_test kind.While = true
+is_test kind.Assert = true
+is_test kind.Assume = true
+is_test _ = false
+
+-- The kind is in the group.
+abbrev pub includes : Group → Kind → Bool
+includes group.Each k = true
+includes group.Nothing k = false
+includes (group.Only one) k = same_kind k one
+includes (group.Either one other) k = same_kind k one || same_kind k other
+includes group.Operator k = is_operator k
+includes group.Operand k = is_operand k
+includes group.Head k = is_head k
+includes group.Start k = is_start k
+includes group.Ended k = is_ended k
+includes group.Opener k = is_opener k
+includes group.Section k = is_section k
+includes group.Test k = is_test k
+
+-- No token is in these.
+abbrev pub allows_nothing : Group → Bool
+allows_nothing group.Each = true
+allows_nothing group.Nothing = true
+allows_nothing _ = false
+
+-- The kind of a token, or no token, is in the group.
+abbrev pub allows : Group → Option Kind → Bool
+allows group None = allows_nothing group
+allows group (Some k) = includes group k
