@@ -41,12 +41,7 @@ pub(crate) fn is_history<M: Copy + Eq, A: Allocator>(
     mailbox: &Mailbox<M, A>,
     wanted: &[Event<M>],
 ) -> bool {
-    for number in 0..=wanted.len() {
-        if mailbox.event(number) != wanted.get(number).copied() {
-            return false;
-        }
-    }
-    mailbox.len() == wanted.len()
+    mailbox.history().eq(wanted.iter().copied())
 }
 
 // The whole history must be this, and legal.
@@ -108,7 +103,7 @@ fn each_sender_has_its_messages_in_order(rt: HostRuntime) {
         done(2),
     ];
     assert!(rt; !legal(done_of_none.as_slice()));
-    let Ok(history) = mailbox.history(rt.alloc()) else {
+    let Ok(history) = mailbox.history().collect::<Vec<Event<u8>>>(rt.alloc()) else {
         panic!(rt; "no memory")
     };
     assert!(rt; history.as_slice() == first.as_slice());
@@ -124,7 +119,7 @@ fn posts_again<R: Abort, A: Allocator>(rt: &R, mailbox: &mut Mailbox<u8, A>, num
     }
 }
 
-// Posts the messages below ten, and takes them, which requests no allocation.
+// Posts the messages below ten, and takes them and reads the history, which requests no allocation.
 fn serves_ten<R: Abort, H: Allocator, A: Allocator>(
     rt: &R,
     scarce: &Scarce<H>,
@@ -137,6 +132,7 @@ fn serves_ten<R: Abort, H: Allocator, A: Allocator>(
     for n in 0..10u8 {
         takes(rt, mailbox, u64::from(n), n);
     }
+    assert!(rt; mailbox.history().count() == 20);
     assert!(rt; scarce.asked() == asked);
 }
 
@@ -145,7 +141,7 @@ fn count_taken<A: Allocator + Copy, H: Allocator>(
     alloc: A,
     mailbox: &Mailbox<u8, H>,
 ) -> Option<usize> {
-    let history = mailbox.history(alloc).ok()?;
+    let history: Vec<Event<u8>, A> = mailbox.history().collect(alloc).ok()?;
     match by_sender(alloc, history.as_slice(), 0, Side::Takes) {
         Ok(taken) => Some(taken.len()),
         Err(AllocError) => None,
@@ -161,8 +157,7 @@ fn list_was_refused<R: Abort, A: Allocator, H: Allocator>(
 ) -> bool {
     let few = Scarce::refusing(host, nth);
     let count = count_taken(&few, mailbox);
-    let wanted = if few.refused() { None } else { Some(10) };
-    assert!(rt; count == wanted);
+    assert!(rt; count == Some(10) || few.refused() && count.is_none());
     few.refused()
 }
 

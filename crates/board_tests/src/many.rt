@@ -4,7 +4,7 @@ ghost use Rattle.post_ledger.specs.Orders.{HasJob};
 ghost use Rattle.board_tests.specs.Passes.{IsSame, IsPassNumbered, KeepsJobs};
 
 use crate::boards::{Letter, Letters, done, gather, message, post, settle};
-use post_ledger::{Ledger, Mailbox, Side, by_sender};
+use post_ledger::{Event, Ledger, Mailbox, Side, by_sender};
 use std::alloc::{Allocator, Global};
 use std::process::Abort;
 use std::sync::Wait;
@@ -182,7 +182,7 @@ fn taken_in_order<A: Allocator + Copy, H: Allocator>(
     mailbox: &Mailbox<Letter, H>,
     sender: u8,
 ) -> Option<usize> {
-    let history = mailbox.history(alloc).ok()?;
+    let history: Vec<Event<Letter>, A> = mailbox.history().collect(alloc).ok()?;
     let posted = by_sender(alloc, history.as_slice(), sender, Side::Posts).ok()?;
     let taken = by_sender(alloc, history.as_slice(), sender, Side::Takes).ok()?;
     if posted.as_slice() == taken.as_slice() {

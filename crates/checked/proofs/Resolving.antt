@@ -2,6 +2,7 @@
 use Rattle.std.proofs.Common.{◌≡◌, ℕ, Bool, true, false, cond, List, [], ◌∷◌, ◌++◌, length, Option, Some, None, ◌⊎◌}
 use Rattle.std.proofs.Common.{inl, inr, refl, sym, ◌∙◌, ap, subst, append_assoc}
 use Rattle.std.proofs.lemmas.Option.{IfSome_then}
+use Rattle.std.specs.List.{AllByRecursion}
 use Rattle.language.specs.Tree.{Name, Block, done, one, choose, loop, Procedure, Tree}
 use Rattle.language.specs.Value.{global, local}
 use Rattle.language.specs.Rest.{Code, same_text, has_label, first_of_two, join, rest_from}
@@ -13,7 +14,7 @@ use Rattle.resolved.specs.Statements.{Statement, statements_of, used_by, label_o
 use Rattle.checked.specs.Faults.{known}
 use Rattle.resolved.specs.There.{IsThere}
 use Rattle.checked.specs.Checked.{IsChecked}
-use Rattle.resolved.specs.Resolves.{Each, IsPlaceIn, GoesSomewhere, Resolves}
+use Rattle.resolved.specs.Resolves.{IsPlaceIn, GoesSomewhere, Resolves}
 use Rattle.checked.proofs.Works.{each_of, in_either, named_is, Called, Labelled, Works, Starts, good, threads_start}
 
 placed : (t : Tree) (p : Procedure) (x : Name) → is_declared x.text (known t p) ≡ true → IsPlaceIn t p (place_of (scope_of t p) x)
@@ -100,9 +101,9 @@ target_there t p h called labelled = (
 )
 
 -- a tree resolves if each statement works and each thread starts
-pub working_resolves : (t : Tree) → Each
-    (λ (p : Procedure). Each (λ (s : Statement). Works t p s.head) (statements_of p.body)) t.procedures
-    → Each (Starts t.procedures) t.threads → Resolves t
+pub working_resolves : (t : Tree) → AllByRecursion
+    (λ (p : Procedure). AllByRecursion (λ (s : Statement). Works t p s.head) (statements_of p.body)) t.procedures
+    → AllByRecursion (Starts t.procedures) t.threads → Resolves t
 working_resolves t work start = record {
   statements = each_of t.procedures (λ p g. each_of (statements_of p.body) (λ s w. record {
     variables = each_of (used_by s.head) (λ x h. placed t p x h) w.variables;

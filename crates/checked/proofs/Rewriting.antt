@@ -4,6 +4,7 @@ use Rattle.std.proofs.Common.{length, get_or, Option, Some, None, inl, inr, refl
 use Rattle.std.specs.Prelude.{slice_get, IfSome}
 use Rattle.std.proofs.lemmas.Option.{IfSome_then}
 use Rattle.std.proofs.lemmas.Bool.{eqb-true}
+use Rattle.std.specs.List.{AllByRecursion}
 use Rattle.language.specs.Tree.{Name, Expression, const, var, negation, two, RightSide, any, value, Simple, Block, done}
 use Rattle.language.specs.Tree.{one, choose, loop, Procedure, ThreadLine, Tree}
 use Rattle.language.specs.Rest.{same_text}
@@ -15,11 +16,9 @@ use Rattle.resolved.specs.Statements.{variables_of_sides, variables_of_test, var
 use Rattle.resolved.specs.There.{names, IsThere}
 use Rattle.checked.specs.declared.fault.ScopeFault.TheVariants as fault
 use Rattle.checked.specs.Checked.{IsChecked}
-use Rattle.resolved.specs.Resolves.{Each}
 use Rattle.checked.specs.Rewritable.{begins_low, has_double, AreFree, AreDistinct, Declared, AllDeclared}
 use Rattle.checked.specs.Rewritable.{ExpressionDeclared, ExpressionsDeclared, SideDeclared, SidesDeclared, HasRoom}
 use Rattle.checked.specs.Rewritable.{SimpleDeclared, BlockDeclared, ProcedureRewritable, EachLine, IsRewritable}
-use Rattle.resolved.specs.Narrow.{EachProcedure}
 use Rattle.checked.proofs.Works.{each_of, in_either, named_is, named_declared, Called, Works, IsGood, good, threads_start}
 use Rattle.resolved.proofs.Each.{each_left, each_right}
 
@@ -76,32 +75,33 @@ declared_there : (t : Tree) (p : Procedure) (x : Name) → is_declared x.text (k
 declared_there t p x h none =
     elim (in_either x.text (p.formals ++ p.locals) t.globals h) [ inl e ↦ absurd (let bad : true ≡ false = sym e ∙ none in cc) | inr e ↦ e ]
 
-all_declared : (s : Scope) (xs : List Name) → Each (Declared s) xs → AllDeclared s xs
+all_declared : (s : Scope) (xs : List Name) → AllByRecursion (Declared s) xs → AllDeclared s xs
 all_declared s [] h = tt
 all_declared s (x ∷ xs) h = (h.0, all_declared s xs h.1)
 
 -- what holds for each of two lists, one after the other
-apart : {X : Type 0} (P : X → Type 0) (xs ys : List X) → Each P (xs ++ ys) → Each P xs × Each P ys
+apart : {X : Type 0} (P : X → Type 0) (xs ys : List X) → AllByRecursion P (xs ++ ys) → AllByRecursion P xs × AllByRecursion P ys
 apart P xs ys h = (each_left P xs ys h, each_right P xs ys h)
 
-expression_declared : (s : Scope) (e : Expression Name) → Each (Declared s) (variables_of e) → ExpressionDeclared s e
+expression_declared : (s : Scope) (e : Expression Name) → AllByRecursion (Declared s) (variables_of e) → ExpressionDeclared s e
 expression_declared s (const b) h = tt
 expression_declared s (var x) h = h.0
 expression_declared s (negation e) h = expression_declared s e h
 expression_declared s (two o a b) h =
     let parts = apart (Declared s) (variables_of a) (variables_of b) h in (expression_declared s a parts.0, expression_declared s b parts.1)
 
-expressions_declared : (s : Scope) (es : List (Expression Name)) → Each (Declared s) (variables_of_all es) → ExpressionsDeclared s es
+expressions_declared : (s : Scope) (es : List (Expression Name)) → AllByRecursion (Declared s) (variables_of_all es)
+    → ExpressionsDeclared s es
 expressions_declared s [] h = tt
 expressions_declared s (e ∷ es) h =
     let parts = apart (Declared s) (variables_of e) (variables_of_all es) h in
     (expression_declared s e parts.0, expressions_declared s es parts.1)
 
-side_declared : (s : Scope) (r : RightSide Name) → Each (Declared s) (variables_of_side r) → SideDeclared s r
+side_declared : (s : Scope) (r : RightSide Name) → AllByRecursion (Declared s) (variables_of_side r) → SideDeclared s r
 side_declared s any h = tt
 side_declared s (value e) h = expression_declared s e h
 
-sides_declared : (s : Scope) (rs : List (RightSide Name)) → Each (Declared s) (variables_of_sides rs) → SidesDeclared s rs
+sides_declared : (s : Scope) (rs : List (RightSide Name)) → AllByRecursion (Declared s) (variables_of_sides rs) → SidesDeclared s rs
 sides_declared s [] h = tt
 sides_declared s (r ∷ rs) h =
     let parts = apart (Declared s) (variables_of_side r) (variables_of_sides rs) h in
@@ -112,12 +112,12 @@ room None m h = h
 room (Some r) m h =
     let e : length (r.formals ++ r.locals) ≡ length r.formals + length r.locals = length-append r.formals r.locals in omega arith
 
-test_declared : (s : Scope) (o : Option (RightSide Name)) → Each (Declared s) (variables_of_test o) → IfSome o (SideDeclared s)
+test_declared : (s : Scope) (o : Option (RightSide Name)) → AllByRecursion (Declared s) (variables_of_test o) → IfSome o (SideDeclared s)
 test_declared s None h = tt
 test_declared s (Some r) h = side_declared s r h
 
 simple_declared : (t : Tree) (s : Scope) (c : Simple Name Name Name) → s.procedures ≡ names t.procedures
-    → Each (Declared s) (used_by (plain c)) → Called t.procedures (plain c) → SimpleDeclared t s c
+    → AllByRecursion (Declared s) (used_by (plain c)) → Called t.procedures (plain c) → SimpleDeclared t s c
 simple_declared t s c e h k =
     let xs = targets_of (plain c) in
     let rs = sides_of (plain c) in
@@ -137,7 +137,8 @@ simple_declared t s c e h k =
           ));
     }
 
-block_declared : (t : Tree) (p : Procedure) (b : Block Name Name Name) → Each (λ (s : Statement). Works t p s.head) (statements_of b)
+block_declared : (t : Tree) (p : Procedure) (b : Block Name Name Name)
+    → AllByRecursion (λ (s : Statement). Works t p s.head) (statements_of b)
     → BlockDeclared t (scope_of t p) b
 block_declared t p done h = tt
 block_declared t p (one m c k) h = (
@@ -162,8 +163,8 @@ block_declared t p (loop m r a k) h = (
   block_declared t p k (each_right (λ (s : Statement). Works t p s.head) (statements_of a) (statements_of k) h.1),
 )
 
-procedures_rewritable : (t : Tree) (ps : List Procedure) → AreFree (names ps) → Each (IsGood t) ps
-    → EachProcedure (ProcedureRewritable t) ps
+procedures_rewritable : (t : Tree) (ps : List Procedure) → AreFree (names ps) → AllByRecursion (IsGood t) ps
+    → AllByRecursion (ProcedureRewritable t) ps
 procedures_rewritable t [] f h = tt
 procedures_rewritable t (p ∷ ps) f h = (
   record {
@@ -175,7 +176,7 @@ procedures_rewritable t (p ∷ ps) f h = (
 )
 
 lines_named : (ps : List Procedure) (lines : List ThreadLine)
-    → Each (λ (line : ThreadLine). (named line.name.text ps ≡ None → ⊥) × IsThere (named line.name.text ps)
+    → AllByRecursion (λ (line : ThreadLine). (named line.name.text ps ≡ None → ⊥) × IsThere (named line.name.text ps)
     (λ r. length r.formals ≡ 0)) lines → EachLine (names ps) lines
 lines_named ps [] h = tt
 lines_named ps (line ∷ lines) h = (named_declared line.name.text ps h.0.0, lines_named ps lines h.1)

@@ -4,6 +4,7 @@ use Rattle.std.proofs.Common.{None, ◌⊎◌, inl, inr, refl}
 use Rattle.std.specs.Prelude.{slice_get, IfSome}
 use Rattle.std.proofs.lemmas.Bool.{eqb-true}
 use Rattle.std.proofs.lemmas.Bool.Decides.{eqb_tells}
+use Rattle.std.specs.List.{AllByRecursion}
 use Rattle.language.specs.Tree.{Name, Procedure, ThreadLine, Tree}
 use Rattle.language.specs.Parts.{Head, HasAllSides, targets_of, sides_of, arguments_of, callee_of, jump_of}
 use Rattle.language.specs.Rest.{same_text}
@@ -15,15 +16,14 @@ use Rattle.checked.specs.Faults.{MislabelledIn, ReservedIn, CanStart}
 use Rattle.resolved.specs.There.{names, IsThere}
 use Rattle.checked.specs.declared.fault.ScopeFault.TheVariants as fault
 use Rattle.checked.specs.Checked.{IsChecked}
-use Rattle.resolved.specs.Resolves.{Each}
 
-pub each_of : {X : Type 0} {P Q : X → Type 0} (xs : List X) → ((x : X) → P x → Q x) → Each P xs → Each Q xs
+pub each_of : {X : Type 0} {P Q : X → Type 0} (xs : List X) → ((x : X) → P x → Q x) → AllByRecursion P xs → AllByRecursion Q xs
 each_of [] f h = tt
 each_of (x ∷ xs) f h = (f x h.0, each_of xs f h.1)
 
 -- what stands at no offset in a list stands at none in its members
 pub nowhere_in : {X : Type 0} (P : X → ℕ → Type 0) (xs : List X) → ((n : ℕ) → AnyOf (λ x. P x n) xs → ⊥)
-    → Each (λ x. (n : ℕ) → P x n → ⊥) xs
+    → AllByRecursion (λ x. (n : ℕ) → P x n → ⊥) xs
 nowhere_in P [] h = tt
 nowhere_in P (x ∷ xs) h = ((λ n p. h n (inl p)), nowhere_in P xs (λ n q. h n (inr q)))
 
@@ -109,21 +109,21 @@ labelled ls h a = go (jump_of h) a
 
 -- the variables of a statement are known, what it calls and goes to is there, and each target has its right side
 pub record Works (t : Tree) (p : Procedure) (h : Head Name Name Name) : Type 0 where
-  pub variables : Each (λ (x : Name). is_declared x.text (known t p) ≡ true) (used_by h)
+  pub variables : AllByRecursion (λ (x : Name). is_declared x.text (known t p) ≡ true) (used_by h)
   pub called : Called t.procedures h
   pub sides : HasAllSides h
   pub labelled : Labelled (labels_of (statements_of p.body)) h
 
 -- no fault of a procedure stands in this one
 pub record IsGood (t : Tree) (p : Procedure) : Type 0 where
-  pub statements : Each (λ (s : Statement). Works t p s.head) (statements_of p.body)
+  pub statements : AllByRecursion (λ (s : Statement). Works t p s.head) (statements_of p.body)
   pub free : (n : ℕ) → ReservedIn n p → ⊥
 
 all_work : (t : Tree) (p : Procedure) (ss : List Statement)
     → ((n : ℕ) → AnyOf (λ s. IsUndeclaredIn (known t p) t.procedures s n) ss → ⊥)
     → ((n : ℕ) → AnyOf (Miscounts t.procedures n) ss → ⊥)
     → ((n : ℕ) → AnyOf (λ (s : Statement). GoesNowhere (labels_of (statements_of p.body)) n s.head) ss → ⊥)
-    → Each (λ (s : Statement). Works t p s.head) ss
+    → AllByRecursion (λ (s : Statement). Works t p s.head) ss
 all_work t p [] u c g = tt
 all_work t p (s ∷ ss) u c g = (
   record {
@@ -142,7 +142,7 @@ all_good : (t : Tree) (ps : List Procedure)
     → ((n : ℕ) → AnyOf (λ (p : Procedure). AnyOf (Miscounts t.procedures n) (statements_of p.body)) ps → ⊥)
     → ((n : ℕ) → AnyOf (MislabelledIn n) ps → ⊥)
     → ((n : ℕ) → AnyOf (ReservedIn n) ps → ⊥)
-    → Each (IsGood t) ps
+    → AllByRecursion (IsGood t) ps
 all_good t [] u c g r = tt
 all_good t (p ∷ ps) u c g r = (
   record {
@@ -152,7 +152,7 @@ all_good t (p ∷ ps) u c g r = (
   all_good t ps (λ n h. u n (inr h)) (λ n h. c n (inr h)) (λ n h. g n (inr h)) (λ n h. r n (inr h)),
 )
 
-pub good : (t : Tree) → IsChecked t → Each (IsGood t) t.procedures
+pub good : (t : Tree) → IsChecked t → AllByRecursion (IsGood t) t.procedures
 good t ok =
     all_good t t.procedures (λ n. ok (fault.Undeclared n)) (λ n. ok (fault.WrongCount n)) (λ n. ok (fault.BadLabel n))
     (λ n h. ok (fault.Reserved n) (inr (inr h)))
@@ -165,7 +165,7 @@ starts : (o : Option Procedure) → ((CanStart o → ⊥) → ⊥) → (o ≡ No
 starts None h = absurd (h (λ x. x))
 starts (Some r) h = ((λ e. cc), settled (length r.formals) 0 (λ k. h (λ e. k (eqb-true (length r.formals) 0 e))))
 
-pub threads_start : (t : Tree) → IsChecked t → Each (Starts t.procedures) t.threads
+pub threads_start : (t : Tree) → IsChecked t → AllByRecursion (Starts t.procedures) t.threads
 threads_start t ok =
     each_of t.threads (λ line h. starts (named line.name.text t.procedures) (λ k. h line.name.at (refl, k)))
     (nowhere_in (λ (line : ThreadLine) n. (line.name.at ≡ n) × (CanStart (named line.name.text t.procedures) → ⊥)) t.threads

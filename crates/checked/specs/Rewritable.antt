@@ -1,10 +1,10 @@
 -- What the rewriting theorem over names asks of a text's tree. A program without scope faults has it.
 use Rattle.std.specs.Prelude.{◌≡◌, ℕ, ◌≤◌, Bool, true, false, List, [], ◌∷◌, ◌++◌, ◌&&◌, ◌||◌, Option, Some, None}
 use Rattle.std.specs.Prelude.{length, map, nat_eq, slice_get, IfSome}
+use Rattle.std.specs.List.{AllByRecursion}
 use Rattle.language.specs.Tree.{Name, Expression, const, var, negation, two, RightSide, any, value, Simple, Block, done}
 use Rattle.language.specs.Tree.{one, choose, loop, Procedure, ThreadLine, Tree}
 use Rattle.language.specs.Parts.{plain, targets_of, sides_of, test_of, arguments_of, callee_of}
-use Rattle.resolved.specs.Narrow.{EachProcedure}
 use Rattle.language.specs.Resolve.{is_declared, number_of, Scope, scope_of}
 
 -- the text begins with an underscore
@@ -97,5 +97,5 @@ EachLine ps (line ∷ lines) = (is_declared line.name.text ps ≡ true) × EachL
 pub record IsRewritable (tree : Tree) : Type 0 where
   pub globals : AreFree tree.globals
   pub distinct : AreDistinct tree.globals
-  pub procedures : EachProcedure (ProcedureRewritable tree) tree.procedures
+  pub procedures : AllByRecursion (ProcedureRewritable tree) tree.procedures
   pub threads : EachLine (map (λ (p : Procedure). p.name) tree.procedures) tree.threads

@@ -1,10 +1,11 @@
 -- How a history grows by one event.
 use Rattle.std.proofs.Common.{◌≡◌, ℕ, zero, suc, ◌+◌, ◌<◌, ◌≤◌, List, [], ◌∷◌, ◌++◌, ◌⊎◌, Some, length, take, slice_get, refl, sym, ◌∙◌, ap}
-use Rattle.std.proofs.Common.{subst, inl, inr, arith, add-one, drop, get_or, length-append}
+use Rattle.std.proofs.Common.{Option, subst, inl, inr, arith, add-one, drop, get_or, length-append}
 use Rattle.std.proofs.Math.Seq.{drop-cons}
 use Rattle.std.proofs.lemmas.Bool.{cases_eq}
-use Rattle.std.proofs.lemmas.List.{take-append-le, take_at, length-take}
-use Rattle.std.proofs.lemmas.Option.{slice_get_within, same_Some}
+use Rattle.std.specs.Iterator.{YieldsFirst}
+use Rattle.std.proofs.lemmas.List.{drop_more, take-append-le, take_at, length-take}
+use Rattle.std.proofs.lemmas.Option.{get_or_from_slice_get, slice_get_within, same_Some}
 use Rattle.post_ledger.specs.declared.event.Event.{Event}
 use Rattle.post_ledger.specs.declared.event.Event.TheVariants.{Post, Take, Done}
 use Rattle.post_ledger.specs.History.{posts, takes, dones, MayFollow, IsLegal}
@@ -99,6 +100,14 @@ pub element_at : {X : Type 0} (xs : List X) (i : ℕ) → i < length xs → (x :
 element_at [] i h = absurd (omega arith)
 element_at (x ∷ xs) zero h = (x, refl)
 element_at (x ∷ xs) (suc i) h = element_at xs i (omega arith)
+
+-- the element at a place is the first of those from there on
+pub first_left : {X : Type 0} (xs : List X) (i : ℕ) (first : Option X) → i < length xs → first ≡ slice_get xs i
+    → YieldsFirst (λ l. l) (drop i xs) first (drop (i + 1) xs)
+first_left xs i first within is =
+    let (x, at) = element_at xs i within in
+    subst (λ o. YieldsFirst (λ l. l) (drop i xs) o (drop (i + 1) xs)) (sym (is ∙ at))
+    (drop_more xs i x within ∙ ap (λ y. y ∷ drop (i + 1) xs) (get_or_from_slice_get xs i x x at))
 
 -- what is left of a history from an event on is the event and what is left after it
 pub left_from : {M : Type 0} (h : List (Event M)) (i : ℕ) (e f : Event M) → i < length h → e ≡ get_or h i e → e ≡ f

@@ -14,8 +14,8 @@ use Rattle.std.proofs.lemmas.Map.Steps.{length-le_from_distinct_below}
 use Rattle.post_ledger.specs.declared.event.Event.{Event}
 use Rattle.post_ledger.specs.declared.event.Event.TheVariants.{Post, Take, Done}
 use Rattle.post_ledger.specs.History.{posts, takes, dones}
-use Rattle.post_ledger.specs.declared.mailbox.Step.{Step}
-use Rattle.post_ledger.specs.declared.mailbox.Step.TheVariants as step
+use Rattle.post_ledger.specs.declared.mailbox.NumberedEvent.{NumberedEvent}
+use Rattle.post_ledger.specs.declared.mailbox.NumberedEvent.TheVariants as by_number
 use Rattle.post_ledger.specs.Kept.{AreNumbered, HistoryCounts, IsNumbered, MailboxCounts, event_of, events_of, post_of, take_of}
 use Rattle.post_ledger.proofs.Histories.{posts-append, takes-append, dones-append, legal_push, split_at_element, at_seam, element_at}
 
@@ -124,28 +124,29 @@ get_front (x ∷ xs) y (suc i) h = get_front xs y i (omega (arith, h))
 
 module _ {M : Type 0} where
   -- one more Post changes no event before it
-  same_event : (posted : List (ℕ × M)) (p : ℕ × M) (s : Step) → IsNumbered (length posted) s
+  same_event : (posted : List (ℕ × M)) (p : ℕ × M) (s : NumberedEvent) → IsNumbered (length posted) s
       → event_of (posted ++ p ∷ []) s ≡ event_of posted s
-  same_event posted p (step.Post number) h = ap post_of (get_front posted p number h)
-  same_event posted p (step.Take number) h = ap take_of (get_front posted p number h)
-  same_event posted p (step.Done number) h = refl
+  same_event posted p (by_number.Post number) h = ap post_of (get_front posted p number h)
+  same_event posted p (by_number.Take number) h = ap take_of (get_front posted p number h)
+  same_event posted p (by_number.Done number) h = refl
 
-  same_events : (posted : List (ℕ × M)) (p : ℕ × M) (ss : List Step) → AreNumbered (length posted) ss
+  same_events : (posted : List (ℕ × M)) (p : ℕ × M) (ss : List NumberedEvent) → AreNumbered (length posted) ss
       → events_of (posted ++ p ∷ []) ss ≡ events_of posted ss
   same_events posted p [] h = refl
   same_events posted p (s ∷ ss) h = ap₂ (λ x y. x ++ y) (same_event posted p s h.0) (same_events posted p ss h.1)
 
 -- numbers below a count are below a greater one
-number_below : (few many : ℕ) (s : Step) → few ≤ many → IsNumbered few s → IsNumbered many s
-number_below few many (step.Post number) le h = omega (arith, h)
-number_below few many (step.Take number) le h = omega (arith, h)
-number_below few many (step.Done number) le h = tt
+number_below : (few many : ℕ) (s : NumberedEvent) → few ≤ many → IsNumbered few s → IsNumbered many s
+number_below few many (by_number.Post number) le h = omega (arith, h)
+number_below few many (by_number.Take number) le h = omega (arith, h)
+number_below few many (by_number.Done number) le h = tt
 
-numbers_below : (few many : ℕ) (ss : List Step) → few ≤ many → AreNumbered few ss → AreNumbered many ss
+numbers_below : (few many : ℕ) (ss : List NumberedEvent) → few ≤ many → AreNumbered few ss → AreNumbered many ss
 numbers_below few many [] le h = tt
 numbers_below few many (s ∷ ss) le h = (number_below few many s le h.0, numbers_below few many ss le h.1)
 
-numbers_push : (count : ℕ) (ss : List Step) (s : Step) → AreNumbered count ss → IsNumbered count s → AreNumbered count (ss ++ s ∷ [])
+numbers_push : (count : ℕ) (ss : List NumberedEvent) (s : NumberedEvent) → AreNumbered count ss → IsNumbered count s
+    → AreNumbered count (ss ++ s ∷ [])
 numbers_push count [] s h new = (new, tt)
 numbers_push count (x ∷ ss) s h new = (h.0, numbers_push count ss s h.1 new)
 
@@ -170,37 +171,37 @@ counts_new capacity = record {
 }
 
 -- the events with one more step
-pub posted_event : {M : Type 0} (posted : List (ℕ × M)) (ss : List Step) (s : ℕ) (m : M) → AreNumbered (length posted) ss
-    → events_of (posted ++ (s, m) ∷ []) (ss ++ step.Post (length posted) ∷ []) ≡ events_of posted ss ++ Post s m ∷ []
+pub posted_event : {M : Type 0} (posted : List (ℕ × M)) (ss : List NumberedEvent) (s : ℕ) (m : M) → AreNumbered (length posted) ss
+    → events_of (posted ++ (s, m) ∷ []) (ss ++ by_number.Post (length posted) ∷ []) ≡ events_of posted ss ++ Post s m ∷ []
 posted_event posted ss s m numbered =
     let all = posted ++ (s, m) ∷ [] in
-    flat_map-append (event_of all) ss (step.Post (length posted) ∷ [])
+    flat_map-append (event_of all) ss (by_number.Post (length posted) ∷ [])
     ∙ ap₂ (λ x y. x ++ (y ++ [])) (same_events posted (s, m) ss numbered)
     (ap post_of (at_seam posted (s, m) [] (length posted) refl))
 
-pub taken_event : {M : Type 0} (posted : List (ℕ × M)) (ss : List Step) (n s : ℕ) (m : M) → slice_get posted n ≡ Some (s, m)
-    → events_of posted (ss ++ step.Take n ∷ []) ≡ events_of posted ss ++ Take s m ∷ []
+pub taken_event : {M : Type 0} (posted : List (ℕ × M)) (ss : List NumberedEvent) (n s : ℕ) (m : M) → slice_get posted n ≡ Some (s, m)
+    → events_of posted (ss ++ by_number.Take n ∷ []) ≡ events_of posted ss ++ Take s m ∷ []
 taken_event posted ss n s m here =
-    flat_map-append (event_of posted) ss (step.Take n ∷ []) ∙ ap (λ y. events_of posted ss ++ (take_of y ++ [])) here
+    flat_map-append (event_of posted) ss (by_number.Take n ∷ []) ∙ ap (λ y. events_of posted ss ++ (take_of y ++ [])) here
 
-pub done_event : {M : Type 0} (posted : List (ℕ × M)) (ss : List Step) (q : ℕ)
-    → events_of posted (ss ++ step.Done q ∷ []) ≡ events_of posted ss ++ Done q ∷ []
-done_event posted ss q = flat_map-append (event_of posted) ss (step.Done q ∷ [])
+pub done_event : {M : Type 0} (posted : List (ℕ × M)) (ss : List NumberedEvent) (q : ℕ)
+    → events_of posted (ss ++ by_number.Done q ∷ []) ≡ events_of posted ss ++ Done q ∷ []
+done_event posted ss q = flat_map-append (event_of posted) ss (by_number.Done q ∷ [])
 
 -- a Post, if the room was reserved
-pub counts_post : {M : Type 0} (posted : List (ℕ × M)) (ss : List Step) (cap cap' t o s : ℕ) (m : M)
+pub counts_post : {M : Type 0} (posted : List (ℕ × M)) (ss : List NumberedEvent) (cap cap' t o s : ℕ) (m : M)
     → MailboxCounts posted ss cap t o → length posted < 2 ^ 32
     → length ss + ((length posted - t) + (length posted - t) + o + 3) ≤ cap'
-    → MailboxCounts (posted ++ (s, m) ∷ []) (ss ++ step.Post (length posted) ∷ []) cap' t o
+    → MailboxCounts (posted ++ (s, m) ∷ []) (ss ++ by_number.Post (length posted) ∷ []) cap' t o
 counts_post posted ss cap cap' t o s m kept short room =
     let more : length (posted ++ (s, m) ∷ []) ≡ length posted + 1 = length_push posted (s, m) in
-    let long = length_push ss (step.Post (length posted)) in
+    let long = length_push ss (by_number.Post (length posted)) in
     let all = length (posted ++ (s, m) ∷ []) in
-    let last : IsNumbered all (step.Post (length posted)) = omega (arith, more) in
+    let last : IsNumbered all (by_number.Post (length posted)) = omega (arith, more) in
     record {
       history = subst (λ h. HistoryCounts h (posted ++ (s, m) ∷ []) t o) (sym (posted_event posted ss s m kept.numbered))
           (history_post (events_of posted ss) posted t o s m kept.history);
-      numbered = numbers_push all ss (step.Post (length posted))
+      numbered = numbers_push all ss (by_number.Post (length posted))
           (numbers_below (length posted) all ss (omega (arith, more)) kept.numbered) last;
       within = omega (arith, more, kept.within);
       few = omega (arith, more, short);
@@ -208,38 +209,38 @@ counts_post posted ss cap cap' t o s m kept short room =
     }
 
 -- the Take of the oldest Post that was not taken
-pub counts_take : {M : Type 0} (posted : List (ℕ × M)) (ss : List Step) (cap t o s : ℕ) (m : M) → MailboxCounts posted ss cap t o
-    → slice_get posted t ≡ Some (s, m) → MailboxCounts posted (ss ++ step.Take t ∷ []) cap (t + 1) (o + 1)
+pub counts_take : {M : Type 0} (posted : List (ℕ × M)) (ss : List NumberedEvent) (cap t o s : ℕ) (m : M) → MailboxCounts posted ss cap t o
+    → slice_get posted t ≡ Some (s, m) → MailboxCounts posted (ss ++ by_number.Take t ∷ []) cap (t + 1) (o + 1)
 counts_take posted ss cap t o s m kept here =
     let inside : t < length posted = slice_get_within posted t (s, m) here in
-    let long = length_push ss (step.Take t) in
+    let long = length_push ss (by_number.Take t) in
     record {
       history = subst (λ h. HistoryCounts h posted (t + 1) (o + 1)) (sym (taken_event posted ss t s m here))
           (history_take (events_of posted ss) posted t o s m kept.history here);
-      numbered = numbers_push (length posted) ss (step.Take t) kept.numbered inside;
+      numbered = numbers_push (length posted) ss (by_number.Take t) kept.numbered inside;
       within = omega (arith, inside);
       few = kept.few;
       room = omega (arith, long, inside, kept.room);
     }
 
 -- the Done of an open Take
-pub counts_done : {M : Type 0} (posted : List (ℕ × M)) (ss : List Step) (cap t o q : ℕ) → MailboxCounts posted ss cap t o
+pub counts_done : {M : Type 0} (posted : List (ℕ × M)) (ss : List NumberedEvent) (cap t o q : ℕ) → MailboxCounts posted ss cap t o
     → q < length (takes (events_of posted ss)) → (Contains (dones (events_of posted ss)) q → ⊥)
-    → MailboxCounts posted (ss ++ step.Done q ∷ []) cap t (o - 1)
+    → MailboxCounts posted (ss ++ by_number.Done q ∷ []) cap t (o - 1)
 counts_done posted ss cap t o q kept old fresh =
     let some = some_open (events_of posted ss) posted t o q kept.history old fresh in
-    let long = length_push ss (step.Done q) in
+    let long = length_push ss (by_number.Done q) in
     record {
       history = subst (λ h. HistoryCounts h posted t (o - 1)) (sym (done_event posted ss q))
           (history_done (events_of posted ss) posted t o q kept.history old fresh);
-      numbered = numbers_push (length posted) ss (step.Done q) kept.numbered tt;
+      numbered = numbers_push (length posted) ss (by_number.Done q) kept.numbered tt;
       within = kept.within;
       few = kept.few;
       room = omega (arith, long, some, kept.room);
     }
 
 -- the same lists with more room
-pub counts_grow : {M : Type 0} (posted posted' : List (ℕ × M)) (ss ss' : List Step) (cap cap' t o : ℕ) → posted' ≡ posted
+pub counts_grow : {M : Type 0} (posted posted' : List (ℕ × M)) (ss ss' : List NumberedEvent) (cap cap' t o : ℕ) → posted' ≡ posted
     → ss' ≡ ss → cap ≤ cap' → MailboxCounts posted ss cap t o → MailboxCounts posted' ss' cap' t o
 counts_grow posted posted' ss ss' cap cap' t o same steps grown kept =
     subst (λ l. MailboxCounts l ss' cap' t o) (sym same)
@@ -254,21 +255,21 @@ counts_grow posted posted' ss ss' cap cap' t o same steps grown kept =
 -- ---- the event of a number
 
 -- what was read at a place of the steps
-pub read_there : (steps read : List Step) (i : ℕ) (s x : Step) → read ≡ steps → true ≡ ltb i (length read)
+pub read_there : (steps read : List NumberedEvent) (i : ℕ) (s x : NumberedEvent) → read ≡ steps → true ≡ ltb i (length read)
     → s ≡ get_or read i s → s ≡ x → slice_get steps i ≡ Some x
 read_there steps read i s x same inside here is =
     subst (λ l. slice_get l i ≡ Some x) same
     (slice_get_read read (length read) i s refl (ltb-true i (length read) (sym inside)) here ∙ ap Some is)
 
 -- a numbered step is one event
-pub one_event : {M : Type 0} (posted : List (ℕ × M)) (s : Step) → IsNumbered (length posted) s
+pub one_event : {M : Type 0} (posted : List (ℕ × M)) (s : NumberedEvent) → IsNumbered (length posted) s
     → (e : Event M) × (event_of posted s ≡ e ∷ [])
-one_event posted (step.Post number) h = let (p, at) = element_at posted number h in (Post p.0 p.1, ap post_of at)
-one_event posted (step.Take number) h = let (p, at) = element_at posted number h in (Take p.0 p.1, ap take_of at)
-one_event posted (step.Done number) h = (Done number, refl)
+one_event posted (by_number.Post number) h = let (p, at) = element_at posted number h in (Post p.0 p.1, ap post_of at)
+one_event posted (by_number.Take number) h = let (p, at) = element_at posted number h in (Take p.0 p.1, ap take_of at)
+one_event posted (by_number.Done number) h = (Done number, refl)
 
 -- as many events as steps
-pub as_many : {M : Type 0} (posted : List (ℕ × M)) (ss : List Step) → AreNumbered (length posted) ss
+pub as_many : {M : Type 0} (posted : List (ℕ × M)) (ss : List NumberedEvent) → AreNumbered (length posted) ss
     → length (events_of posted ss) ≡ length ss
 as_many posted [] h = refl
 as_many posted (s ∷ ss) h =
@@ -276,14 +277,14 @@ as_many posted (s ∷ ss) h =
     ap (λ l. length (l ++ events_of posted ss)) one ∙ ap suc (as_many posted ss h.1)
 
 -- the number of a step of a list is below the count
-pub number_there : (count : ℕ) (ss : List Step) (i : ℕ) (s : Step) → AreNumbered count ss → slice_get ss i ≡ Some s
+pub number_there : (count : ℕ) (ss : List NumberedEvent) (i : ℕ) (s : NumberedEvent) → AreNumbered count ss → slice_get ss i ≡ Some s
     → IsNumbered count s
 number_there count [] i s h at = absurd (none-some s at)
 number_there count (x ∷ ss) zero s h at = subst (IsNumbered count) (same_Some x s at) h.0
 number_there count (x ∷ ss) (suc i) s h at = number_there count ss i s h.1 at
 
 -- the event of the step with a number is the event with that number
-pub event_there : {M : Type 0} (posted : List (ℕ × M)) (ss : List Step) (i : ℕ) (s : Step) (e : Event M)
+pub event_there : {M : Type 0} (posted : List (ℕ × M)) (ss : List NumberedEvent) (i : ℕ) (s : NumberedEvent) (e : Event M)
     → AreNumbered (length posted) ss → slice_get ss i ≡ Some s → event_of posted s ≡ e ∷ []
     → slice_get (events_of posted ss) i ≡ Some e
 event_there posted [] i s e h at is = absurd (none-some s at)
@@ -292,10 +293,3 @@ event_there posted (x ∷ ss) zero s e h at is =
 event_there posted (x ∷ ss) (suc i) s e h at is =
     let (f, one) = one_event posted x h.0 in
     ap (λ l. slice_get (l ++ events_of posted ss) (suc i)) one ∙ event_there posted ss i s e h.1 at is
-
--- the events before a number, with the event of that number
-pub one_more : {M : Type 0} (h front : List (Event M)) (i : ℕ) (e : Event M) → slice_get h i ≡ Some e → front ≡ take i h
-    → front ++ e ∷ [] ≡ take (i + 1) h
-one_more h front i e at so_far =
-    let parts = split_at_element h i e at in
-    ap (λ l. l ++ e ∷ []) so_far ∙ sym (ap (λ k. take k h) (add-one i) ∙ parts.2)

@@ -19,5 +19,5 @@ pub use laws::{
 };
 pub use ledger::Ledger;
 pub use legality::legal;
-pub use mailbox::Mailbox;
+pub use mailbox::{History, Mailbox};
 pub use side::{Side, by_sender};

@@ -1,17 +1,18 @@
 //! The mailbox.
 ghost use Rattle.std.specs.Prelude.{◌≡◌, ◌<◌, ◌++◌, ◌∷◌, ◌↔◌, [], length, slice_get};
 ghost use Rattle.std.specs.Prelude.{Contains};
-ghost use Rattle.std.specs.Prelude.{OnOk, IfErr, IfOk, IfSome, IfNone, IsNone};
+ghost use Rattle.std.specs.Prelude.{OnOk, IfErr, IfSome, IfNone, IsNone};
+ghost use Rattle.std.specs.Iterator.{YieldsFirst, item_count};
 ghost use Rattle.post_ledger.specs.History.{posts, takes, dones, IsLegal, TakesOldest};
 
 use crate::event::Event;
-use std::alloc::{AllocError, Allocator};
+use std::alloc::Allocator;
 use std::marker::Model;
 
 /// An event without its message: the number of a Post if it is one or took one, and of a Take if it completed one, both
 /// counted from 0.
 #[derive(Clone, Copy)]
-pub(crate) enum Step {
+pub(crate) enum NumberedEvent {
     Post(u32),
     Take(u32),
     Done(u32),
@@ -24,7 +25,7 @@ pub struct Mailbox<M, A: Allocator> {
     /// The senders and messages of the Posts so far.
     posted: Vec<(u8, M), A>,
     /// The events so far, with spare room for a Take and a Done of each Post that lacks them.
-    steps: Vec<Step, A>,
+    events: Vec<NumberedEvent, A>,
     /// How many Takes there are: the next one takes the Post with this number.
     taken: usize,
     /// How many Takes are not completed.
@@ -39,7 +40,7 @@ impl<M, A: Allocator> Model for Mailbox<M, A> {
 
     ghost use Rattle.post_ledger.specs.Kept.{IsKept, events_of};
 
-    ghost view = { λ m. events_of m.posted.items m.steps.items };
+    ghost view = { λ m. events_of m.posted.items m.events.items };
 
     ghost invariant = { IsKept };
 }
@@ -51,7 +52,7 @@ impl<M: Copy, A: Allocator> Mailbox<M, A> {
     {
         Mailbox {
             posted: Vec::new(messages),
-            steps: Vec::new(events),
+            events: Vec::new(events),
             taken: 0,
             open: 0,
         }
@@ -71,11 +72,11 @@ impl<M: Copy, A: Allocator> Mailbox<M, A> {
         if let Err(_) = self.posted.reserve(1) {
             return Err(message);
         }
-        if let Err(_) = self.steps.reserve(owed + 3) {
+        if let Err(_) = self.events.reserve(owed + 3) {
             return Err(message);
         }
         self.posted.push_reserved((sender, message));
-        self.steps.push_reserved(Step::Post(number));
+        self.events.push_reserved(NumberedEvent::Post(number));
         Ok(())
     }
 
@@ -106,7 +107,8 @@ impl<M: Copy, A: Allocator> Mailbox<M, A> {
             return None;
         }
         let (sender, message) = self.posted[number];
-        self.steps.push_reserved(Step::Take(number as u32));
+        self.events
+            .push_reserved(NumberedEvent::Take(number as u32));
         self.taken += 1;
         self.open += 1;
         Some((number as u64, sender, message))
@@ -118,7 +120,7 @@ impl<M: Copy, A: Allocator> Mailbox<M, A> {
         requires open { Contains (dones self.old) take → ⊥ }
         ensures { self.new ≡ self.old ++ Event.Done take ∷ [] }
     {
-        self.steps.push_reserved(Step::Done(take as u32));
+        self.events.push_reserved(NumberedEvent::Done(take as u32));
         self.open -= 1;
     }
 
@@ -133,42 +135,73 @@ impl<M: Copy, A: Allocator> Mailbox<M, A> {
     pub fn len(&self) -> usize
         ensures { result ≡ length self.now }
     {
-        self.steps.len()
+        self.events.len()
     }
 
     /// The event with this number, counted from 0, the oldest first.
     pub fn event(&self, number: usize) -> Option<Event<M>>
         ensures { result ≡ slice_get self.now number }
     {
-        let event = match *self.steps.get(number)? {
-            Step::Post(post) => {
+        let event = match *self.events.get(number)? {
+            NumberedEvent::Post(post) => {
                 let (sender, message) = self.posted[post as usize];
                 Event::Post { sender, message }
             }
-            Step::Take(post) => {
+            NumberedEvent::Take(post) => {
                 let (sender, message) = self.posted[post as usize];
                 Event::Take { sender, message }
             }
-            Step::Done(take) => Event::Done {
+            NumberedEvent::Done(take) => Event::Done {
                 take: u64::from(take),
             },
         };
         Some(event)
     }
 
-    /// A list of the events so far, the oldest first. An error means that there is no memory for the list.
-    pub fn history<L: Allocator>(&self, alloc: L) -> Result<Vec<Event<M>, L>, AllocError>
-        ensures all { IfOk result (λ list. list.items ≡ self.now) }
+    /// The events so far, the oldest first. Takes no memory.
+    pub fn history(&self) -> History<'_, M, A>
+        ensures all { result ≡ self.now }
         ensures legal { IsLegal self.now }
     {
         // What the mailbox keeps of its fields is known where one of them is used.
-        let _ = &self.steps;
-        let mut list = Vec::with_capacity(alloc, self.len())?;
-        for number in 0..self.len() {
-            if let Some(event) = self.event(number) {
-                list.push(event)?;
-            }
+        let _ = &self.events;
+        History {
+            mailbox: self,
+            read: 0,
         }
-        Ok(list)
+    }
+}
+
+/// The events of a mailbox that were not read yet, the oldest first. In clauses it is their list.
+#[derive(Drop)]
+pub struct History<'a, M, A: Allocator> {
+    mailbox: &'a Mailbox<M, A>,
+    /// How many events were read.
+    read: usize,
+}
+
+impl<'a, M, A: Allocator> Model for History<'a, M, A> {
+    ghost use Rattle.std.specs.Prelude.{List, drop};
+    ghost use Rattle.post_ledger.specs.declared.event.Event.{Event};
+
+    ghost Value = { List (Event M) };
+
+    ghost view = { λ h. drop h.read h.mailbox.now };
+}
+
+impl<'a, M: Copy, A: Allocator> Iterator for History<'a, M, A> {
+    type Item = Event<M>;
+
+    ghost next_gives = { YieldsFirst (λ h. h) };
+
+    ghost remaining = { item_count (λ h. h) };
+
+    fn next(&mut self) -> Option<Event<M>> {
+        if self.read >= self.mailbox.len() {
+            return None;
+        }
+        let event = self.mailbox.event(self.read);
+        self.read += 1;
+        event
     }
 }

@@ -110,6 +110,7 @@ impl<R: Wait + Threads + Sync> Trial<'_, R> {
             "refusing" => self.write_refused(out, number),
             "budget" => self.with_budget(out, number),
             "budgets" => self.with_budgets(out, number),
+            "exact" => self.with_exact(out, number),
             "limits" => self.with_limits(out, number),
             _ => self.times(out, number),
         }

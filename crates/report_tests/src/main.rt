@@ -11,6 +11,7 @@
 //! | `but lane L after take C of lane P: answer K N \| TEXT` | the same, if the refusal comes after that call (or `post C`) |
 //! | `budget B: answer K N \| TEXT` | the answer if each worker has B - 1 calls of the board, over all four pairs |
 //! | `budgets B: answer K N \| TEXT` | the same for 2, and whether for 3 to B it is `Spent` or the answer that comes without a limit |
+//! | `exact S: answer K N \| TEXT` | the answers with a budget that is one too small, just enough and one more, over all four pairs, for one procedure with S summaries whose lanes make no call in vain |
 //! | `limits N: answer K N \| TEXT` | the answers for at most 1 to N path edges, if they change, over all four pairs |
 //! | `refusing T: answer K N \| TEXT` | the result with one allocation refused, the first, then the second, up to T |
 //! | `answer K N \| TEXT` | the answer alone |
@@ -22,6 +23,7 @@
 #![tactic(auto)]
 
 mod case;
+mod exact;
 mod gates;
 mod program;
 mod refusing;

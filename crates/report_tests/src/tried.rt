@@ -5,8 +5,9 @@ ghost use Rattle.std.specs.Prelude.{◌≤◌, ◌^◌};
 use crate::program::{Parts, Trial};
 use crate::refusing::{Moment, Refusing};
 use flow_graph::Graphs;
-use gather::{Answer, CrewBoard, CrewSet, check_rounds_tried};
+use gather::{Answer, CrewBoard, CrewSet, Hire, check_rounds_tried};
 use path_sets::{DiagramEdges, OrderedEdges};
+use procedure_worker::Gate;
 use std::alloc::{AllocError, Global};
 use std::sync::Wait;
 use std::thread::Threads;
@@ -30,7 +31,7 @@ pub fn parts_at(number: u8) -> Parts {
 }
 
 /// Writes an answer, or why there is none.
-fn write_came(out: &mut String, came: Result<Answer, NoVerdict>) -> Result<(), AllocError> {
+pub fn write_came(out: &mut String, came: Result<Answer, NoVerdict>) -> Result<(), AllocError> {
     match came {
         Ok(answer) => write!(out, "{answer:?}"),
         Err(NoVerdict::EdgeLimit(_)) => out.push_str("EdgeLimit"),
@@ -52,18 +53,18 @@ pub fn put(out: &mut String, one: &str) -> Result<(), AllocError> {
 impl<R: Wait + Threads + Sync> Trial<'_, R> {
     /// The answer of the workers over this board and kind of set, with one value as the gate and as `Hire`. At the edge
     /// limit procedure 0 is named, since which one passes it first may depend on the schedule.
-    fn over<B: CrewBoard, S: CrewSet>(
+    fn over<B: CrewBoard, S: CrewSet, H: Gate + Hire + Sync>(
         &self,
         heap: B::Heap,
         alloc: S::Heap,
         limit: EdgeLimit,
-        hire: &Refusing,
+        hire: &H,
         budget: u64,
     ) -> Result<Answer, NoVerdict>
         requires { (2 ≤ budget) × (budget ≤ 2 ^ 56) }
     {
         let (program, rounds) = (&self.asked.program, self.asked.rounds);
-        match check_rounds_tried::<R, B, S, Refusing, Refusing, Global>(
+        match check_rounds_tried::<R, B, S, H, H, Global>(
             self.rt, heap, alloc, program, rounds, limit, hire, hire, budget,
         ) {
             Ok(report) => Ok(report.answer),
@@ -73,23 +74,29 @@ impl<R: Wait + Threads + Sync> Trial<'_, R> {
     }
 
     /// The answer of the workers with these parts.
-    fn tried(
+    pub fn tried<H: Gate + Hire + Sync>(
         &self,
         parts: Parts,
         limit: EdgeLimit,
-        hire: &Refusing,
+        hire: &H,
         budget: u64,
     ) -> Result<Answer, NoVerdict>
         requires { (2 ≤ budget) × (budget ≤ 2 ^ 56) }
     {
         let a = self.alloc;
         match (parts.one_lock, parts.diagrams) {
-            (false, true) => self.over::<LockEach, DiagramEdges<Global>>(a, a, limit, hire, budget),
-            (false, false) => self.over::<LockEach, OrderedEdges<Global>>(
+            (false, true) => self.over::<LockEach, DiagramEdges<Global>, H>(
                 a, a, limit, hire, budget,
             ),
-            (true, true) => self.over::<LockAll, DiagramEdges<Global>>(a, a, limit, hire, budget),
-            (true, false) => self.over::<LockAll, OrderedEdges<Global>>(a, a, limit, hire, budget),
+            (false, false) => self.over::<LockEach, OrderedEdges<Global>, H>(
+                a, a, limit, hire, budget,
+            ),
+            (true, true) => self.over::<LockAll, DiagramEdges<Global>, H>(
+                a, a, limit, hire, budget,
+            ),
+            (true, false) => self.over::<LockAll, OrderedEdges<Global>, H>(
+                a, a, limit, hire, budget,
+            ),
         }
     }
 

@@ -16,12 +16,13 @@ use Rattle.language.specs.Parts.{plain, assigns, targets_of, sides_of, test_of, 
 use Rattle.resolved.specs.There.{IsThere, names}
 use Rattle.resolved.specs.Statements.{Statement, statements_of, variables_of, variables_of_side, variables_of_sides}
 use Rattle.resolved.specs.Statements.{variables_of_test, variables_of_all}
-use Rattle.resolved.specs.Resolves.{Each, IsPlaceIn, StatementResolves, Resolves}
+use Rattle.resolved.specs.Resolves.{IsPlaceIn, StatementResolves, Resolves}
 use Rattle.resolved.proofs.Each.{each_left, each_right}
 use Rattle.resolved.proofs.Parts.{parts_resolve}
 use Rattle.std.specs.Prelude.{IfSome}
+use Rattle.std.specs.List.{AllByRecursion}
 use Rattle.resolved.specs.Scoped.{PlaceInScope, InScope, AreInScope, SideInScope, SidesInScope, PlacesInScope}
-use Rattle.resolved.specs.Scoped.{Throughout, EachRoutine, EachThread}
+use Rattle.resolved.specs.Scoped.{Throughout, EachThread}
 use Rattle.resolved.specs.Complete.{SimpleComplete, RoutineComplete, IsComplete}
 
 module _ (t : Tree) (p : Procedure) where
@@ -41,11 +42,11 @@ module _ (t : Tree) (p : Procedure) where
   in_scope (global i) h = h
   in_scope (local i) h = h
 
-  places_in_scope : (xs : List Name) → Each Placed xs → PlacesInScope n own (map (place_of s) xs)
+  places_in_scope : (xs : List Name) → AllByRecursion Placed xs → PlacesInScope n own (map (place_of s) xs)
   places_in_scope [] h = tt
   places_in_scope (x ∷ xs) h = (in_scope (place_of s x) h.0, places_in_scope xs h.1)
 
-  expression_in_scope : (e : Expression Name) → Each Placed (variables_of e) → InScope n own (resolve_expression s e)
+  expression_in_scope : (e : Expression Name) → AllByRecursion Placed (variables_of e) → InScope n own (resolve_expression s e)
   expression_in_scope (const b) h = tt
   expression_in_scope (var x) h = in_scope (place_of s x) h.0
   expression_in_scope (negation e) h = expression_in_scope e h
@@ -55,7 +56,8 @@ module _ (t : Tree) (p : Procedure) where
         (each_right Placed (variables_of a) (variables_of b) h),
   )
 
-  arguments_in_scope : (es : List (Expression Name)) → Each Placed (variables_of_all es) → AreInScope n own (map (resolve_expression s) es)
+  arguments_in_scope : (es : List (Expression Name)) → AllByRecursion Placed (variables_of_all es)
+      → AreInScope n own (map (resolve_expression s) es)
   arguments_in_scope [] h = tt
   arguments_in_scope (e ∷ es) h = (
     expression_in_scope e (each_left Placed (variables_of e) (variables_of_all es) h),
@@ -63,11 +65,12 @@ module _ (t : Tree) (p : Procedure) where
         (each_right Placed (variables_of e) (variables_of_all es) h),
   )
 
-  side_in_scope : (r : RightSide Name) → Each Placed (variables_of_side r) → SideInScope n own (resolve_side s r)
+  side_in_scope : (r : RightSide Name) → AllByRecursion Placed (variables_of_side r) → SideInScope n own (resolve_side s r)
   side_in_scope any h = tt
   side_in_scope (value e) h = expression_in_scope e h
 
-  sides_in_scope : (rs : List (RightSide Name)) → Each Placed (variables_of_sides rs) → SidesInScope n own (map (resolve_side s) rs)
+  sides_in_scope : (rs : List (RightSide Name)) → AllByRecursion Placed (variables_of_sides rs)
+      → SidesInScope n own (map (resolve_side s) rs)
   sides_in_scope [] h = tt
   sides_in_scope (r ∷ rs) h = (
     side_in_scope r (each_left Placed (variables_of_side r) (variables_of_sides rs) h),
@@ -83,7 +86,7 @@ module _ (t : Tree) (p : Procedure) where
       let k : length (map (resolve_expression s) es) ≡ length es = length-map es (resolve_expression s) in
       omega (arith, e, k, h)
 
-  test_in_scope : (o : Option (RightSide Name)) → Each Placed (variables_of_test o)
+  test_in_scope : (o : Option (RightSide Name)) → AllByRecursion Placed (variables_of_test o)
       → IfSome (option_map (resolve_side s) o) (SideInScope n own)
   test_in_scope None h = tt
   test_in_scope (Some r) h = side_in_scope r h
@@ -135,7 +138,7 @@ module _ (t : Tree) (p : Procedure) where
   abbrev GivesWithin : Block Name Name Name → Type 0
   GivesWithin b = gives_value b ≡ true → gives_value p.body ≡ true
 
-  block_complete : (b : Block Name Name Name) → Each (StatementResolves t p) (statements_of b) → GivesWithin b
+  block_complete : (b : Block Name Name Name) → AllByRecursion (StatementResolves t p) (statements_of b) → GivesWithin b
       → Complete (resolve_block s b)
   block_complete done h within = tt
   block_complete (one m c k) h within = (
@@ -144,7 +147,8 @@ module _ (t : Tree) (p : Procedure) where
   )
   block_complete (choose m r a b k) h within =
       let P : Statement → Type 0 = StatementResolves t p in
-      let rest : Each P (statements_of b ++ statements_of k) = each_right P (statements_of a) (statements_of b ++ statements_of k) h.1 in (
+      let rest : AllByRecursion P (statements_of b ++ statements_of k) =
+      each_right P (statements_of a) (statements_of b ++ statements_of k) h.1 in (
         side_in_scope r (each_left Placed (variables_of_side r) [] h.0.variables),
         block_complete a (each_left P (statements_of a) (statements_of b ++ statements_of k) h.1)
             (λ is. within (or_left (gives_value a) (gives_value b || gives_value k) is)),
@@ -251,8 +255,9 @@ module _ (t : Tree) where
   abbrev all : List Routine
   all = (meaning_of t).routines
 
-  routines_complete : (ps : List Procedure) → Each (λ (p : Procedure). Each (StatementResolves t p) (statements_of p.body)) ps
-      → EachRoutine (RoutineComplete (map numbered_routine (meaning_of t).routines) (length t.globals))
+  routines_complete : (ps : List Procedure)
+      → AllByRecursion (λ (p : Procedure). AllByRecursion (StatementResolves t p) (statements_of p.body)) ps
+      → AllByRecursion (RoutineComplete (map numbered_routine (meaning_of t).routines) (length t.globals))
       (map numbered_routine (map (routine_of t) ps))
   routines_complete [] h = tt
   routines_complete (p ∷ ps) h = (
@@ -266,7 +271,7 @@ module _ (t : Tree) where
   start_there None h = h
   start_there (Some r) h = tt
 
-  threads_there : (lines : List ThreadLine) → Each
+  threads_there : (lines : List ThreadLine) → AllByRecursion
       (λ (line : ThreadLine). IsThere (slice_get t.procedures (number_of line.name.text (names t.procedures)))
       (λ r. length r.formals ≡ 0)) lines → EachThread (map numbered_routine (meaning_of t).routines)
       (map (λ (line : ThreadLine). number_of line.name.text (names t.procedures)) lines)

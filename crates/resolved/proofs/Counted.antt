@@ -3,6 +3,7 @@ use Rattle.std.proofs.Common.{◌≡◌, ℕ, zero, suc, ◌+◌, ◌<◌, ◌�
 use Rattle.std.proofs.Common.{length-append, get_or, slice_get, cond, sym, ◌∙◌, ap, subst, arith, Bool, true, false}
 use mir.Val.{bool_byte}
 use Rattle.std.proofs.lemmas.List.{length-map}
+use Rattle.std.specs.List.{AllByRecursion}
 use Rattle.language.specs.Tree.{Procedure}
 use Rattle.trees.specs.declared.tree.Name as declared
 use Rattle.trees.specs.declared.tree.Proc.{Proc}
@@ -10,11 +11,11 @@ use Rattle.trees.specs.declared.tree.Program.{Program}
 use Rattle.trees.specs.Trees.{name_of, names_of, block_of, proc_of, procs_of, tree_of}
 use Rattle.language.specs.Resolve.{gives_value}
 use Rattle.resolved.specs.Limits.{most_places}
-use Rattle.resolved.specs.Narrow.{EachProcedure, width, AllNarrow}
+use Rattle.resolved.specs.Narrow.{width, AllNarrow}
 
 -- each procedure of a list has what all have
 pub each_at : {A : Type 0} (P : Procedure → Type 0) (ss : List (Proc A)) (i : ℕ) (s : Proc A) → i < length ss → s ≡ get_or ss i s
-    → EachProcedure P (procs_of ss) → P (proc_of s)
+    → AllByRecursion P (procs_of ss) → P (proc_of s)
 each_at P [] i s lt is e = absurd (omega arith)
 each_at P (x ∷ ss) zero s lt is e = subst (λ y. P (proc_of y)) (sym is) e.0
 each_at P (x ∷ ss) (suc i) s lt is e = each_at P ss i s (omega arith) is e.1

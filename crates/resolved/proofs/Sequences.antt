@@ -3,6 +3,7 @@ use Rattle.std.proofs.Common.{◌≡◌, ℕ, zero, suc, ◌+◌, ◌≤◌, Lis
 use Rattle.std.proofs.Common.{slice_get, option_map, inl, inr, refl, sym, ◌∙◌, ap, subst}
 use Rattle.std.proofs.lemmas.List.{length-map}
 use Rattle.std.proofs.lemmas.Option.{none-some, same_Some}
+use Rattle.std.specs.List.{AllByRecursion}
 use Rattle.language.specs.Tree.{Expression, RightSide, Simple, skip, assign, assert, assume, goto, leave, call, leave_with, call_for}
 use Rattle.language.specs.Tree.{done, one, choose, loop, Procedure, Tree}
 use Rattle.language.specs.Value.{Place}
@@ -14,7 +15,7 @@ use Rattle.language.specs.Flow.{rests, IsRestOf}
 use Rattle.language.specs.Lists.{Member}
 use Rattle.language.specs.Messages.{ArgumentsFit}
 use Rattle.language.proofs.Members.{member_append}
-use Rattle.resolved.specs.Narrow.{EachProcedure, width, AllNarrow}
+use Rattle.resolved.specs.Narrow.{width, AllNarrow}
 use Rattle.resolved.specs.Resolves.{Resolves}
 use Rattle.resolved.specs.Scoped.{SideInScope, Throughout}
 use Rattle.resolved.specs.Complete.{SimpleComplete, RoutineComplete, IsComplete}
@@ -138,7 +139,7 @@ narrow_places t narrow q r e =
     let (p, is, same) = procedure_at t q r e in
     subst (λ (z : Routine). length t.globals + frame_size z ≤ most_places) (sym same) (go t.procedures q p narrow is)
   where
-    go : (ps : List Procedure) (q : ℕ) (p : Procedure) → EachProcedure (λ (p : Procedure). width t p ≤ most_places) ps →
+    go : (ps : List Procedure) (q : ℕ) (p : Procedure) → AllByRecursion (λ (p : Procedure). width t p ≤ most_places) ps →
         slice_get ps q ≡ Some p → width t p ≤ most_places
     go [] q p h e = absurd (none-some p e)
     go (x ∷ ps) zero p h e = subst (λ y. width t y ≤ most_places) (same_Some x p e) h.0

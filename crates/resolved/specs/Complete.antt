@@ -1,11 +1,12 @@
 -- A resolved program in which no step lacks what it needs.
 use Rattle.std.specs.Prelude.{◌≡◌, ℕ, true, List, IfSome}
+use Rattle.std.specs.List.{AllByRecursion}
 use Rattle.language.specs.Tree.{Simple, done}
 use Rattle.language.specs.Parts.{plain, jump_of, gives, HasAllSides}
 use Rattle.language.specs.Value.{Place}
 use Rattle.language.specs.Rest.{Label, rest_from}
 use Rattle.language.specs.Step.{Routine, Program, AtRest}
-use Rattle.resolved.specs.Scoped.{SimpleInScope, SideInScope, Throughout, EachRoutine, EachThread}
+use Rattle.resolved.specs.Scoped.{SimpleInScope, SideInScope, Throughout, EachThread}
 
 -- In a procedure, among these and this number of globals: the statement is in scope, each target has its right side,
 -- there is a rest from the label of a goto on, and only a procedure that gives a value returns one.
@@ -21,5 +22,5 @@ RoutineComplete routines globals own = Throughout (SimpleComplete routines globa
 
 -- this holds for every procedure, and each thread starts in a procedure that is there
 pub record IsComplete (program : Program) : Type 0 where
-  pub routines : EachRoutine (RoutineComplete program.routines program.globals) program.routines
+  pub routines : AllByRecursion (RoutineComplete program.routines program.globals) program.routines
   pub threads : EachThread program.routines program.threads

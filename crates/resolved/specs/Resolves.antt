@@ -1,5 +1,6 @@
 -- What the names of a checked tree stand for exists.
 use Rattle.std.specs.Prelude.{◌≡◌, ◌<◌, List, [], ◌∷◌, ◌++◌, length, slice_get, IfSome}
+use Rattle.std.specs.List.{AllByRecursion}
 use Rattle.language.specs.Tree.{Name, done, Procedure, ThreadLine, Tree}
 use Rattle.language.specs.Parts.{Head, callee_of, arguments_of, jump_of, HasAllSides}
 use Rattle.language.specs.Value.{Place, global, local}
@@ -8,11 +9,6 @@ use Rattle.language.specs.Step.{AtRest}
 use Rattle.language.specs.Resolve.{number_of, place_of, scope_of, resolve_block}
 use Rattle.resolved.specs.There.{IsThere, names}
 use Rattle.resolved.specs.Statements.{Statement, statements_of, used_by}
-
--- each member of the list has the property
-abbrev pub Each : {X : Type 0} → (X → Type 0) → List X → Type 0
-Each P [] = Unit {0}
-Each P (x ∷ xs) = P x × Each P xs
 
 -- the place is one of the tree's globals, or of the procedure's formals and locals
 abbrev pub IsPlaceIn : Tree → Procedure → Place → Type 0
@@ -31,7 +27,7 @@ GoesSomewhere tree procedure head =
 
 -- each variable of the statement has its place, what it calls or goes to is there, and each target has its right side
 pub record StatementResolves (tree : Tree) (procedure : Procedure) (statement : Statement) : Type 0 where
-  pub variables : Each (λ x. IsPlaceIn tree procedure (place_of (scope_of tree procedure) x)) (used_by statement.head)
+  pub variables : AllByRecursion (λ x. IsPlaceIn tree procedure (place_of (scope_of tree procedure) x)) (used_by statement.head)
   pub target : GoesSomewhere tree procedure statement.head
   pub sides : HasAllSides statement.head
 
@@ -43,5 +39,5 @@ StartsThere tree line =
 -- resolving never fails: every statement of every procedure resolves, and each thread starts in a procedure that is
 -- there and has no formals
 pub record Resolves (tree : Tree) : Type 0 where
-  pub statements : Each (λ (p : Procedure). Each (StatementResolves tree p) (statements_of p.body)) tree.procedures
-  pub threads : Each (StartsThere tree) tree.threads
+  pub statements : AllByRecursion (λ (p : Procedure). AllByRecursion (StatementResolves tree p) (statements_of p.body)) tree.procedures
+  pub threads : AllByRecursion (StartsThere tree) tree.threads

@@ -4,6 +4,7 @@ use native.Mathlib.Nat.{ℕ_set}
 use native.Mathlib.Bridge.{le_prop}
 use Rattle.std.specs.Prelude.{◌≡◌, List, [], ◌∷◌, Option, Some, None}
 use Rattle.std.specs.Option.{MatchOption-prop}
+use Rattle.std.specs.List.{AllByRecursion, AllByRecursion-prop}
 use Rattle.language.specs.Tree.{Name, Procedure, Tree}
 use Rattle.language.specs.Parts.{Head, callee_of, jump_of, HasAllSides}
 use Rattle.language.specs.Value.{Place, global, local}
@@ -12,11 +13,7 @@ use Rattle.language.specs.Step.{AtRest}
 use Rattle.language.specs.Resolve.{place_of, scope_of}
 use Rattle.resolved.specs.There.{IsThere}
 use Rattle.resolved.specs.Statements.{Statement}
-use Rattle.resolved.specs.Resolves.{Each, IsPlaceIn, GoesSomewhere, StatementResolves, Resolves}
-
-pub Each-prop : {X : Type 0} (P : X → Type 0) → ((x : X) → IsProp (P x)) → (xs : List X) → IsProp (Each P xs)
-Each-prop P p [] = Unit-prop
-Each-prop P p (x ∷ xs) = ×_prop (p x) (Each-prop P p xs)
+use Rattle.resolved.specs.Resolves.{IsPlaceIn, GoesSomewhere, StatementResolves, Resolves}
 
 IsThere-prop : (o : Option Procedure) (P : Procedure → Type 0) → ((q : Procedure) → IsProp (P q)) → IsProp (IsThere o P)
 IsThere-prop None P p = ⊥_prop
@@ -40,13 +37,14 @@ HasAllSides-prop h f g i is = let e : f is ≡ g is = ℕ_set _ _ (f is) (g is) 
 
 StatementResolves-prop : (t : Tree) (p : Procedure) (s : Statement) → IsProp (StatementResolves t p s)
 StatementResolves-prop t p s a b = λ i. record {
-  variables = Each-prop _ (λ x. IsPlaceIn-prop t p (place_of (scope_of t p) x)) _ a.variables b.variables i;
+  variables = AllByRecursion-prop _ (λ x. IsPlaceIn-prop t p (place_of (scope_of t p) x)) _ a.variables b.variables i;
   target = GoesSomewhere-prop t p s.head a.target b.target i;
   sides = HasAllSides-prop s.head a.sides b.sides i;
 }
 
 pub Resolves-prop : (t : Tree) → IsProp (Resolves t)
 Resolves-prop tree a b = λ i. record {
-  statements = Each-prop _ (λ p. Each-prop _ (StatementResolves-prop tree p) _) tree.procedures a.statements b.statements i;
-  threads = Each-prop _ (λ line. IsThere-prop _ _ (λ r. ℕ_set _ _)) tree.threads a.threads b.threads i;
+  statements =
+      AllByRecursion-prop _ (λ p. AllByRecursion-prop _ (StatementResolves-prop tree p) _) tree.procedures a.statements b.statements i;
+  threads = AllByRecursion-prop _ (λ line. IsThere-prop _ _ (λ r. ℕ_set _ _)) tree.threads a.threads b.threads i;
 }

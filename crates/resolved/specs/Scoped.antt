@@ -1,6 +1,7 @@
 -- A resolved program that fits its scopes: every variable is a global or a place of its procedure, and
 -- every procedure that is called is there, with a place for each argument.
 use Rattle.std.specs.Prelude.{ℕ, ◌<◌, ◌≤◌, List, [], ◌∷◌, length, slice_get, IfSome}
+use Rattle.std.specs.List.{AllByRecursion}
 use Rattle.language.specs.Tree.{Expression, const, var, negation, two, RightSide, any, value, Simple, done, one, choose, loop}
 use Rattle.language.specs.Parts.{plain, targets_of, sides_of, test_of, arguments_of, callee_of}
 use Rattle.language.specs.Value.{Place, global, local}
@@ -56,15 +57,9 @@ Throughout S R (one mark statement rest) = S statement × Throughout S R rest
 Throughout S R (choose mark side if_true if_false rest) = R side × Throughout S R if_true × Throughout S R if_false × Throughout S R rest
 Throughout S R (loop mark side body rest) = R side × Throughout S R body × Throughout S R rest
 
--- each procedure has the property
-abbrev pub EachRoutine : (Routine → Type 0) → List Routine → Type 0
-EachRoutine P [] = Unit {0}
-EachRoutine P (routine ∷ rs) = P routine × EachRoutine P rs
-
 -- each thread starts in a procedure that is there
 abbrev pub EachThread : List Routine → List ℕ → Type 0
-EachThread routines [] = Unit {0}
-EachThread routines (c ∷ cs) = AtRoutine (slice_get routines c) (λ r. Unit {0}) × EachThread routines cs
+EachThread routines threads = AllByRecursion (λ number. AtRoutine (slice_get routines number) (λ routine. Unit {0})) threads
 
 -- every statement of the procedure is in scope
 abbrev pub RoutineInScope : List Routine → ℕ → Routine → Type 0
@@ -73,5 +68,5 @@ RoutineInScope routines globals routine =
 
 -- the program fits its scopes, and each thread starts in a procedure that is there
 pub record FitsScopes (program : Program) : Type 0 where
-  pub routines : EachRoutine (RoutineInScope program.routines program.globals) program.routines
+  pub routines : AllByRecursion (RoutineInScope program.routines program.globals) program.routines
   pub threads : EachThread program.routines program.threads

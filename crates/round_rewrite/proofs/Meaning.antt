@@ -7,6 +7,7 @@ use Rattle.std.proofs.lemmas.Option.{slice_get-map}
 use Rattle.language.specs.Tree.{Name, Expression, const, var, negation, two, RightSide, any, value, Simple}
 use Rattle.language.specs.Tree.{Block, done, one, choose, loop, Procedure, ThreadLine, Tree}
 use Rattle.std.specs.Prelude.{IfSome}
+use Rattle.std.specs.List.{AllByRecursion}
 use Rattle.language.specs.Parts.{plain, targets_of, sides_of, test_of, arguments_of, callee_of}
 use Rattle.language.specs.Value.{global, local}
 use Rattle.language.specs.Rest.{same_text}
@@ -18,12 +19,12 @@ use Rattle.round_rewrite.specs.Table.{numbers, temporaries, rewritten}
 use Rattle.round_rewrite.specs.Places.{places, is_global, rewritten_routine, main_routine, rewritten_program, bad_at, global_count}
 use Rattle.round_rewrite.specs.Names.{drawn_name, names, rewritten_procedure, main_procedure, rewritten_tree}
 use Rattle.resolved.specs.Scoped.{PlaceInScope, InScope, AreInScope, SideInScope, SidesInScope, PlacesInScope, SimpleInScope, Throughout}
-use Rattle.resolved.specs.Scoped.{EachRoutine, EachThread, RoutineInScope, FitsScopes}
+use Rattle.resolved.specs.Scoped.{EachThread, RoutineInScope, FitsScopes}
 use Rattle.language.proofs.Names.{number_less}
 use Rattle.checked.specs.Rewritable.{has_double, AreFree, Declared, AllDeclared, ExpressionDeclared, ExpressionsDeclared, SideDeclared}
 use Rattle.checked.specs.Rewritable.{SidesDeclared, HasRoom, SimpleDeclared, BlockDeclared, ProcedureRewritable, EachLine, IsRewritable}
 use Rattle.resolved.proofs.Parts.{parts_resolve}
-use Rattle.resolved.specs.Narrow.{EachProcedure, width}
+use Rattle.resolved.specs.Narrow.{width}
 use Rattle.round_rewrite.specs.Narrow.{IsNarrow}
 use Rattle.round_rewrite.specs.Law.{KeepsFailures, KeepsTree}
 use Rattle.round_rewrite.proofs.Spelling.{free_differs}
@@ -41,7 +42,7 @@ names_kept : (last : ℕ) (procs : List Procedure)
 names_kept last [] = refl
 names_kept last (p ∷ procs) = ap (λ z. p.name ∷ z) (names_kept last procs)
 
-pub free_names : (t : Tree) (procs : List Procedure) → EachProcedure (ProcedureRewritable t) procs
+pub free_names : (t : Tree) (procs : List Procedure) → AllByRecursion (ProcedureRewritable t) procs
     → AreFree (map (λ (p : Procedure). p.name) procs)
 free_names t [] h = tt
 free_names t (p ∷ procs) h = (h.0.name, free_names t procs h.1)
@@ -138,8 +139,8 @@ module _ (t : Tree) (last : ℕ) (ok : IsRewritable t) (small : last < most_roun
         body = (scoped ∙ bodies) i;
       }
 
-  routines_are : (procs : List Procedure) → EachProcedure (ProcedureRewritable t) procs →
-      EachProcedure (λ (p : Procedure). width t' p ≤ most_places) (map (rewritten_procedure last) procs) →
+  routines_are : (procs : List Procedure) → AllByRecursion (ProcedureRewritable t) procs →
+      AllByRecursion (λ (p : Procedure). width t' p ≤ most_places) (map (rewritten_procedure last) procs) →
       map (routine_of t') (map (rewritten_procedure last) procs) ≡ map (rewritten_routine (length gs) last)
       (map (routine_of t) procs)
   routines_are [] h narrow = refl
@@ -234,8 +235,8 @@ module _ (t : Tree) (last : ℕ) (ok : IsRewritable t) (small : last < most_roun
     block_fits (choose m r a b k) h = (side_fits r h.0, block_fits a h.1, block_fits b h.2, block_fits k h.3)
     block_fits (loop m r a k) h = (side_fits r h.0, block_fits a h.1, block_fits k h.2)
 
-  routines_fit : (procs : List Procedure) → EachProcedure (ProcedureRewritable t) procs
-      → EachRoutine (RoutineInScope (meaning_of t).routines (length gs)) (map (routine_of t) procs)
+  routines_fit : (procs : List Procedure) → AllByRecursion (ProcedureRewritable t) procs
+      → AllByRecursion (RoutineInScope (meaning_of t).routines (length gs)) (map (routine_of t) procs)
   routines_fit [] h = tt
   routines_fit (p ∷ procs) h = (block_fits (own_of p) p.body h.0.body, routines_fit procs h.1)
 

@@ -3,6 +3,7 @@ use Rattle.std.proofs.Common.{◌≡◌, ℕ, zero, suc, ◌+◌, ◌<◌, ◌�
 use Rattle.std.proofs.Common.{length, map, reverse, codes, Some, refl, sym, ◌∙◌, subst, arith, length-append}
 use Rattle.std.proofs.lemmas.List.{length-map}
 use Rattle.std.specs.List.{AllByRecursion}
+use Rattle.std.specs.List.{AllByRecursion}
 use Rattle.language.specs.Tree.{Name, Expression, const, var, negation, two, RightSide, any, value, Simple, skip, assign, assert}
 use Rattle.language.specs.Tree.{assume, goto, leave, call, leave_with, call_for, Mark, Block, done, one, choose, loop, Procedure}
 use Rattle.language.specs.Tree.{ThreadLine, Tree}
@@ -11,7 +12,6 @@ use Rattle.language.specs.Resolve.{is_declared}
 use Rattle.grammar.specs.Grammar.{IsSome}
 use Rattle.grammar.specs.InGrammar.{IsId, AreIds, ExpressionInGrammar, SideInGrammar, SimpleInGrammar, LabelInGrammar, BlockInGrammar}
 use Rattle.grammar.specs.InGrammar.{ProcedureInGrammar, ThreadInGrammar, InGrammar}
-use Rattle.resolved.specs.Resolves.{Each}
 use Rattle.resolved.specs.Statements.{variables_of, variables_of_side, variables_of_sides, variables_of_all}
 use Rattle.resolved.proofs.Each.{each_left, each_right}
 use Rattle.round_rewrite.specs.Table.{numbers, plain, temporaries, in_round, expression, side, rounds, targets, sides, draws, drawing}
@@ -34,73 +34,73 @@ use Rattle.resolved.specs.Limits.{most_places}
 use Rattle.round_rewrite.specs.Limits.{most_rounds, round_bits}
 
 -- names, expressions and right sides of the grammar are those whose variables are ids
-ids_each : (xs : List Name) → AreIds xs → Each IsId xs
+ids_each : (xs : List Name) → AreIds xs → AllByRecursion IsId xs
 ids_each [] h = tt
 ids_each (x ∷ xs) h = (h.0, ids_each xs h.1)
 
-each_ids : (xs : List Name) → Each IsId xs → AreIds xs
+each_ids : (xs : List Name) → AllByRecursion IsId xs → AreIds xs
 each_ids [] h = tt
 each_ids (x ∷ xs) h = (h.0, each_ids xs h.1)
 
-uses_ids : (e : Expression Name) → ExpressionInGrammar e → Each IsId (variables_of e)
+uses_ids : (e : Expression Name) → ExpressionInGrammar e → AllByRecursion IsId (variables_of e)
 uses_ids (const b) h = tt
 uses_ids (var x) h = (h, tt)
 uses_ids (negation e) h = uses_ids e h
 uses_ids (two o a b) h = each_both IsId (variables_of a) (variables_of b) (uses_ids a h.0) (uses_ids b h.1)
 
-ids_used : (e : Expression Name) → Each IsId (variables_of e) → ExpressionInGrammar e
+ids_used : (e : Expression Name) → AllByRecursion IsId (variables_of e) → ExpressionInGrammar e
 ids_used (const b) h = tt
 ids_used (var x) h = h.0
 ids_used (negation e) h = ids_used e h
 ids_used (two o a b) h =
     (ids_used a (each_left IsId (variables_of a) (variables_of b) h), ids_used b (each_right IsId (variables_of a) (variables_of b) h))
 
-side_uses_ids : (r : RightSide Name) → SideInGrammar r → Each IsId (variables_of_side r)
+side_uses_ids : (r : RightSide Name) → SideInGrammar r → AllByRecursion IsId (variables_of_side r)
 side_uses_ids any h = tt
 side_uses_ids (value e) h = uses_ids e h
 
-side_ids_used : (r : RightSide Name) → Each IsId (variables_of_side r) → SideInGrammar r
+side_ids_used : (r : RightSide Name) → AllByRecursion IsId (variables_of_side r) → SideInGrammar r
 side_ids_used any h = tt
 side_ids_used (value e) h = ids_used e h
 
 -- the same for lists of them: own are the names of one, all those of a list
 list_uses_ids : {X : Type 0} (P : X → Type 0) (own : X → List Name) (all : List X → List Name)
     → all [] ≡ [] → ((x : X) (xs : List X) → all (x ∷ xs) ≡ own x ++ all xs)
-    → ((x : X) → P x → Each IsId (own x)) → (xs : List X) → AllByRecursion P xs → Each IsId (all xs)
-list_uses_ids P own all none more single [] h = subst (Each IsId) (sym none) tt
+    → ((x : X) → P x → AllByRecursion IsId (own x)) → (xs : List X) → AllByRecursion P xs → AllByRecursion IsId (all xs)
+list_uses_ids P own all none more single [] h = subst (AllByRecursion IsId) (sym none) tt
 list_uses_ids P own all none more single (x ∷ xs) h =
-    subst (Each IsId) (sym (more x xs))
+    subst (AllByRecursion IsId) (sym (more x xs))
     (each_both IsId (own x) (all xs) (single x h.0) (list_uses_ids P own all none more single xs h.1))
 
 list_ids_used : {X : Type 0} (P : X → Type 0) (own : X → List Name) (all : List X → List Name)
     → ((x : X) (xs : List X) → all (x ∷ xs) ≡ own x ++ all xs)
-    → ((x : X) → Each IsId (own x) → P x) → (xs : List X) → Each IsId (all xs) → AllByRecursion P xs
+    → ((x : X) → AllByRecursion IsId (own x) → P x) → (xs : List X) → AllByRecursion IsId (all xs) → AllByRecursion P xs
 list_ids_used P own all more single [] h = tt
 list_ids_used P own all more single (x ∷ xs) h =
-    let both = subst (Each IsId) (more x xs) h in (
+    let both = subst (AllByRecursion IsId) (more x xs) h in (
       single x (each_left IsId (own x) (all xs) both),
       list_ids_used P own all more single xs (each_right IsId (own x) (all xs) both),
     )
 
-sides_use_ids : (rs : List (RightSide Name)) → AllByRecursion SideInGrammar rs → Each IsId (variables_of_sides rs)
+sides_use_ids : (rs : List (RightSide Name)) → AllByRecursion SideInGrammar rs → AllByRecursion IsId (variables_of_sides rs)
 sides_use_ids = list_uses_ids SideInGrammar variables_of_side variables_of_sides refl (λ r rs. refl) side_uses_ids
 
-sides_ids_used : (rs : List (RightSide Name)) → Each IsId (variables_of_sides rs) → AllByRecursion SideInGrammar rs
+sides_ids_used : (rs : List (RightSide Name)) → AllByRecursion IsId (variables_of_sides rs) → AllByRecursion SideInGrammar rs
 sides_ids_used = list_ids_used SideInGrammar variables_of_side variables_of_sides (λ r rs. refl) side_ids_used
 
-arguments_use_ids : (es : List (Expression Name)) → AllByRecursion ExpressionInGrammar es → Each IsId (variables_of_all es)
+arguments_use_ids : (es : List (Expression Name)) → AllByRecursion ExpressionInGrammar es → AllByRecursion IsId (variables_of_all es)
 arguments_use_ids = list_uses_ids ExpressionInGrammar variables_of variables_of_all refl (λ e es. refl) uses_ids
 
-arguments_ids_used : (es : List (Expression Name)) → Each IsId (variables_of_all es) → AllByRecursion ExpressionInGrammar es
+arguments_ids_used : (es : List (Expression Name)) → AllByRecursion IsId (variables_of_all es) → AllByRecursion ExpressionInGrammar es
 arguments_ids_used = list_ids_used ExpressionInGrammar variables_of variables_of_all (λ e es. refl) ids_used
 
 -- the lowest bits of the round
-bit_ids : (count : ℕ) → Each IsId (bit_names count)
+bit_ids : (count : ℕ) → AllByRecursion IsId (bit_names count)
 bit_ids count = numbered_each IsId bit_name count (λ j lt. bit_id j) 0 count (omega arith)
 
 -- an assignment of the grammar, by its variables
-assign_in_grammar : (xs : List Name) (rs : List (RightSide Name)) → 0 < length xs → length xs ≡ length rs → Each IsId xs
-    → Each IsId (variables_of_sides rs) → SimpleInGrammar (assign xs rs)
+assign_in_grammar : (xs : List Name) (rs : List (RightSide Name)) → 0 < length xs → length xs ≡ length rs → AllByRecursion IsId xs
+    → AllByRecursion IsId (variables_of_sides rs) → SimpleInGrammar (assign xs rs)
 assign_in_grammar xs rs some even h g = (some, each_ids xs h, omega (arith, some, even), sides_ids_used rs g)
 
 -- blocks of the grammar joined
@@ -305,14 +305,14 @@ procedures_in_grammar last small (p ∷ ps) few h =
 -- the globals, and the first procedure
 module _ (last : ℕ) (small : last < most_rounds) where
   rows_ids : (write : ℕ → Name → Name) → ((k : ℕ) (x : Name) → k < most_rounds → IsId x → IsId (write k x)) →
-      (xs : List Name) → Each IsId xs → (j m : ℕ) → j + m ≤ most_rounds
-      → Each IsId (copied (names []) last write xs (numbers j m))
+      (xs : List Name) → AllByRecursion IsId xs → (j m : ℕ) → j + m ≤ most_rounds
+      → AllByRecursion IsId (copied (names []) last write xs (numbers j m))
   rows_ids write f xs h j zero le = tt
   rows_ids write f xs h j (suc m) le =
       each_both IsId (map (write j) xs) (copied (names []) last write xs (numbers (suc j) m))
       (written_each IsId IsId (write j) xs (λ x i. f j x (omega arith) i) h) (rows_ids write f xs h (suc j) m (omega arith))
 
-  globals_ids : (xs : List Name) → Each IsId xs → Each IsId (globals (names []) last xs)
+  globals_ids : (xs : List Name) → AllByRecursion IsId xs → AllByRecursion IsId (globals (names []) last xs)
   globals_ids xs h =
       let A : List Name = copied (names []) last copy_name xs (numbers 0 (suc last)) in
       let B : List Name = copied (names []) last save_name xs (numbers 1 last) in
@@ -325,17 +325,17 @@ module _ (last : ℕ) (small : last < most_rounds) where
       (each_reversed IsId (bit_names (round_bits last)) (bit_ids (round_bits last))))
       (stop_id, (bad_id, tt))
 
-  reads_ids : (k : ℕ) (xs : List Name) → k < most_rounds → Each IsId xs →
-      Each IsId (variables_of_sides (map (λ y. value (var (copy_name k y))) xs))
+  reads_ids : (k : ℕ) (xs : List Name) → k < most_rounds → AllByRecursion IsId xs →
+      AllByRecursion IsId (variables_of_sides (map (λ y. value (var (copy_name k y))) xs))
   reads_ids k [] lt h = tt
   reads_ids k (x ∷ xs) lt h = (copy_id k x lt h.0, reads_ids k xs lt h.1)
 
-  guess_in_grammar : (xs : List Name) (k : ℕ) (b : Block Name Name Name) → k < most_rounds → Each IsId xs →
+  guess_in_grammar : (xs : List Name) (k : ℕ) (b : Block Name Name Name) → k < most_rounds → AllByRecursion IsId xs →
       BlockInGrammar b → BlockInGrammar (guess (names []) last xs k b)
   guess_in_grammar [] k b lt h g = g
   guess_in_grammar (x ∷ xs) k b lt h g =
       let written : (write : ℕ → Name → Name) → ((k : ℕ) (x : Name) → k < most_rounds → IsId x → IsId (write k x)) →
-      Each IsId (map (write k) (x ∷ xs)) =
+      AllByRecursion IsId (map (write k) (x ∷ xs)) =
       λ write f. written_each IsId IsId (write k) (x ∷ xs) (λ y i. f k y lt i) h in (
         tt,
         assign_in_grammar (map (copy_name k) (x ∷ xs)) (map (λ y. any) (x ∷ xs)) (omega arith) (length-map (x ∷ xs) (copy_name k)
@@ -349,7 +349,7 @@ module _ (last : ℕ) (small : last < most_rounds) where
         ),
       )
 
-  guesses_in_grammar : (xs : List Name) (k m : ℕ) (b : Block Name Name Name) → k + m ≤ most_rounds → Each IsId xs
+  guesses_in_grammar : (xs : List Name) (k m : ℕ) (b : Block Name Name Name) → k + m ≤ most_rounds → AllByRecursion IsId xs
       → BlockInGrammar b
       → BlockInGrammar (guesses (names []) last xs (numbers k m) b)
   guesses_in_grammar xs k zero b le h g = g
@@ -371,12 +371,13 @@ module _ (last : ℕ) (small : last < most_rounds) where
     (tt, (s.0, tt), starts_in_grammar lines b s.1 g),
   )
 
-  check_in_grammar : (xs : List Name) (k : ℕ) (b : Block Name Name Name) → suc k < most_rounds → Each IsId xs →
+  check_in_grammar : (xs : List Name) (k : ℕ) (b : Block Name Name Name) → suc k < most_rounds → AllByRecursion IsId xs →
       BlockInGrammar b → BlockInGrammar (check (names []) last xs k b)
   check_in_grammar [] k b lt h g = g
   check_in_grammar (x ∷ xs) k b lt h g = (tt, (save_id (suc k) x lt h.0, copy_id k x (omega arith) h.0), check_in_grammar xs k b lt h.1 g)
 
-  checks_in_grammar : (xs : List Name) (k m : ℕ) (b : Block Name Name Name) → k + m < most_rounds → Each IsId xs → BlockInGrammar b
+  checks_in_grammar : (xs : List Name) (k m : ℕ) (b : Block Name Name Name) → k + m < most_rounds → AllByRecursion IsId xs
+      → BlockInGrammar b
       → BlockInGrammar (checks (names []) last xs (numbers k m) b)
   checks_in_grammar xs k zero b le h g = g
   checks_in_grammar xs k (suc m) b le h g =
@@ -400,7 +401,7 @@ module _ (last : ℕ) (small : last < most_rounds) where
 
   main_in_grammar : (t : Tree) → InGrammar t → ProcedureInGrammar (main_procedure last t)
   main_in_grammar t h =
-      let ids : Each IsId t.globals = ids_each t.globals h.globals in
+      let ids : AllByRecursion IsId t.globals = ids_each t.globals h.globals in
       let last_part : Block Name Name Name = checks (names []) last t.globals (numbers 0 last) done in
       let second : Block Name Name Name = starts (names []) last (map (λ (line : ThreadLine). line.name) t.threads) last_part in
       record {

@@ -4,9 +4,9 @@ use Rattle.std.proofs.Common.{◌≡◌, ℕ, zero, suc, ◌+◌, ◌/◌, ◌%�
 use Rattle.std.proofs.Common.{◌∷◌, ◌++◌, Some, length, map, reverse, codes, refl, sym, ◌∙◌, ap, subst, ap₂, arith}
 use Rattle.std.proofs.Common.{length-append}
 use Rattle.std.proofs.lemmas.List.{length-map, length-reverse}
+use Rattle.std.specs.List.{AllByRecursion}
 use Rattle.language.specs.Tree.{Name, Expression, const, var, negation, two, and, RightSide, any, value, assign, Block, one}
 use Rattle.language.specs.Resolve.{is_declared}
-use Rattle.resolved.specs.Resolves.{Each}
 use Rattle.resolved.specs.Statements.{variables_of, variables_of_side, variables_of_sides, variables_of_all}
 use Rattle.resolved.proofs.Each.{each_left, each_right}
 use Rattle.round_rewrite.specs.Limits.{round_bits}
@@ -18,65 +18,66 @@ use Rattle.round_rewrite.proofs.Counting.{reverse_first}
 use Rattle.round_rewrite.proofs.Resolved.{by_test}
 
 -- what holds for each of two lists holds for each of both
-pub each_both : {X : Type 0} (P : X → Type 0) (xs ys : List X) → Each P xs → Each P ys → Each P (xs ++ ys)
+pub each_both : {X : Type 0} (P : X → Type 0) (xs ys : List X) → AllByRecursion P xs → AllByRecursion P ys → AllByRecursion P (xs ++ ys)
 each_both P [] ys h g = g
 each_both P (x ∷ xs) ys h g = (h.0, each_both P xs ys h.1 g)
 
 -- the variables of right sides, of one list after another
-pub sides_both : (D : Name → Type 0) (rs ss : List (RightSide Name)) → Each D (variables_of_sides rs) → Each D (variables_of_sides ss)
-    → Each D (variables_of_sides (rs ++ ss))
+pub sides_both : (D : Name → Type 0) (rs ss : List (RightSide Name)) → AllByRecursion D (variables_of_sides rs)
+    → AllByRecursion D (variables_of_sides ss)
+    → AllByRecursion D (variables_of_sides (rs ++ ss))
 sides_both D [] ss h g = g
 sides_both D (r ∷ rs) ss h g =
     each_both D (variables_of_side r) (variables_of_sides (rs ++ ss)) (each_left D (variables_of_side r) (variables_of_sides rs) h)
     (sides_both D rs ss (each_right D (variables_of_side r) (variables_of_sides rs) h) g)
 
 -- `?` uses no variable
-pub any_uses : {X : Type 0} (D : Name → Type 0) (xs : List X) → Each D (variables_of_sides (map (λ x. any) xs))
+pub any_uses : {X : Type 0} (D : Name → Type 0) (xs : List X) → AllByRecursion D (variables_of_sides (map (λ x. any) xs))
 any_uses D [] = tt
 any_uses D (x ∷ xs) = any_uses D xs
 
 -- what holds for each name that is written holds for each in the list of them
 pub written_each : {X : Type 0} (D : Name → Type 0) (P : X → Type 0) (f : X → Name) (xs : List X) → ((x : X) → P x → D (f x))
-    → Each P xs
-    → Each D (map f xs)
+    → AllByRecursion P xs
+    → AllByRecursion D (map f xs)
 written_each D P f [] g h = tt
 written_each D P f (x ∷ xs) g h = (g x h.0, written_each D P f xs g h.1)
 
 -- the names that are written for numbers, up to one
 pub numbered_each : (D : Name → Type 0) (f : ℕ → Name) (d : ℕ) → ((j : ℕ) → j < d → D (f j)) → (j m : ℕ) → j + m ≤ d
-    → Each D (map f (numbers j m))
+    → AllByRecursion D (map f (numbers j m))
 numbered_each D f d h j zero le = tt
 numbered_each D f d h j (suc m) le = (h j (omega arith), numbered_each D f d h (suc j) m (omega arith))
 
 -- the same in reverse
-pub each_reversed : (D : Name → Type 0) (xs : List Name) → Each D xs → Each D (reverse xs)
+pub each_reversed : (D : Name → Type 0) (xs : List Name) → AllByRecursion D xs → AllByRecursion D (reverse xs)
 each_reversed D [] h = tt
 each_reversed D (x ∷ xs) h =
-    subst (Each D) (sym (reverse_first x xs)) (each_both D (reverse xs) (x ∷ []) (each_reversed D xs h.1) (h.0, tt))
+    subst (AllByRecursion D) (sym (reverse_first x xs)) (each_both D (reverse xs) (x ∷ []) (each_reversed D xs h.1) (h.0, tt))
 
-sides_reversed : (D : Name → Type 0) (rs : List (RightSide Name)) → Each D (variables_of_sides rs)
-    → Each D (variables_of_sides (reverse rs))
+sides_reversed : (D : Name → Type 0) (rs : List (RightSide Name)) → AllByRecursion D (variables_of_sides rs)
+    → AllByRecursion D (variables_of_sides (reverse rs))
 sides_reversed D [] h = tt
 sides_reversed D (r ∷ rs) h =
-    subst (λ ss. Each D (variables_of_sides ss)) (sym (reverse_first r rs))
+    subst (λ ss. AllByRecursion D (variables_of_sides ss)) (sym (reverse_first r rs))
     (sides_both D (reverse rs) (r ∷ [])
     (sides_reversed D rs (each_right D (variables_of_side r) (variables_of_sides rs) h))
     (each_both D (variables_of_side r) [] (each_left D (variables_of_side r) (variables_of_sides rs) h) tt))
 
-literal_uses : (D : Name → Type 0) (n : ℕ) (x : Name) → D x → Each D (variables_of (literal n x))
+literal_uses : (D : Name → Type 0) (n : ℕ) (x : Name) → D x → AllByRecursion D (variables_of (literal n x))
 literal_uses D zero x h = (h, tt)
 literal_uses D (suc n) x h = (h, tt)
 
 -- a test of the round uses its bits
-value_uses : (D : Name → Type 0) (k : ℕ) (xs : List Name) → Each D xs → Each D (variables_of (has_value k xs))
+value_uses : (D : Name → Type 0) (k : ℕ) (xs : List Name) → AllByRecursion D xs → AllByRecursion D (variables_of (has_value k xs))
 value_uses D k [] h = tt
 value_uses D k (x ∷ []) h = literal_uses D (k % 2) x h.0
 value_uses D k (x ∷ y ∷ xs) h =
     each_both D (variables_of (has_value (k / 2) (y ∷ xs))) (variables_of (literal (k % 2) x)) (value_uses D (k / 2) (y ∷ xs) h.1)
     (literal_uses D (k % 2) x h.0)
 
-added_uses : (D : Name → Type 0) (carry : Expression Name) (xs : List Name) → Each D (variables_of carry) → Each D xs
-    → Each D (variables_of_sides (added carry xs))
+added_uses : (D : Name → Type 0) (carry : Expression Name) (xs : List Name) → AllByRecursion D (variables_of carry) → AllByRecursion D xs
+    → AllByRecursion D (variables_of_sides (added carry xs))
 added_uses D carry [] g h = tt
 added_uses D carry (x ∷ xs) g h = (
   h.0,
@@ -84,12 +85,12 @@ added_uses D carry (x ∷ xs) g h = (
       (added_uses D (two and (var x) carry) xs (h.0, g) h.1),
 )
 
-raised_uses : (D : Name → Type 0) (xs : List Name) → Each D xs → Each D (variables_of_sides (raised xs))
+raised_uses : (D : Name → Type 0) (xs : List Name) → AllByRecursion D xs → AllByRecursion D (variables_of_sides (raised xs))
 raised_uses D [] h = tt
 raised_uses D (x ∷ xs) h = (h.0, added_uses D (var x) xs (h.0, tt) h.1)
 
 -- and so does the rise to the next round
-pub rise_uses : (D : Name → Type 0) (xs : List Name) → Each D xs → Each D (variables_of_sides (reverse (raised xs)))
+pub rise_uses : (D : Name → Type 0) (xs : List Name) → AllByRecursion D xs → AllByRecursion D (variables_of_sides (reverse (raised xs)))
 rise_uses D xs h = sides_reversed D (raised xs) (raised_uses D xs h)
 
 length-added : (carry : Expression Name) (xs : List Name) → length (added carry xs) ≡ length xs
@@ -104,7 +105,7 @@ pub rise_even : (xs : List Name) → length (reverse xs) ≡ length (reverse (ra
 rise_even xs = length-reverse xs ∙ (sym (length-raised xs) ∙ sym (length-reverse (raised xs)))
 
 -- a constant uses no variable
-pub zeros_use : (D : Name → Type 0) (xs : List Name) → Each D (variables_of_sides (each (value (const false)) xs))
+pub zeros_use : (D : Name → Type 0) (xs : List Name) → AllByRecursion D (variables_of_sides (each (value (const false)) xs))
 zeros_use D [] = tt
 zeros_use D (x ∷ xs) = zeros_use D xs
 
@@ -155,7 +156,7 @@ sides_even own last j (x ∷ xs) (value v ∷ rs) =
 -- D holds for the names of the bits, of `stop__` and `bad__`, of the copies of globals, of locals and of
 -- temporaries
 pub record Held (own : List Name) (last d : ℕ) (D S : Name → Type 0) : Type 0 where
-  pub bits : Each D (bit_names (round_bits last))
+  pub bits : AllByRecursion D (bit_names (round_bits last))
   pub stop : D (named (codes "stop__"))
   pub bad : D (named (codes "bad__"))
   pub copied : (x : Name) → S x → is_declared x.text own ≡ false → (k : ℕ) → k ≤ last → D (copy_name k x)
@@ -166,30 +167,33 @@ module _ (own : List Name) (last d : ℕ) (D S : Name → Type 0) (held : Held o
   N : Naming Name Name Name Name
   N = names own
 
-  pub at_uses : (k : ℕ) → Each D (variables_of (in_round (names own) last k))
+  pub at_uses : (k : ℕ) → AllByRecursion D (variables_of (in_round (names own) last k))
   at_uses k = value_uses D k (bit_names (round_bits last)) held.bits
 
   copy_uses : (x : Name) → S x → is_declared x.text own ≡ false → (k : ℕ) → k ≤ last →
-      Each D (variables_of (in_round (names own) last k) ++ (copy_name k x ∷ []))
+      AllByRecursion D (variables_of (in_round (names own) last k) ++ (copy_name k x ∷ []))
   copy_uses x h hidden k le = each_both D (variables_of (in_round (names own) last k)) (copy_name k x ∷ []) (at_uses k)
       (held.copied x h hidden k le, tt)
 
   joined_uses : (x : Name) → S x → is_declared x.text own ≡ false → (k : ℕ) → k ≤ last
-      → Each D (variables_of (joined (names own) last k x))
+      → AllByRecursion D (variables_of (joined (names own) last k x))
   joined_uses x h hidden zero le = copy_uses x h hidden 0 le
   joined_uses x h hidden (suc k) le =
       each_both D (variables_of (joined (names own) last k x))
       (variables_of (in_round (names own) last (suc k)) ++ (copy_name (suc k) x ∷ []))
       (joined_uses x h hidden k (omega arith)) (copy_uses x h hidden (suc k) le)
 
-  read_uses : (x : Name) → S x → Each D (variables_of (read (names own) last x))
+  read_uses : (x : Name) → S x → AllByRecursion D (variables_of (read (names own) last x))
   read_uses x h = by_test (is_declared x.text own)
-      (λ e. subst (λ c. Each D (variables_of (cond (not c) (joined (names own) last last x) (var x)))) (sym e) (held.kept x h e, tt))
       (λ e.
-      subst (λ c. Each D (variables_of (cond (not c) (joined (names own) last last x) (var x)))) (sym e)
+      subst (λ c. AllByRecursion D (variables_of (cond (not c) (joined (names own) last last x) (var x)))) (sym e)
+      (held.kept x h e, tt))
+      (λ e.
+      subst (λ c. AllByRecursion D (variables_of (cond (not c) (joined (names own) last last x) (var x)))) (sym e)
       (joined_uses x h e last (omega arith)))
 
-  pub expression_uses : (e : Expression Name) → Each S (variables_of e) → Each D (variables_of (expression (names own) last e))
+  pub expression_uses : (e : Expression Name) → AllByRecursion S (variables_of e)
+      → AllByRecursion D (variables_of (expression (names own) last e))
   expression_uses (const b) h = tt
   expression_uses (var x) h = read_uses x h.0
   expression_uses (negation e) h = expression_uses e h
@@ -198,29 +202,30 @@ module _ (own : List Name) (last d : ℕ) (D S : Name → Type 0) (held : Held o
       (expression_uses a (each_left S (variables_of a) (variables_of b) h))
       (expression_uses b (each_right S (variables_of a) (variables_of b) h))
 
-  pub arguments_use : (es : List (Expression Name)) → Each S (variables_of_all es)
-      → Each D (variables_of_all (map (expression (names own) last) es))
+  pub arguments_use : (es : List (Expression Name)) → AllByRecursion S (variables_of_all es)
+      → AllByRecursion D (variables_of_all (map (expression (names own) last) es))
   arguments_use [] h = tt
   arguments_use (e ∷ es) h =
       each_both D (variables_of (expression (names own) last e)) (variables_of_all (map (expression (names own) last) es))
       (expression_uses e (each_left S (variables_of e) (variables_of_all es) h))
       (arguments_use es (each_right S (variables_of e) (variables_of_all es) h))
 
-  pub side_uses : (r : RightSide Name) → Each S (variables_of_side r) → Each D (variables_of_side (side (names own) last r))
+  pub side_uses : (r : RightSide Name) → AllByRecursion S (variables_of_side r)
+      → AllByRecursion D (variables_of_side (side (names own) last r))
   side_uses any h = tt
   side_uses (value e) h = expression_uses e h
 
-  written_uses : (e : Expression Name) → Each D (variables_of e) → (x : Name) → S x → is_declared x.text own ≡ false
+  written_uses : (e : Expression Name) → AllByRecursion D (variables_of e) → (x : Name) → S x → is_declared x.text own ≡ false
       → (k : ℕ) → k ≤ last
-      → Each D (variables_of_side (written (names own) last e x k))
+      → AllByRecursion D (variables_of_side (written (names own) last e x k))
   written_uses e g x h hidden k le =
       each_both D (variables_of (in_round (names own) last k) ++ variables_of e)
       (variables_of (in_round (names own) last k) ++ (copy_name k x ∷ []))
       (each_both D (variables_of (in_round (names own) last k)) (variables_of e) (at_uses k) g) (copy_uses x h hidden k le)
 
-  pub row_uses : (e : Expression Name) → Each D (variables_of e) → (x : Name) → S x → is_declared x.text own ≡ false
+  pub row_uses : (e : Expression Name) → AllByRecursion D (variables_of e) → (x : Name) → S x → is_declared x.text own ≡ false
       → (j m : ℕ)
-      → j + m ≤ suc last → Each D (variables_of_sides (map (written (names own) last e x) (numbers j m)))
+      → j + m ≤ suc last → AllByRecursion D (variables_of_sides (map (written (names own) last e x) (numbers j m)))
   row_uses e g x h hidden j zero le = tt
   row_uses e g x h hidden j (suc m) le =
       each_both D (variables_of_side (written (names own) last e x j))
@@ -228,25 +233,25 @@ module _ (own : List Name) (last d : ℕ) (D S : Name → Type 0) (held : Held o
       (written_uses e g x h hidden j (omega arith)) (row_uses e g x h hidden (suc j) m (omega arith))
 
   pub copies_held : (x : Name) → S x → is_declared x.text own ≡ false → (j m : ℕ) → j + m ≤ suc last
-      → Each D (map (λ k. copy_name k x) (numbers j m))
+      → AllByRecursion D (map (λ k. copy_name k x) (numbers j m))
   copies_held x h hidden j zero le = tt
   copies_held x h hidden j (suc m) le = (held.copied x h hidden j (omega arith), copies_held x h hidden (suc j) m (omega arith))
 
-  pub targets_held : (xs : List Name) (rs : List (RightSide Name)) → Each S xs → Each D (targets (names own) last xs rs)
+  pub targets_held : (xs : List Name) (rs : List (RightSide Name)) → AllByRecursion S xs → AllByRecursion D (targets (names own) last xs rs)
   targets_held [] rs h = tt
   targets_held (x ∷ xs) [] h = tt
   targets_held (x ∷ xs) (r ∷ rs) h =
       let here : List Name = map (λ k. copy_name k x) (rounds (names own) last) in
       let others : List Name = targets (names own) last xs rs in
-      let rec : Each D others = targets_held xs rs h.1 in
+      let rec : AllByRecursion D others = targets_held xs rs h.1 in
       by_test (is_declared x.text own)
-      (λ e. subst (λ c. Each D (cond (not c) (here ++ others) (x ∷ others))) (sym e) (held.kept x h.0 e, rec))
+      (λ e. subst (λ c. AllByRecursion D (cond (not c) (here ++ others) (x ∷ others))) (sym e) (held.kept x h.0 e, rec))
       (λ e.
-      subst (λ c. Each D (cond (not c) (here ++ others) (x ∷ others))) (sym e)
+      subst (λ c. AllByRecursion D (cond (not c) (here ++ others) (x ∷ others))) (sym e)
       (each_both D here others (copies_held x h.0 e 0 (suc last) (omega arith)) rec))
 
-  pub sides_use : (j : ℕ) (xs : List Name) (rs : List (RightSide Name)) → Each S xs → Each S (variables_of_sides rs)
-      → j + draws (names own).is_shared xs rs ≤ d → Each D (variables_of_sides (sides (names own) last j xs rs))
+  pub sides_use : (j : ℕ) (xs : List Name) (rs : List (RightSide Name)) → AllByRecursion S xs → AllByRecursion S (variables_of_sides rs)
+      → j + draws (names own).is_shared xs rs ≤ d → AllByRecursion D (variables_of_sides (sides (names own) last j xs rs))
   sides_use j [] rs h g room = tt
   sides_use j (x ∷ xs) [] h g room = tt
   sides_use j (x ∷ xs) (any ∷ rs) h g room =
@@ -256,25 +261,28 @@ module _ (own : List Name) (last d : ℕ) (D S : Name → Type 0) (held : Held o
       by_test (is_declared x.text own)
       (λ e.
       let less : j + drawn ≤ d = subst (λ c. j + cond (not c) (suc drawn) drawn ≤ d) e room in
-      subst (λ c. Each D (variables_of_sides (cond (not c) (here ++ Rest (suc j)) (any ∷ Rest j)))) (sym e)
+      subst (λ c. AllByRecursion D (variables_of_sides (cond (not c) (here ++ Rest (suc j)) (any ∷ Rest j)))) (sym e)
       (sides_use j xs rs h.1 g less))
       (λ e.
       let more : j + suc drawn ≤ d = subst (λ c. j + cond (not c) (suc drawn) drawn ≤ d) e room in
-      subst (λ c. Each D (variables_of_sides (cond (not c) (here ++ Rest (suc j)) (any ∷ Rest j)))) (sym e)
+      subst (λ c. AllByRecursion D (variables_of_sides (cond (not c) (here ++ Rest (suc j)) (any ∷ Rest j)))) (sym e)
       (sides_both D here (Rest (suc j)) (row_uses (var (drawn_name j)) (held.drawn j (omega arith), tt) x h.0 e 0 (suc last) (omega arith))
       (sides_use (suc j) xs rs h.1 g (omega arith))))
   sides_use j (x ∷ xs) (value v ∷ rs) h g room =
       let here : List (RightSide Name) = map (written (names own) last (expression (names own) last v) x) (rounds (names own) last) in
       let others : List (RightSide Name) = sides (names own) last j xs rs in
-      let uses : Each D (variables_of (expression (names own) last v)) =
+      let uses : AllByRecursion D (variables_of (expression (names own) last v)) =
       expression_uses v (each_left S (variables_of v) (variables_of_sides rs) g) in
-      let rec : Each D (variables_of_sides others) = sides_use j xs rs h.1 (each_right S (variables_of v) (variables_of_sides rs) g) room in
+      let rec : AllByRecursion D (variables_of_sides others) =
+      sides_use j xs rs h.1 (each_right S (variables_of v) (variables_of_sides rs) g) room in
       by_test (is_declared x.text own)
       (λ e.
-      subst (λ c. Each D (variables_of_sides (cond (not c) (here ++ others) (value (expression (names own) last v) ∷ others)))) (sym e)
+      subst (λ c. AllByRecursion D (variables_of_sides (cond (not c) (here ++ others) (value (expression (names own) last v) ∷ others))))
+      (sym e)
       (each_both D (variables_of (expression (names own) last v)) (variables_of_sides others) uses rec))
       (λ e.
-      subst (λ c. Each D (variables_of_sides (cond (not c) (here ++ others) (value (expression (names own) last v) ∷ others)))) (sym e)
+      subst (λ c. AllByRecursion D (variables_of_sides (cond (not c) (here ++ others) (value (expression (names own) last v) ∷ others))))
+      (sym e)
       (sides_both D here others (row_uses (expression (names own) last v) uses x h.0 e 0 (suc last) (omega arith)) rec))
 
   -- what gets the value of a call
@@ -288,8 +296,8 @@ module _ (own : List Name) (last d : ℕ) (D S : Name → Type 0) (held : Held o
   -- a property of what comes after the call, from that of the write to the copies, if a global gets the value
   pub landing_has : (P : Block Name Name Name → Type 0) (x : Name) (k : Block Name Name Name) → S x
       → takes (names own).is_shared (Some x) ≤ d → P k
-      → ((xs : List Name) (rs : List (RightSide Name)) → 0 < length xs → length xs ≡ length rs → Each D xs
-      → Each D (variables_of_sides rs) → P (prologue (names own) last plain (one plain (assign xs rs) k)))
+      → ((xs : List Name) (rs : List (RightSide Name)) → 0 < length xs → length xs ≡ length rs → AllByRecursion D xs
+      → AllByRecursion D (variables_of_sides rs) → P (prologue (names own) last plain (one plain (assign xs rs) k)))
       → P (cond ((names own).is_shared x) (received (names own) last x k) k)
   landing_has P x k h room pk f = by_test (is_declared x.text own)
       (λ e. subst (λ c. P (cond (not c) (received (names own) last x k) k)) (sym e) pk)

@@ -4,6 +4,7 @@ use Rattle.std.proofs.Common.{true≢false, List, [], ◌∷◌, ◌++◌, lengt
 use Rattle.std.proofs.Common.{subst, arith}
 use Rattle.std.proofs.lemmas.List.{length-map}
 use Rattle.std.proofs.lemmas.Option.{same_Some}
+use Rattle.std.specs.List.{AllByRecursion}
 use Rattle.language.specs.Tree.{Name, Procedure, ThreadLine, Tree}
 use Rattle.language.specs.Step.{frame_size}
 use Rattle.language.specs.Resolve.{gives_value, routine_of}
@@ -15,7 +16,7 @@ use Rattle.resolved.specs.There.{IsThere}
 use Rattle.round_rewrite.specs.Table.{numbers}
 use Rattle.round_rewrite.specs.Places.{global_count}
 use Rattle.round_rewrite.specs.Names.{names, drawn_name, rewritten_procedure, main_procedure, rewritten_tree}
-use Rattle.resolved.specs.Narrow.{EachProcedure, width}
+use Rattle.resolved.specs.Narrow.{width}
 use Rattle.round_rewrite.specs.Narrow.{rewritten_width, AreNarrow, IsNarrow}
 use Rattle.round_rewrite.specs.Writing.{own_width, procedure_needs, IsOwnNarrow, AreFew}
 use Rattle.round_rewrite.proofs.Placing.{length-numbers, length-globals}
@@ -46,17 +47,17 @@ module _ (t : Tree) (last n : ℕ) (is : global_count (length t.globals) last �
       + ((λ j. own_places last p j + cond (gives_rewritten (names (p.formals ++ p.locals)) last p.body j) 1 0) ∙ sum) i
 
   into : (ps : List Procedure) → AreNarrow last t ps →
-      EachProcedure (λ p. width (rewritten_tree last t) p ≤ most_places) (map (rewritten_procedure last) ps)
+      AllByRecursion (λ p. width (rewritten_tree last t) p ≤ most_places) (map (rewritten_procedure last) ps)
   into [] e = e
   into (p ∷ ps) e = (e.0, into ps e.1)
 
   -- procedures that are narrow when they are rewritten, one by one
-  out : (ps : List Procedure) → EachProcedure (λ p. width (rewritten_tree last t) p ≤ most_places)
+  out : (ps : List Procedure) → AllByRecursion (λ p. width (rewritten_tree last t) p ≤ most_places)
       (map (rewritten_procedure last) ps) → AreNarrow last t ps
   out [] e = e
   out (p ∷ ps) e = (e.0, out ps e.1)
 
-  own : (ps : List Procedure) → AreNarrow last t ps → EachProcedure (IsOwnNarrow n) ps
+  own : (ps : List Procedure) → AreNarrow last t ps → AllByRecursion (IsOwnNarrow n) ps
   own [] e = e
   own (p ∷ ps) e = (subst (λ z. z ≤ most_places) (rewritten_places p) e.0, own ps e.1)
 
@@ -82,7 +83,7 @@ module _ (t : Tree) (last n : ℕ) (is : global_count (length t.globals) last �
   pub narrow_sources : IsNarrow last t → AreNarrow last t t.procedures
   narrow_sources e = out t.procedures e.1
 
-  pub narrow_procedures : IsNarrow last t → EachProcedure (IsOwnNarrow n) t.procedures
+  pub narrow_procedures : IsNarrow last t → AllByRecursion (IsOwnNarrow n) t.procedures
   narrow_procedures e = own t.procedures (narrow_sources e)
 
   -- one narrow procedure more
@@ -105,7 +106,7 @@ module _ (t : Tree) (last n : ℕ) (is : global_count (length t.globals) last �
   wide_stands (q ∷ ps) (suc i) p at large e = wide_stands ps i p at large e.1
 
 -- a narrow program needs few temporaries
-pub few_needs : (n : ℕ) (ps : List Procedure) → EachProcedure (IsOwnNarrow n) ps → AreFew ps
+pub few_needs : (n : ℕ) (ps : List Procedure) → AllByRecursion (IsOwnNarrow n) ps → AreFew ps
 few_needs n [] e = tt
 few_needs n (p ∷ ps) e = (
   let h : n + own_width p ≤ most_places =

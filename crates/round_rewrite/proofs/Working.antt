@@ -5,6 +5,7 @@ use Rattle.std.proofs.Common.{◌++◌, length, map, reverse, codes, Option, Som
 use Rattle.std.proofs.Common.{subst}
 use Rattle.std.proofs.Common.{ap₂, arith, append_assoc}
 use Rattle.std.proofs.lemmas.List.{length-map, reverse-reverse}
+use Rattle.std.specs.List.{AllByRecursion}
 use Rattle.language.specs.Tree.{Name, const, var, RightSide, any, value, Simple, skip, assign, assert, assume, goto, leave, call}
 use Rattle.language.specs.Tree.{leave_with}
 use Rattle.language.specs.Tree.{call_for, Mark, Block, done, one, choose, loop, Procedure, ThreadLine, Tree}
@@ -16,7 +17,7 @@ use Rattle.checked.specs.Faults.{named, known}
 use Rattle.resolved.specs.There.{IsThere}
 use Rattle.language.specs.Parts.{Head, plain, tests}
 use Rattle.resolved.specs.Statements.{Statement, statements_of, variables_of_side, variables_of_sides, label_of, labels_of}
-use Rattle.resolved.specs.Resolves.{Each, Resolves}
+use Rattle.resolved.specs.Resolves.{Resolves}
 use Rattle.checked.specs.Rewritable.{IsRewritable}
 use Rattle.resolved.proofs.Each.{each_left, each_right}
 use Rattle.checked.proofs.Works.{in_either, named_declared, Works, IsGood, Starts, good, threads_start}
@@ -45,7 +46,7 @@ declared_right x xs ys h = by_test (is_declared x xs) (λ e. (number_left x xs y
 
 -- each of the names is declared
 each_declared : (xs ys : List Name) → ((x : List ℕ) → is_declared x xs ≡ true → is_declared x ys ≡ true)
-    → Each (λ (x : Name). is_declared x.text ys ≡ true) xs
+    → AllByRecursion (λ (x : Name). is_declared x.text ys ≡ true) xs
 each_declared [] ys f = tt
 each_declared (x ∷ xs) ys f = (
   f x.text (ap (λ c. cond c true (is_declared x.text xs)) (same_text_refl x.text)),
@@ -65,12 +66,13 @@ temporary_declared (suc e) j (suc d) lt =
     (temporary_declared e (suc j) d (omega arith)))
 
 -- what holds for each statement of two blocks holds for each of both joined
-each_join : (P : Statement → Type 0) (a b : Block Name Name Name) → Each P (statements_of a) → Each P (statements_of b)
-    → Each P (statements_of (join a b))
+each_join : (P : Statement → Type 0) (a b : Block Name Name Name) → AllByRecursion P (statements_of a) → AllByRecursion P (statements_of b)
+    → AllByRecursion P (statements_of (join a b))
 each_join P done b h g = g
 each_join P (one m c t) b h g = (h.0, each_join P t b h.1 g)
 each_join P (choose m r x y t) b h g =
-    let rest : Each P (statements_of y ++ statements_of t) = each_right P (statements_of x) (statements_of y ++ statements_of t) h.1 in (
+    let rest : AllByRecursion P (statements_of y ++ statements_of t) =
+    each_right P (statements_of x) (statements_of y ++ statements_of t) h.1 in (
       h.0,
       each_both P (statements_of x) (statements_of y ++ statements_of (join t b))
           (each_left P (statements_of x) (statements_of y ++ statements_of t) h.1)
@@ -223,12 +225,12 @@ module _ (t : Tree) (last : ℕ) (ok : IsChecked t) (small : last < most_rounds)
     In x = is_declared x.text (known t' p') ≡ true
 
     abbrev Work : List Statement → Type 0
-    Work ss = Each (λ (s : Statement). Works t' p' s.head) ss
+    Work ss = AllByRecursion (λ (s : Statement). Works t' p' s.head) ss
 
     in_globals : (x : Name) → is_declared x.text t'.globals ≡ true → In x
     in_globals x h = declared_right x.text (p'.formals ++ p'.locals) t'.globals h
 
-    bits_in : Each In bits
+    bits_in : AllByRecursion In bits
     bits_in = each_declared bits (known t' p') (λ x h. declared_right x (p'.formals ++ p'.locals) t'.globals (bits_there x h))
 
     stop_in : In (renamed.named (codes "stop__"))
@@ -238,13 +240,13 @@ module _ (t : Tree) (last : ℕ) (ok : IsChecked t) (small : last < most_rounds)
     bad_in = in_globals (renamed.named (codes "bad__")) (lasts_there (codes "bad__") refl)
 
     -- statements that neither call nor go anywhere
-    test_works : (r : RightSide Name) → Each In (variables_of_side r) → Works t' p' (tests r)
+    test_works : (r : RightSide Name) → AllByRecursion In (variables_of_side r) → Works t' p' (tests r)
     test_works r h = record { variables = each_both In (variables_of_side r) [] h tt; called = tt; sides = λ is. refl; labelled = tt }
 
-    assume_works : (r : RightSide Name) → Each In (variables_of_side r) → Works t' p' (plain (assume r))
+    assume_works : (r : RightSide Name) → AllByRecursion In (variables_of_side r) → Works t' p' (plain (assume r))
     assume_works r h = record { variables = each_both In (variables_of_side r) [] h tt; called = tt; sides = λ is. refl; labelled = tt }
 
-    assign_works : (xs : List Name) (rs : List (RightSide Name)) → Each In (xs ++ variables_of_sides rs) → length xs ≡ length rs
+    assign_works : (xs : List Name) (rs : List (RightSide Name)) → AllByRecursion In (xs ++ variables_of_sides rs) → length xs ≡ length rs
         → Works t' p' (plain (assign xs rs))
     assign_works xs rs h e = record {
       variables = each_both In xs (variables_of_sides rs ++ []) (each_left In xs (variables_of_sides rs) h)
@@ -298,7 +300,7 @@ module _ (t : Tree) (last : ℕ) (ok : IsChecked t) (small : last < most_rounds)
 
     held : Held own last drawn (In p') Known
     held = record {
-      bits = subst (Each (In p')) (reverse-reverse (bit_names (round_bits last))) (each_reversed (In p') bits (bits_in p'));
+      bits = subst (AllByRecursion (In p')) (reverse-reverse (bit_names (round_bits last))) (each_reversed (In p') bits (bits_in p'));
       stop = stop_in p';
       bad = bad_in p';
       copied = copied_in;
@@ -425,7 +427,7 @@ module _ (t : Tree) (last : ℕ) (ok : IsChecked t) (small : last < most_rounds)
       stop_test_works p' k own h,
     )
 
-    block_works : (b : Block Name Name Name) → Each (λ (s : Statement). Was s.head) (statements_of b)
+    block_works : (b : Block Name Name Name) → AllByRecursion (λ (s : Statement). Was s.head) (statements_of b)
         → temporaries (names own).is_shared b ≤ drawn → Work p' (statements_of (rewritten (names own) last b))
     block_works done h room = tt
     block_works (one m c k) h room =
@@ -434,7 +436,7 @@ module _ (t : Tree) (last : ℕ) (ok : IsChecked t) (small : last < most_rounds)
         (block_works k h.1 (rest_room (names own).is_shared drawn m c k room)))
     block_works (choose m r a b k) h room =
         let W : Statement → Type 0 = λ s. Was s.head in
-        let inside : Each W (statements_of b ++ statements_of k) =
+        let inside : AllByRecursion W (statements_of b ++ statements_of k) =
         each_right W (statements_of a) (statements_of b ++ statements_of k) h.1 in
         prologue_works m
         (choose table.plain (side (names own) last r) (rewritten (names own) last a) (rewritten (names own) last b)
@@ -464,8 +466,9 @@ module _ (t : Tree) (last : ℕ) (ok : IsChecked t) (small : last < most_rounds)
               (block_works k (each_right W (statements_of a) (statements_of k) h.1) (omega arith)),
         )
 
-  procedures_work : (ps : List Procedure) → Each (IsGood t) ps
-      → Each (λ p. Each (λ (s : Statement). Works t' p s.head) (statements_of p.body)) (map (rewritten_procedure last) ps)
+  procedures_work : (ps : List Procedure) → AllByRecursion (IsGood t) ps
+      → AllByRecursion (λ p. AllByRecursion (λ (s : Statement). Works t' p s.head) (statements_of p.body))
+      (map (rewritten_procedure last) ps)
   procedures_work [] h = tt
   procedures_work (p ∷ ps) h = (block_works p p.body h.0.statements (omega arith), procedures_work ps h.1)
 
@@ -476,19 +479,19 @@ module _ (t : Tree) (last : ℕ) (ok : IsChecked t) (small : last < most_rounds)
   abbrev Global : Name → Type 0
   Global x = is_declared x.text t.globals ≡ true
 
-  copies_read : (k : ℕ) (xs : List Name) → k ≤ last → Each Global xs
-      → Each (In first) (Rattle.resolved.specs.Statements.variables_of_sides (map (λ y. value (var (copy_name k y))) xs))
+  copies_read : (k : ℕ) (xs : List Name) → k ≤ last → AllByRecursion Global xs
+      → AllByRecursion (In first) (Rattle.resolved.specs.Statements.variables_of_sides (map (λ y. value (var (copy_name k y))) xs))
   copies_read k [] le h = tt
   copies_read k (x ∷ xs) le h = (in_globals first (copy_name k x) (copies_there x h.0 k le), copies_read k xs le h.1)
 
-  guess_works : (xs : List Name) (k : ℕ) (b : Block Name Name Name) → k < last → Each Global xs → Work first (statements_of b)
+  guess_works : (xs : List Name) (k : ℕ) (b : Block Name Name Name) → k < last → AllByRecursion Global xs → Work first (statements_of b)
       → Work first (statements_of (guess (names []) last xs (suc k) b))
   guess_works [] k b lt g h = h
   guess_works (x ∷ xs) k b lt g h =
-      let copies : Each (In first) (map (copy_name (suc k)) (x ∷ xs)) =
+      let copies : AllByRecursion (In first) (map (copy_name (suc k)) (x ∷ xs)) =
       written_each (In first) Global (copy_name (suc k)) (x ∷ xs)
       (λ y i. in_globals first (copy_name (suc k) y) (copies_there y i (suc k) (omega arith))) g in
-      let saves : Each (In first) (map (save_name (suc k)) (x ∷ xs)) =
+      let saves : AllByRecursion (In first) (map (save_name (suc k)) (x ∷ xs)) =
       written_each (In first) Global (save_name (suc k)) (x ∷ xs)
       (λ y i. in_globals first (save_name (suc k) y) (saves_there y i k lt)) g in (
         assign_works first (map (copy_name (suc k)) (x ∷ xs)) (map (λ y. any) (x ∷ xs))
@@ -502,7 +505,7 @@ module _ (t : Tree) (last : ℕ) (ok : IsChecked t) (small : last < most_rounds)
         ),
       )
 
-  guesses_work : (xs : List Name) (k m : ℕ) (b : Block Name Name Name) → k + m ≤ last → Each Global xs
+  guesses_work : (xs : List Name) (k m : ℕ) (b : Block Name Name Name) → k + m ≤ last → AllByRecursion Global xs
       → Work first (statements_of b)
       → Work first (statements_of (guesses (names []) last xs (numbers (suc k) m) b))
   guesses_work xs k zero b le g h = h
@@ -510,7 +513,8 @@ module _ (t : Tree) (last : ℕ) (ok : IsChecked t) (small : last < most_rounds)
       guess_works xs k (guesses (names []) last xs (numbers (suc (suc k)) m) b) (omega arith) g
       (guesses_work xs (suc k) m b (omega arith) g h)
 
-  starts_work : (lines : List ThreadLine) (b : Block Name Name Name) → Each (Starts t.procedures) lines → Work first (statements_of b)
+  starts_work : (lines : List ThreadLine) (b : Block Name Name Name) → AllByRecursion (Starts t.procedures) lines
+      → Work first (statements_of b)
       → Work first (statements_of (starts (names []) last (map (λ (line : ThreadLine). line.name) lines) b))
   starts_work [] b s h = h
   starts_work (line ∷ lines) b s h = (
@@ -522,7 +526,7 @@ module _ (t : Tree) (last : ℕ) (ok : IsChecked t) (small : last < most_rounds)
     (record { variables = tt; called = takes_there line.name 0 s.0; sides = λ is. refl; labelled = tt }, starts_work lines b s.1 h),
   )
 
-  check_works : (xs : List Name) (k : ℕ) (b : Block Name Name Name) → k < last → Each Global xs → Work first (statements_of b)
+  check_works : (xs : List Name) (k : ℕ) (b : Block Name Name Name) → k < last → AllByRecursion Global xs → Work first (statements_of b)
       → Work first (statements_of (check (names []) last xs k b))
   check_works [] k b lt g h = h
   check_works (x ∷ xs) k b lt g h = (
@@ -533,16 +537,16 @@ module _ (t : Tree) (last : ℕ) (ok : IsChecked t) (small : last < most_rounds)
     check_works xs k b lt g.1 h,
   )
 
-  checks_work : (xs : List Name) (k m : ℕ) (b : Block Name Name Name) → k + m ≤ last → Each Global xs
+  checks_work : (xs : List Name) (k m : ℕ) (b : Block Name Name Name) → k + m ≤ last → AllByRecursion Global xs
       → Work first (statements_of b)
       → Work first (statements_of (checks (names []) last xs (numbers k m) b))
   checks_work xs k zero b le g h = h
   checks_work xs k (suc m) b le g h =
       check_works xs k (checks (names []) last xs (numbers (suc k) m) b) (omega arith) g (checks_work xs (suc k) m b (omega arith) g h)
 
-  main_works : Each (λ (s : Statement). Works t' first s.head) (statements_of first.body)
+  main_works : AllByRecursion (λ (s : Statement). Works t' first s.head) (statements_of first.body)
   main_works =
-      let g : Each Global t.globals = each_declared t.globals t.globals (λ x h. h) in
+      let g : AllByRecursion Global t.globals = each_declared t.globals t.globals (λ x h. h) in
       guesses_work t.globals 0 last
       (starts (names []) last (map (λ (line : ThreadLine). line.name) t.threads)
       (checks (names []) last t.globals (numbers 0 last) done)) (omega arith) g

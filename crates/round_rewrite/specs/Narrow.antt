@@ -1,7 +1,8 @@
 -- How many places the procedures of the rewritten tree have.
 use Rattle.std.specs.Prelude.{◌≡◌, ℕ, ◌<◌, ◌≤◌, List, Option, Some, None, slice_get, take}
+use Rattle.std.specs.List.{AllByRecursion}
 use Rattle.language.specs.Tree.{Procedure, Tree}
-use Rattle.resolved.specs.Narrow.{EachProcedure, width, AllNarrow}
+use Rattle.resolved.specs.Narrow.{width, AllNarrow}
 use Rattle.round_rewrite.specs.Limits.{last_of}
 use Rattle.round_rewrite.specs.Names.{rewritten_for, rewritten_procedure, rewritten_tree}
 use Rattle.resolved.specs.Limits.{most_places}
@@ -21,7 +22,7 @@ rewritten_width last tree procedure = width (rewritten_tree last tree) (rewritte
 
 -- each of these procedures has at most 128 places in the rewritten tree
 abbrev pub AreNarrow : ℕ → Tree → List Procedure → Type 0
-AreNarrow last tree = EachProcedure (λ (p : Procedure). rewritten_width last tree p ≤ most_places)
+AreNarrow last tree = AllByRecursion (λ (p : Procedure). rewritten_width last tree p ≤ most_places)
 
 -- The first procedure of the source that has more than 128 places in the rewritten tree, with the offset of its name
 -- and its places; none if all have at most 128.

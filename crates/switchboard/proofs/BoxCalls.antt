@@ -24,7 +24,7 @@ use Rattle.switchboard.specs.declared.lock_per_box.knowing.Own.{Own}
 use Rattle.switchboard.specs.Sights.{Sight, IsSound}
 use Rattle.switchboard.specs.Promises.{GoesOn, Looked, Added}
 use Rattle.switchboard.specs.Knowing.{bare, entry_of, owes_after, with_event, state_of, unseen, hand_at, with_hand}
-use Rattle.switchboard.specs.PerBox.{View, Seat, News, HasOwn, IsInside, Recorded, TellsOrder}
+use Rattle.switchboard.specs.PerBox.{SeatView, Seat, News, HasOwn, IsInside, Recorded, TellsOrder}
 use Rattle.switchboard.specs.BoxPasses.{IsIdleHand, state_seen, box_sight, IsSeen, IsBoxPass}
 use Rattle.switchboard.proofs.Visits.{some_later}
 
@@ -47,7 +47,7 @@ module _ {M W : Type 0} (fits : W → ℕ → M → Type 0) where
   }
 
   -- and so after one more step
-  pub later_next : (w : W) (boxes : ℕ) (base : Ground M W) (a : Seen M) (v : View M W) (y : Seen M) → get_elem? v.boards 0 ≡ some base
+  pub later_next : (w : W) (boxes : ℕ) (base : Ground M W) (a : Seen M) (v : SeatView M W) (y : Seen M) → get_elem? v.boards 0 ≡ some base
       → base.world.value ≡ w → base.boxes ≡ boxes → Later w boxes a v.seen → News fits v y → Later w boxes a y
   later_next w boxes base a v y is world count l n =
       let opens = l.sound.lawful.opens in
@@ -125,7 +125,7 @@ module _ {M W : Type 0} (fits : W → ℕ → M → Type 0) where
         let there : hand_at k out.0 ≡ hand_at k b.0 =
         ap (λ l. get_or l k (bare 0)) hands
         ∙ (get_or-set_other v.0.hands q k (hand_at q out.0) (bare 0) ne ∙ (ap (λ l. get_or l k (bare 0)) visit.hands
-        ∙ (ap (λ (z : View M W). get_or z.hands k (bare 0)) visit.inside.after
+        ∙ (ap (λ (z : SeatView M W). get_or z.hands k (bare 0)) visit.inside.after
         ∙ get_or-set_other b.0.hands q k (hand_at q in_it.0) (bare 0) ne))) in
         subst (λ h. IsIdleHand (left - 1) h)
         (sym there) record { tickets = was.tickets; inside = was.inside; parts = was.parts; drawn = omega (arith, was.drawn) })
@@ -142,12 +142,12 @@ module _ {M W : Type 0} (fits : W → ℕ → M → Type 0) where
     first_later = later_start w boxes made m.0.seen p.seen
 
     -- a later sight, after one more step of a seat of the pass
-    pub step_later : (v : View M W) (y : Seen M) → v.boards ≡ m.0.boards → Later w boxes m.0.seen v.seen → News fits v y
+    pub step_later : (v : SeatView M W) (y : Seen M) → v.boards ≡ m.0.boards → Later w boxes m.0.seen v.seen → News fits v y
         → Later w boxes m.0.seen y
     step_later v y same l n = later_next w boxes p.base m.0.seen v y (ap (λ l. get_elem? l 0) same ∙ p.is_base) p.world p.mailboxes l n
 
     -- the pass made none but its own events
-    pub own_same : (v : View M W) (order : List (Entry M)) → v.lanes ≡ m.0.lanes → HasOwn fits v order
+    pub own_same : (v : SeatView M W) (order : List (Entry M)) → v.lanes ≡ m.0.lanes → HasOwn fits v order
         → own number order ≡ own number m.0.seen.order
     own_same v order same has = has 0 own_part (ap (λ l. get_elem? l 0) (same ∙ p.lanes))
 
@@ -192,7 +192,7 @@ module _ {M W : Type 0} (fits : W → ℕ → M → Type 0) where
     }
 
     -- the lanes, if the own list stays
-    pub same_lanes : (u : View M W) → u.lanes ≡ m.0.lanes → own number u.seen.order ≡ own number m.0.seen.order
+    pub same_lanes : (u : SeatView M W) → u.lanes ≡ m.0.lanes → own number u.seen.order ≡ own number m.0.seen.order
         → u.lanes ≡ record { number = number; events = own number u.seen.order; made = made } ∷ []
     same_lanes u same list = same ∙ (p.lanes ∙ ap (λ l. record { number = number; events = l; made = made } ∷ []) (sym list))
 
@@ -224,15 +224,15 @@ module _ {M W : Type 0} (fits : W → ℕ → M → Type 0) where
           × Looked fits sight (box_sight id' number (left - 1) made w boxes out.0.seen) × (out.0.seen ≡ v.0.seen)
       stays_on id' same unchanged owes list =
           let is : out.0 ≡ with_hand q (hand_at q out.0) v.0 = (visit_tells q x y b in_it v out visit).0 unchanged in
-          let seen : out.0.seen ≡ v.0.seen = ap (λ (z : View M W). z.seen) is in
+          let seen : out.0.seen ≡ v.0.seen = ap (λ (z : SeatView M W). z.seen) is in
           let l : Later w boxes m.0.seen out.0.seen = subst (λ z. Later w boxes m.0.seen z) (sym seen) later in
           let list' : own number out.0.seen.order ≡ own number m.0.seen.order = ap (λ (z : Seen M). own number z.order) seen ∙ list in (
-            pass_on id' (left - 1) made out same (ap (λ (z : View M W). z.boards) is ∙ board)
-                (same_lanes out.0 (ap (λ (z : View M W). z.lanes) is ∙ lanes) list')
+            pass_on id' (left - 1) made out same (ap (λ (z : SeatView M W). z.boards) is ∙ board)
+                (same_lanes out.0 (ap (λ (z : SeatView M W). z.lanes) is ∙ lanes) list')
                 (visit_out q x y b in_it v out visit ∙ (b_out ∙ p.outside))
-                (ap (λ (z : View M W). z.told) is ∙ (told ∙ p.told)) (ap (λ (z : View M W). z.owes) is ∙ owes)
-                (omega (arith, ap (λ (z : View M W). z.budget) is))
-                (visit_hands q x y b in_it v out visit left boxes some_of idle (ap (λ (z : View M W). z.hands) is))
+                (ap (λ (z : SeatView M W). z.told) is ∙ (told ∙ p.told)) (ap (λ (z : SeatView M W). z.owes) is ∙ owes)
+                (omega (arith, ap (λ (z : SeatView M W). z.budget) is))
+                (visit_hands q x y b in_it v out visit left boxes some_of idle (ap (λ (z : SeatView M W). z.hands) is))
                 (seen_on w boxes made m.0.seen out.0.seen p.seen l),
             looked_is id' out.0.seen same some_of l list',
             seen,
@@ -247,7 +247,7 @@ module _ {M W : Type 0} (fits : W → ℕ → M → Type 0) where
         entry = entry_of q v.0.under e
 
         pub grown_order : out.0.seen.order ≡ recorded_is.front ++ entry ∷ []
-        grown_order = ap (λ (z : View M W). z.seen.order) recorded_is.after
+        grown_order = ap (λ (z : SeatView M W). z.seen.order) recorded_is.after
 
         pub grown_own : own number out.0.seen.order ≡ own number m.0.seen.order ++ entry ∷ []
         grown_own = ap (own number) grown_order
@@ -274,15 +274,15 @@ module _ {M W : Type 0} (fits : W → ℕ → M → Type 0) where
         record_on id' u same board' hands lanes' seen told' budget' owes slots =
             let is = recorded_is.after in
             let l : Later w boxes m.0.seen u.0.seen = subst (λ z. Later w boxes m.0.seen z) (sym seen) later_out in
-            pass_on id' (left - 1) made u same (board' ∙ (ap (λ (z : View M W). z.boards) is ∙ board))
+            pass_on id' (left - 1) made u same (board' ∙ (ap (λ (z : SeatView M W). z.boards) is ∙ board))
             (lanes'
-            ∙ (ap (λ (z : View M W). z.lanes) is
+            ∙ (ap (λ (z : SeatView M W). z.lanes) is
             ∙ ap (λ l. record { number = number; events = l; made = made } ∷ [])
             (sym (ap (λ (z : Seen M). own number z.order) seen ∙ grown_own))))
             (slots ∙ (visit_out q x y b in_it v out visit ∙ (b_out ∙ p.outside)))
-            (told' ∙ (ap (λ (z : View M W). z.told) is ∙ (told ∙ p.told))) owes
-            (omega (arith, budget', ap (λ (z : View M W). z.budget) is))
+            (told' ∙ (ap (λ (z : SeatView M W). z.told) is ∙ (told ∙ p.told))) owes
+            (omega (arith, budget', ap (λ (z : SeatView M W). z.budget) is))
             (λ k near.
             subst (λ h. IsIdleHand (left - 1) h) (sym (ap (λ l. get_or l k (bare 0)) hands))
-            (visit_hands q x y b in_it v out visit left boxes some_of idle (ap (λ (z : View M W). z.hands) is) k near))
+            (visit_hands q x y b in_it v out visit left boxes some_of idle (ap (λ (z : SeatView M W). z.hands) is) k near))
             (seen_on w boxes made m.0.seen u.0.seen p.seen l)

@@ -18,7 +18,7 @@ use Rattle.switchboard.specs.Sights.{Sight}
 use Rattle.switchboard.specs.Promises.{WasDone, Added, MadeAbort}
 use Rattle.switchboard.specs.Proved.Entries.{job_stays}
 use Rattle.switchboard.specs.Knowing.{hand_at, counted_down, made_abort}
-use Rattle.switchboard.specs.PerBox.{View, LeavesOneEvent, TellsOrder, IsInside, Raised, Seat}
+use Rattle.switchboard.specs.PerBox.{SeatView, LeavesOneEvent, TellsOrder, IsInside, Raised, Seat}
 use Rattle.switchboard.specs.BoxPasses.{IsIdleHand, box_sight, IsBoxPass}
 use Rattle.switchboard.proofs.BoxCalls.{Later, Visit, own_part, first_later, step_later, own_same, goes, pass_on, recorded_is, added_is}
 use Rattle.switchboard.proofs.BoxCalls.{record_on}
@@ -44,7 +44,7 @@ module _ {M W : Type 0} (fits : W → ℕ → M → Type 0) (id : TableId) (numb
 
     module _ (y : List (Event M)) (grown : y ≡ x ++ Done take ∷ []) where
       lanes : v.0.lanes ≡ m.0.lanes
-      lanes = ap (λ (z : View M W). z.lanes) inside.after
+      lanes = ap (λ (z : SeatView M W). z.lanes) inside.after
 
       pub done_asks : (z : List (Event M)) → EndsIn (hand_at number v.0).seen z → LeavesOneEvent fits number (passes z y) v.0
       done_asks z ends =
@@ -60,21 +60,21 @@ module _ {M W : Type 0} (fits : W → ℕ → M → Type 0) (id : TableId) (numb
             step_later fits id number left made w boxes m p m.0 v.0.seen refl (first_later fits id number left made w boxes m p) inside.news
 
         board : v.0.boards ≡ m.0.boards
-        board = ap (λ (z : View M W). z.boards) inside.after
+        board = ap (λ (z : SeatView M W). z.boards) inside.after
 
         told : v.0.told ≡ m.0.told
-        told = ap (λ (z : View M W). z.told) inside.after
+        told = ap (λ (z : SeatView M W). z.told) inside.after
 
         budget : left ≤ v.0.budget + 1
-        budget = omega (arith, ap (λ (z : View M W). z.budget) inside.after, p.budget)
+        budget = omega (arith, ap (λ (z : SeatView M W). z.budget) inside.after, p.budget)
 
         -- it has its Done in the count
         pub done_owes : out.0.owes ≡ 1
         done_owes =
-            ap (λ (z : View M W). z.owes)
+            ap (λ (z : SeatView M W). z.owes)
             (recorded_is fits id number left made w boxes m p number x y m v v out visit p.hands refl some_of board lanes told budget later
             (Done take) grown refl).after
-            ∙ omega (arith, ap (λ (z : View M W). z.owes) inside.after, p.owes)
+            ∙ omega (arith, ap (λ (z : SeatView M W). z.owes) inside.after, p.owes)
 
         module _ (u : Seat M W) (counted : u ≡ (counted_down out.0, out.1)) (id' : TableId) (same : id' ≡ id) where
           abbrev after : Seat M W
@@ -114,13 +114,13 @@ module _ {M W : Type 0} (fits : W → ℕ → M → Type 0) (id : TableId) (numb
     knows_it = ap is_some raised.which.1
 
     pub abort_on : IsBoxPass fits id' number left true w boxes u
-    abort_on = pass_on fits id number left made w boxes m p id' left true u same (ap (λ (z : View M W). z.boards) is)
-        (ap (λ (z : View M W). z.lanes) is
+    abort_on = pass_on fits id number left made w boxes m p id' left true u same (ap (λ (z : SeatView M W). z.boards) is)
+        (ap (λ (z : SeatView M W). z.lanes) is
         ∙ (ap (map made_abort) p.lanes ∙ ap (λ l. record { number = number; events = l; made = true } ∷ []) (sym list_raised)))
-        (ap (λ (z : Seat M W). z.1) raised.after ∙ p.outside) (ap (λ (z : View M W). z.told) is ∙ p.told)
-        (ap (λ (z : View M W). z.owes) is ∙ p.owes)
-        (omega (arith, ap (λ (z : View M W). z.budget) is, p.budget))
-        (λ q near. subst (λ (z : View M W). IsIdleHand left (hand_at q z)) (sym is) (p.hands q near))
+        (ap (λ (z : Seat M W). z.1) raised.after ∙ p.outside) (ap (λ (z : SeatView M W). z.told) is ∙ p.told)
+        (ap (λ (z : SeatView M W). z.owes) is ∙ p.owes)
+        (omega (arith, ap (λ (z : SeatView M W). z.budget) is, p.budget))
+        (λ q near. subst (λ (z : SeatView M W). IsIdleHand left (hand_at q z)) (sym is) (p.hands q near))
         record { sound = later_raised.sound; close = later_raised.close; known = λ _. knows_it }
 
     pub was_aborted : (s : Sight M W) → before ≡ s

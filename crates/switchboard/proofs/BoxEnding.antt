@@ -26,7 +26,7 @@ use Rattle.switchboard.specs.declared.lock_per_box.knowing.Own.{Own}
 use Rattle.switchboard.specs.Sights.{Sight, IsSound}
 use Rattle.switchboard.specs.Promises.{AreAll, Settles}
 use Rattle.switchboard.specs.Knowing.{bare, merged_hands, made_by, state_of, hand_at, numbers, makes, merged, taken_in}
-use Rattle.switchboard.specs.PerBox.{View, flag, Saw, Rule, SeatTookIn, Seat, owed}
+use Rattle.switchboard.specs.PerBox.{SeatView, flag, Saw, Rule, SeatTookIn, Seat, owed}
 use Rattle.switchboard.specs.Proved.PerBoxFacts.{number_in, closed_at_zero}
 use Rattle.switchboard.specs.BoxEnds.{own_of, TookInPass, Gathered, HasSeat, BoardEnds}
 use Rattle.switchboard.proofs.BoxSeats.{merged_is}
@@ -86,23 +86,23 @@ module _ {M W : Type 0} (fits : W → ℕ → M → Type 0) where
         → Gathered boxes all (length front) me'
     gathered_more id me own_me me' g has count took =
         let p = has.0 in
-        let v : View M W = me.0 in
-        let w : View M W = own_me.0 in
+        let v : SeatView M W = me.0 in
+        let w : SeatView M W = own_me.0 in
         let is : me'.0 ≡ taken_in (merged v w) = ap (λ (z : Seat M W). z.0) took.after in
-        let lanes : me'.0.lanes ≡ v.lanes ++ w.lanes = ap (λ (z : View M W). z.lanes) is in
-        let boards : me'.0.boards ≡ v.boards ++ w.boards = ap (λ (z : View M W). z.boards) is in
+        let lanes : me'.0.lanes ≡ v.lanes ++ w.lanes = ap (λ (z : SeatView M W). z.lanes) is in
+        let boards : me'.0.boards ≡ v.boards ++ w.boards = ap (λ (z : SeatView M W). z.boards) is in
         let theirs = taken_self s id own_me has in
         let long : length (front ++ s ∷ []) ≡ length front + 1 = length-append front (s ∷ []) in
         record {
           out = ap (λ (z : Seat M W). z.1) took.after ∙ g.out;
-          told = ap (λ (z : View M W). z.told) is;
-          owes = omega (arith, ap (λ (z : View M W). z.owes) is, g.owes, p.owes);
+          told = ap (λ (z : SeatView M W). z.told) is;
+          owes = omega (arith, ap (λ (z : SeatView M W). z.owes) is, g.owes, p.owes);
           quiet = λ q near.
               let one = merged_is v.hands w.hands q in
               let mine = g.quiet q near in
               let h = p.hands q (omega (arith, count)) in
               let at : hand_at q me'.0 ≡ get_or (merged_hands v.hands w.hands) q (bare 0) =
-              ap (λ (z : View M W). get_or z.hands q (bare 0)) is in (
+              ap (λ (z : SeatView M W). get_or z.hands q (bare 0)) is in (
                 ap (λ (z : Hand (List (Event M))). z.tickets) at ∙ (one.tickets ∙ (λ i. mine.0 i ++ h.tickets i)),
                 ap (λ (z : Hand (List (Event M))). z.inside) at ∙ (one.inside ∙ (λ i. mine.1 i ++ h.inside i)),
               );
@@ -127,7 +127,7 @@ module _ {M W : Type 0} (fits : W → ℕ → M → Type 0) where
                 subst (λ z. TookInPass z me'.0) now record {
                   begins = StartsWith-trans me'.0.seen.order w.seen.order s.seen.order took.theirs theirs.begins;
                   aborted = λ a e. took.aborted a (theirs.aborted a e);
-                  knows = λ e. ap (λ (z : View M W). z.seen.knows) is ∙ knew_first v.seen.knows w.seen.knows (theirs.knows e);
+                  knows = λ e. ap (λ (z : SeatView M W). z.seen.knows) is ∙ knew_first v.seen.knows w.seen.knows (theirs.knows e);
                   lane = (
                     length v.lanes + theirs.lane.0,
                     ap (λ l. get_elem? l (length v.lanes + theirs.lane.0)) lanes
@@ -191,7 +191,7 @@ first_word_is (x ∷ l) n e = sym (some-injective x n e)
 
 module _ {M W : Type 0} (fits : W → ℕ → M → Type 0) (g : Ground M W) where
   -- what the last state of the table tells the seat that has all passes
-  pub record Rests (v : View M W) (n : ℕ) (slots : List (Option (List (Event M)))) : Type 0 where
+  pub record Rests (v : SeatView M W) (n : ℕ) (slots : List (Option (List (Event M)))) : Type 0 where
     pub order : List (Entry M)
     pub first : Option Abort
     pub low : ℕ
@@ -206,7 +206,8 @@ module _ {M W : Type 0} (fits : W → ℕ → M → Type 0) (g : Ground M W) whe
     pub close : (low ≡ 0) ↔ IsClosed order
     pub at : (q : ℕ) → q < g.boxes → get_elem? slots q ≡ some (Some (part q order))
 
-  pub rests : (id n : ℕ) (v : View M W) (words : List ℕ) (slots : List (Option (List (Event M)))) → length v.lanes ≡ g.boxes → v.owes ≡ 0
+  pub rests : (id n : ℕ) (v : SeatView M W) (words : List ℕ) (slots : List (Option (List (Event M)))) → length v.lanes ≡ g.boxes
+      → v.owes ≡ 0
       → ((q : ℕ) → q < g.boxes → (hand_at q v).inside ≡ [])
       → table.Final (table.Seen (Rule fits g) id v) words slots → get_elem? words 0 ≡ some n → Rests v n slots
   rests id n v words slots all owes outside final word =
@@ -214,10 +215,10 @@ module _ {M W : Type 0} (fits : W → ℕ → M → Type 0) (g : Ground M W) whe
       let r = final.1.0 in
       let is_at = final.1.1 in
       let k = r.each id v is_at in
-      let none : (j : ℕ) (u : View M W) → j ≢ id → get_elem? s.views j ≡ some u → length u.lanes ≡ 0 =
+      let none : (j : ℕ) (u : SeatView M W) → j ≢ id → get_elem? s.views j ≡ some u → length u.lanes ≡ 0 =
       λ j u ne at.
-      (let two = total_two (λ (z : View M W). length z.lanes) s.views id j v u (λ e. ne (sym e)) is_at at in omega (arith, r.whole)) in
-      let no_more : owed s.views ≡ 0 = total_only (λ (z : View M W). z.owes) s.views id v is_at
+      (let two = total_two (λ (z : SeatView M W). length z.lanes) s.views id j v u (λ e. ne (sym e)) is_at at in omega (arith, r.whole)) in
+      let no_more : owed s.views ≡ 0 = total_only (λ (z : SeatView M W). z.owes) s.views id v is_at
       (λ j u ne at. (r.each j u at).idle (none j u ne at)) ∙ owes in
       let counts = counted_closed g.boxes r.order r.sound.lawful in
       record {
@@ -228,7 +229,7 @@ module _ {M W : Type 0} (fits : W → ℕ → M → Type 0) (g : Ground M W) whe
         saw = k.saw;
         owns = k.owns;
         boards = k.board;
-        once = λ m. omega (arith, total_at (λ (z : View M W). times m (numbers z)) s.views id v is_at, r.once m);
+        once = λ m. omega (arith, total_at (λ (z : SeatView M W). times m (numbers z)) s.views id v is_at, r.once m);
         maker =
             λ a e.
             some_maker v.lanes a.by
@@ -245,7 +246,7 @@ module _ {M W : Type 0} (fits : W → ℕ → M → Type 0) (g : Ground M W) whe
             let hands : List (Hand (List (Event M))) = map (hand_at q) s.views in
             let nobody_in : total (λ (h : Hand (List (Event M))). length h.inside) hands ≡ 0 =
             total-map (hand_at q) (λ (h : Hand (List (Event M))). length h.inside) s.views
-            ∙ (total_only (λ (u : View M W). length (hand_at q u).inside) s.views id v is_at
+            ∙ (total_only (λ (u : SeatView M W). length (hand_at q u).inside) s.views id v is_at
             (λ j u ne at.
             ap length
             ((core.each j (hand_at q u) (at-map (hand_at q) s.views j u at)).idle ((r.each j u at).parts q near ∙ none j u ne at)).1)
@@ -259,7 +260,8 @@ module _ {M W : Type 0} (fits : W → ℕ → M → Type 0) (g : Ground M W) whe
       nobody m [] e = refl
       nobody m (x ∷ l) e = absurd (omega arith)
 
-  pub ends_is : (v : View M W) (n : ℕ) (slots : List (Option (List (Event M)))) (r : Rests v n slots) (histories : List (List (Event M)))
+  pub ends_is : (v : SeatView M W) (n : ℕ) (slots : List (Option (List (Event M)))) (r : Rests v n slots)
+      (histories : List (List (Event M)))
       → length histories ≡ g.boxes → ((q : ℕ) (h : List (Event M)) → slice_get histories q ≡ Some h → get_elem? slots q ≡ some (Some h))
       → BoardEnds fits g v histories (nat_eq (n % 2 ^ 63) 0)
   ends_is v n slots r histories count taken = record {

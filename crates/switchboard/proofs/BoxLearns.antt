@@ -13,7 +13,7 @@ use Rattle.switchboard.specs.declared.lock_per_box.knowing.Seen.{Seen}
 use Rattle.switchboard.specs.Sights.{Sight, Account}
 use Rattle.switchboard.specs.Promises.{Learned}
 use Rattle.switchboard.specs.Knowing.{bare, merged_hands, either_abort, both_seen, only_seen, merged, taken_in}
-use Rattle.switchboard.specs.PerBox.{View, SeatTookIn, Seat}
+use Rattle.switchboard.specs.PerBox.{SeatView, SeatTookIn, Seat}
 use Rattle.switchboard.specs.BoxPasses.{IsIdleHand, box_sight, box_account, IsBoxPass, IsBoxTold}
 use Rattle.switchboard.proofs.BoxCalls.{Later, own_part, first_later, step_later, seen_on, goes, pass_on, same_lanes}
 
@@ -40,20 +40,20 @@ module _ {M W : Type 0} (fits : W → ℕ → M → Type 0) (id : TableId) (numb
     abbrev x : Seen M
     x = told.0.seen
 
-    abbrev n : View M W
+    abbrev n : SeatView M W
     n = merged m.0 told.0
 
     blank : told.0 ≡ only_seen x
     blank = ap (λ (z : Seat M W). z.0) t.blank
 
     hands : n.hands ≡ m.0.hands
-    hands = ap (λ (z : View M W). merged_hands m.0.hands z.hands) blank ∙ merged_none m.0.hands
+    hands = ap (λ (z : SeatView M W). merged_hands m.0.hands z.hands) blank ∙ merged_none m.0.hands
 
     lanes : n.lanes ≡ m.0.lanes
-    lanes = ap (λ (z : View M W). m.0.lanes ++ z.lanes) blank ∙ append-nil m.0.lanes
+    lanes = ap (λ (z : SeatView M W). m.0.lanes ++ z.lanes) blank ∙ append-nil m.0.lanes
 
     boards : n.boards ≡ m.0.boards
-    boards = ap (λ (z : View M W). m.0.boards ++ z.boards) blank ∙ append-nil m.0.boards
+    boards = ap (λ (z : SeatView M W). m.0.boards ++ z.boards) blank ∙ append-nil m.0.boards
 
     is : u.0 ≡ taken_in n
     is = ap (λ (z : Seat M W). z.0) took.after
@@ -66,18 +66,18 @@ module _ {M W : Type 0} (fits : W → ℕ → M → Type 0) (id : TableId) (numb
 
     pub learn_on : IsBoxPass fits id' number left made w boxes u
     learn_on =
-        pass_on fits id number left made w boxes m p id' left made u same (ap (λ (z : View M W). z.boards) is ∙ boards)
-        (same_lanes fits id number left made w boxes m p u.0 (ap (λ (z : View M W). z.lanes) is ∙ lanes) list)
-        (ap (λ (z : Seat M W). z.1) took.after ∙ p.outside) (ap (λ (z : View M W). z.told) is)
-        (omega (arith, ap (λ (z : View M W). z.owes) is, ap (λ (z : View M W). z.owes) blank, p.owes))
-        (omega (arith, ap (λ (z : View M W). z.budget) is, p.budget))
+        pass_on fits id number left made w boxes m p id' left made u same (ap (λ (z : SeatView M W). z.boards) is ∙ boards)
+        (same_lanes fits id number left made w boxes m p u.0 (ap (λ (z : SeatView M W). z.lanes) is ∙ lanes) list)
+        (ap (λ (z : Seat M W). z.1) took.after ∙ p.outside) (ap (λ (z : SeatView M W). z.told) is)
+        (omega (arith, ap (λ (z : SeatView M W). z.owes) is, ap (λ (z : SeatView M W). z.owes) blank, p.owes))
+        (omega (arith, ap (λ (z : SeatView M W). z.budget) is, p.budget))
         (λ q near.
-        subst (λ h. IsIdleHand left h) (sym (ap (λ (z : View M W). get_or z.hands q (bare 0)) is ∙ ap (λ l. get_or l q (bare 0)) hands))
+        subst (λ h. IsIdleHand left h) (sym (ap (λ (z : SeatView M W). get_or z.hands q (bare 0)) is ∙ ap (λ l. get_or l q (bare 0)) hands))
         (p.hands q near))
         (seen_on fits w boxes made m.0.seen u.0.seen p.seen later)
 
     seen : u.0.seen ≡ both_seen m.0.seen x
-    seen = ap (λ (z : View M W). z.seen) is
+    seen = ap (λ (z : SeatView M W). z.seen) is
 
     pub learned_is : (s : Sight M W) → box_sight id number left made w boxes m.0.seen ≡ s → (a : Account M) → box_account told_id x ≡ a
         → Learned fits a s (box_sight id' number left made w boxes u.0.seen)

@@ -22,7 +22,7 @@ use Rattle.switchboard.specs.declared.lock_per_box.knowing.Ground.{Ground}
 use Rattle.switchboard.specs.declared.lock_per_box.knowing.Own.{Own}
 use Rattle.switchboard.specs.Sights.{Sight, IsSound, opened, fresh_sight, fresh_sights}
 use Rattle.switchboard.specs.Knowing.{bare, bares, owns_from, first_seen, state_of, hand_at, first_view, less_one, just_one}
-use Rattle.switchboard.specs.PerBox.{View, word_of, IsBoardTable, KnowsBoard, LockStands, Rule, Seat}
+use Rattle.switchboard.specs.PerBox.{SeatView, word_of, IsBoardTable, KnowsBoard, LockStands, Rule, Seat}
 use Rattle.switchboard.specs.BoxPasses.{IsIdleHand, box_sight, IsBoxPass}
 use Rattle.switchboard.proofs.Opening.{sound_open, sights_push}
 use Rattle.switchboard.proofs.BoxSeats.{Divides, saw_none, splits}
@@ -114,7 +114,7 @@ module _ {M W : Type 0} (fits : W → ℕ → M → Type 0) (g : Ground M W) (ne
       → ((q : ℕ) (h : Option (List (Event M))) → slice_get slots q ≡ Some h → h ≡ Some (part q first_order))
       → Rule fits g (table.opening words slots (first_view g 0 g.boxes))
   opens words slots long one zeros many boxes =
-      let v : View M W = first_view g 0 g.boxes in
+      let v : SeatView M W = first_view g 0 g.boxes in
       let saw : Rattle.switchboard.specs.PerBox.Saw fits g first_order None 1
       (first_seen g) = record { begins = StartsWith-refl first_order; sound = λ _. sound; aborted = λ a e. cc; close = λ e. cc } in
       record {
@@ -156,8 +156,8 @@ module _ {M W : Type 0} (fits : W → ℕ → M → Type 0) (g : Ground M W) (ne
         maker = λ a e. cc;
       }
     where
-      one_seat : (v : View M W) → KnowsBoard fits g first_order None 1 v → (j : ℕ) (u : View M W)
-          → (let l : List (View M W) = v ∷ [] in get_elem? l j ≡ some u) → KnowsBoard fits g first_order None 1 u
+      one_seat : (v : SeatView M W) → KnowsBoard fits g first_order None 1 v → (j : ℕ) (u : SeatView M W)
+          → (let l : List (SeatView M W) = v ∷ [] in get_elem? l j ≡ some u) → KnowsBoard fits g first_order None 1 u
       one_seat v k zero u e = subst (λ z. KnowsBoard fits g first_order None 1 z) (some-injective v u e) k
       one_seat v k (suc j) u e = absurd (some-ne-none u (sym e))
 
@@ -172,12 +172,12 @@ module _ {M W : Type 0} (fits : W → ℕ → M → Type 0) (g : Ground M W) (ne
       λ i. record (first_view g (suc first) count) { hands = fewer_bares g.boxes count i; budget = budget i }
 
   -- the first seat gives its first pass away
-  pub deals_one : (first count id : ℕ) (v : View M W) → v ≡ first_view g first (suc count)
+  pub deals_one : (first count id : ℕ) (v : SeatView M W) → v ≡ first_view g first (suc count)
       → table.Splits (Rule fits g) id v (less_one v) (just_one v)
   deals_one first count id v is = subst (λ z. table.Splits (Rule fits g) id z (less_one z) (just_one z)) (sym is) (λ s r is_at.
-      let whole : View M W = first_view g first (suc count) in
-      let a : View M W = less_one whole in
-      let b : View M W = just_one whole in
+      let whole : SeatView M W = first_view g first (suc count) in
+      let a : SeatView M W = less_one whole in
+      let b : SeatView M W = just_one whole in
       let k = r.each id whole is_at in
       let hand_a : (q : ℕ) → q < g.boxes → hand_at q a ≡ bare count = λ q short. ap (λ l. get_or l q (bare 0)) (fewer_bares g.boxes count)
       ∙ bares_at g.boxes count q short in
@@ -258,7 +258,7 @@ module _ {M W : Type 0} (fits : W → ℕ → M → Type 0) (g : Ground M W) (ne
         seen = record { sound = sound; close = λ e. cc; known = λ e. cc };
       }
 
-  pub deals_from : (first left id : ℕ) (v : View M W) → v ≡ first_view g first left → 0 < left
+  pub deals_from : (first left id : ℕ) (v : SeatView M W) → v ≡ first_view g first left → 0 < left
       → table.Splits (Rule fits g) id v (less_one v) (just_one v)
   deals_from first zero id v is some_of = absurd (omega arith)
   deals_from first (suc count) id v is some_of = deals_one first count id v is

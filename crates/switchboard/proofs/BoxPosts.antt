@@ -20,7 +20,7 @@ use Rattle.switchboard.specs.Sights.{Sight}
 use Rattle.switchboard.specs.Promises.{Looked, Added, WasPosted, WasRefused}
 use Rattle.switchboard.specs.Proved.Entries.{job_stays}
 use Rattle.switchboard.specs.Knowing.{hand_at, with_seen, counted_up}
-use Rattle.switchboard.specs.PerBox.{View, LeavesOneEvent, TellsOrder, IsInside, Seat}
+use Rattle.switchboard.specs.PerBox.{SeatView, LeavesOneEvent, TellsOrder, IsInside, Seat}
 use Rattle.switchboard.specs.BoxPasses.{box_sight, IsBoxPass}
 use Rattle.switchboard.specs.BoxAnswers.{SawMore, PutIn}
 use Rattle.switchboard.proofs.BoxCalls.{Later, Visit, own_part, first_later, step_later, own_same, stays_on, recorded_is, added_is}
@@ -48,7 +48,7 @@ module _ {M W : Type 0} (fits : W → ℕ → M → Type 0) (id : TableId) (numb
         let list = own_same fits id number left made w boxes m p m.0 in_it.0.seen.order refl inside.own in
         let was : HasJob number job m.0.seen.order = subst (λ (z : Sight M W). HasJob z.number job z.seen.order) (sym see) has in (
           own_part fits id number left made w boxes m p,
-          ap (λ (z : View M W). z.lanes) inside.after ∙ p.lanes,
+          ap (λ (z : SeatView M W). z.lanes) inside.after ∙ p.lanes,
           list,
           job_stays number job m.0.seen.order in_it.0.seen.order (sym list) was,
         )
@@ -61,25 +61,26 @@ module _ {M W : Type 0} (fits : W → ℕ → M → Type 0) (id : TableId) (numb
 
       module _ (v : Seat M W) (more : SawMore fits in_it.0 v.0) where
         later : Later fits w boxes m.0.seen v.0.seen
-        later = step_later fits id number left made w boxes m p in_it.0 v.0.seen (ap (λ (z : View M W). z.boards) inside.after) first more.0
+        later =
+            step_later fits id number left made w boxes m p in_it.0 v.0.seen (ap (λ (z : SeatView M W). z.boards) inside.after) first more.0
 
         list : own number v.0.seen.order ≡ own number m.0.seen.order
-        list = own_same fits id number left made w boxes m p in_it.0 v.0.seen.order (ap (λ (z : View M W). z.lanes) inside.after) more.1
+        list = own_same fits id number left made w boxes m p in_it.0 v.0.seen.order (ap (λ (z : SeatView M W). z.lanes) inside.after) more.1
 
         -- the message was put in
         module _ (y : List (Event M)) (is : v ≡ (counted_up job (with_seen v.0.seen in_it.0), in_it.1))
             (grown : y ≡ x ++ Post number message ∷ []) where
           lanes : v.0.lanes ≡ m.0.lanes
-          lanes = ap (λ (z : Seat M W). z.0.lanes) is ∙ ap (λ (z : View M W). z.lanes) inside.after
+          lanes = ap (λ (z : Seat M W). z.0.lanes) is ∙ ap (λ (z : SeatView M W). z.lanes) inside.after
 
           under : v.0.under ≡ job
           under = ap (λ (z : Seat M W). z.0.under) is
 
           board : v.0.boards ≡ m.0.boards
-          board = ap (λ (z : Seat M W). z.0.boards) is ∙ ap (λ (z : View M W). z.boards) inside.after
+          board = ap (λ (z : Seat M W). z.0.boards) is ∙ ap (λ (z : SeatView M W). z.boards) inside.after
 
           owes : v.0.owes ≡ 1
-          owes = omega (arith, ap (λ (z : Seat M W). z.0.owes) is, ap (λ (z : View M W). z.owes) inside.after, p.owes)
+          owes = omega (arith, ap (λ (z : Seat M W). z.0.owes) is, ap (λ (z : SeatView M W). z.owes) inside.after, p.owes)
 
           has_now : HasJob number v.0.under v.0.seen.order
           has_now =
@@ -113,16 +114,17 @@ module _ {M W : Type 0} (fits : W → ℕ → M → Type 0) (id : TableId) (numb
             }
 
             told : v.0.told ≡ m.0.told
-            told = ap (λ (z : Seat M W). z.0.told) is ∙ ap (λ (z : View M W). z.told) inside.after
+            told = ap (λ (z : Seat M W). z.0.told) is ∙ ap (λ (z : SeatView M W). z.told) inside.after
 
             budget : left ≤ v.0.budget + 1
-            budget = omega (arith, ap (λ (z : Seat M W). z.0.budget) is, ap (λ (z : View M W). z.budget) inside.after, p.budget, some_of)
+            budget =
+                omega (arith, ap (λ (z : Seat M W). z.0.budget) is, ap (λ (z : SeatView M W). z.budget) inside.after, p.budget, some_of)
 
             pub made_on : IsBoxPass fits id' number (left - 1) made w boxes out
             made_on =
                 record_on fits id number left made w boxes m p to x y m in_it v out visit p.hands refl some_of board lanes told budget
                 later (Post number message) grown refl id' out same refl refl refl refl refl refl
-                (ap (λ (z : View M W). z.owes)
+                (ap (λ (z : SeatView M W). z.owes)
                 (recorded_is fits id number left made w boxes m p to x y m in_it v out visit p.hands refl some_of board lanes told
                 budget later (Post number message) grown refl).after ∙ omega (arith, owes)) refl
 
@@ -132,7 +134,7 @@ module _ {M W : Type 0} (fits : W → ℕ → M → Type 0) (id : TableId) (numb
               subst (λ k. Added fits (Posted to number message k) before (box_sight id' number (left - 1) made w boxes out.0.seen)) under
                   (added_is fits id number left made w boxes m p to x y m in_it v out visit p.hands refl some_of board lanes told budget
                   later (Post number message) grown refl id' same),
-              ap (λ (z : View M W). z.seen.aborted)
+              ap (λ (z : SeatView M W). z.seen.aborted)
                   (recorded_is fits id number left made w boxes m p to x y m in_it v out visit p.hands refl some_of board lanes told budget
                   later (Post number message) grown refl).after ∙ alive,
             )
@@ -150,11 +152,11 @@ module _ {M W : Type 0} (fits : W → ℕ → M → Type 0) (id : TableId) (numb
                 slots = ap (λ (z : Seat M W). z.1) is;
                 left = gone;
               } p.hands refl some_of
-              (ap (λ (z : Seat M W). z.0.boards) is ∙ ap (λ (z : View M W). z.boards) inside.after)
-              (ap (λ (z : Seat M W). z.0.lanes) is ∙ ap (λ (z : View M W). z.lanes) inside.after)
-              (ap (λ (z : Seat M W). z.0.told) is ∙ ap (λ (z : View M W). z.told) inside.after)
-              (omega (arith, ap (λ (z : Seat M W). z.0.budget) is, ap (λ (z : View M W). z.budget) inside.after, p.budget))
-              later id' same unchanged (ap (λ (z : Seat M W). z.0.owes) is ∙ (ap (λ (z : View M W). z.owes) inside.after ∙ p.owes)) list
+              (ap (λ (z : Seat M W). z.0.boards) is ∙ ap (λ (z : SeatView M W). z.boards) inside.after)
+              (ap (λ (z : Seat M W). z.0.lanes) is ∙ ap (λ (z : SeatView M W). z.lanes) inside.after)
+              (ap (λ (z : Seat M W). z.0.told) is ∙ ap (λ (z : SeatView M W). z.told) inside.after)
+              (omega (arith, ap (λ (z : Seat M W). z.0.budget) is, ap (λ (z : SeatView M W). z.budget) inside.after, p.budget))
+              later id' same unchanged (ap (λ (z : Seat M W). z.0.owes) is ∙ (ap (λ (z : SeatView M W). z.owes) inside.after ∙ p.owes)) list
 
       -- the mailbox is left with the message, or as it was
       pub post_asks : (r : Result (Unit {0}) (PostFault M)) (y : List (Event M)) (v : Seat M W)

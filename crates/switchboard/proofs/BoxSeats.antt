@@ -19,7 +19,7 @@ use Rattle.switchboard.specs.declared.lock_per_box.knowing.Ground.{Ground}
 use Rattle.switchboard.specs.declared.lock_per_box.knowing.Seen.{Seen}
 use Rattle.switchboard.specs.declared.lock_per_box.knowing.Own.{Own}
 use Rattle.switchboard.specs.Knowing.{bare, merged_hands, unseen, made_by, hand_at, numbers, makes, only_seen, merged}
-use Rattle.switchboard.specs.PerBox.{View, word_of, LockStands, Saw, KnowsBoard, Rule, Boxes}
+use Rattle.switchboard.specs.PerBox.{SeatView, word_of, LockStands, Saw, KnowsBoard, Rule, Boxes}
 
 module _ {T : Type 0} where
   -- two hands have what one had
@@ -147,16 +147,16 @@ module _ {M W : Type 0} (fits : W → ℕ → M → Type 0) (g : Ground M W) whe
     idle = λ e. refl;
   }
 
-  module _ (s : Boxes M W) (r : Rule fits g s) (id : ℕ) (v : View M W) (is_at : get_elem? s.views id ≡ some v) where
+  module _ (s : Boxes M W) (r : Rule fits g s) (id : ℕ) (v : SeatView M W) (is_at : get_elem? s.views id ≡ some v) where
     -- a seat cut in two
-    pub splits : (a b : View M W) → ((q : ℕ) → q < g.boxes → Divides (hand_at q v) (hand_at q a) (hand_at q b))
+    pub splits : (a b : SeatView M W) → ((q : ℕ) → q < g.boxes → Divides (hand_at q v) (hand_at q a) (hand_at q b))
         → KnowsBoard fits g r.order r.first r.low a → KnowsBoard fits g r.order r.first r.low b
         → ((n : ℕ) → times n (numbers a) + times n (numbers b) ≡ times n (numbers v)) → length a.lanes + length b.lanes ≡ length v.lanes
         → ((n : ℕ) → makes n a + makes n b ≡ makes n v)
         → a.owes + b.owes ≡ v.owes → a.budget + b.budget ≡ v.budget
         → Rule fits g record { words = s.words; homes = s.homes; views = set s.views id a ++ b ∷ [] }
     splits a b hands knows_a knows_b names lens made owes budget =
-        let sum : (f : View M W → ℕ) → f a + f b ≡ f v → total f (set s.views id a ++ b ∷ []) ≡ total f s.views =
+        let sum : (f : SeatView M W → ℕ) → f a + f b ≡ f v → total f (set s.views id a ++ b ∷ []) ≡ total f s.views =
         λ f e. omega (arith, total-snoc f (set s.views id a) b, total_set f s.views id v a is_at) in
         record {
           order = r.order;
@@ -174,8 +174,8 @@ module _ {M W : Type 0} (fits : W → ℕ → M → Type 0) (g : Ground M W) whe
               stands_with q r.order s l _ _ same core;
           some_word = r.some_word;
           word = r.word;
-          count = omega (arith, sum (λ (u : View M W). u.owes) owes, r.count);
-          few = omega (arith, sum (λ (u : View M W). u.budget) budget, r.few);
+          count = omega (arith, sum (λ (u : SeatView M W). u.owes) owes, r.count);
+          few = omega (arith, sum (λ (u : SeatView M W). u.budget) budget, r.few);
           each = λ j u e. elim (at_snoc (set s.views id a) b u j e) [
             | inl t ↦ subst (λ z. KnowsBoard fits g r.order r.first r.low z) t.1 knows_b
             | inr t ↦
@@ -184,8 +184,8 @@ module _ {M W : Type 0} (fits : W → ℕ → M → Type 0) (g : Ground M W) whe
                   | inr q ↦ r.each j u q.1
                 ]
           ];
-          once = λ n. omega (arith, sum (λ (u : View M W). times n (numbers u)) (names n), r.once n);
-          whole = sum (λ (u : View M W). length u.lanes) lens ∙ r.whole;
+          once = λ n. omega (arith, sum (λ (u : SeatView M W). times n (numbers u)) (names n), r.once n);
+          whole = sum (λ (u : SeatView M W). length u.lanes) lens ∙ r.whole;
           maker = λ c e. omega (arith, sum (makes c.by) (made c.by), r.maker c e);
         }
 
@@ -203,16 +203,16 @@ module _ {M W : Type 0} (fits : W → ℕ → M → Type 0) (g : Ground M W) whe
         }) k (knows_only r.order r.first r.low v.seen k.saw) (λ n. omega arith) (omega arith) (λ n. omega arith) (omega arith) (omega arith)
 
     -- a seat takes in all that another has, if both are outside
-    pub joins : (other : ℕ) (w : View M W) → other ≢ id → get_elem? s.views other ≡ some w
+    pub joins : (other : ℕ) (w : SeatView M W) → other ≢ id → get_elem? s.views other ≡ some w
         → ((q : ℕ) → q < g.boxes → (hand_at q v).inside ≡ []) → ((q : ℕ) → q < g.boxes → (hand_at q w).inside ≡ [])
         → Rule fits g record { words = s.words; homes = s.homes; views = set (set s.views id (merged v w)) other (only_seen unseen) }
     joins other w ne at_w out_v out_w =
-        let u : View M W = merged v w in
-        let z : View M W = only_seen unseen in
+        let u : SeatView M W = merged v w in
+        let z : SeatView M W = only_seen unseen in
         let kv = r.each id v is_at in
         let kw = r.each other w at_w in
         let there : get_elem? (set s.views id u) other ≡ some w = set_else s.views id other u ne ∙ at_w in
-        let sum : (f : View M W → ℕ) → f z ≡ 0 → f u ≡ f v + f w → total f (set (set s.views id u) other z) ≡ total f s.views =
+        let sum : (f : SeatView M W → ℕ) → f z ≡ 0 → f u ≡ f v + f w → total f (set (set s.views id u) other z) ≡ total f s.views =
         λ f none e. omega (arith, total_set f s.views id v u is_at, total_set f (set s.views id u) other w z there) in
         let knows_u : KnowsBoard fits g r.order r.first r.low u = record {
           board = λ i k e. elim (at_append v.boards w.boards i k e) [ inl t ↦ kv.board i k t | inr t ↦ kw.board t.0 k t.1 ];
@@ -248,8 +248,8 @@ module _ {M W : Type 0} (fits : W → ℕ → M → Type 0) (g : Ground M W) whe
               stands_with q r.order s l _ _ same core;
           some_word = r.some_word;
           word = r.word;
-          count = omega (arith, sum (λ (x : View M W). x.owes) refl refl, r.count);
-          few = omega (arith, sum (λ (x : View M W). x.budget) refl refl, r.few);
+          count = omega (arith, sum (λ (x : SeatView M W). x.owes) refl refl, r.count);
+          few = omega (arith, sum (λ (x : SeatView M W). x.budget) refl refl, r.few);
           each = λ j x e. elim (at_set (set s.views id u) other j z x e) [
             | inl t ↦
                 subst (λ k. KnowsBoard fits g r.order r.first r.low k) t.1
@@ -264,11 +264,11 @@ module _ {M W : Type 0} (fits : W → ℕ → M → Type 0) (g : Ground M W) whe
               λ n.
               omega (
                 arith,
-                sum (λ (x : View M W). times n (numbers x)) refl
+                sum (λ (x : SeatView M W). times n (numbers x)) refl
                     (ap (times n) (map-append (λ (o : Own M). o.number) v.lanes w.lanes) ∙ times-append n (numbers v) (numbers w)),
                 r.once n,
               );
-          whole = sum (λ (x : View M W). length x.lanes) refl (length-append v.lanes w.lanes) ∙ r.whole;
+          whole = sum (λ (x : SeatView M W). length x.lanes) refl (length-append v.lanes w.lanes) ∙ r.whole;
           maker = λ c e. omega (arith, sum (makes c.by) refl (total-append (made_by c.by) v.lanes w.lanes), r.maker c e);
         }
       where
@@ -276,10 +276,10 @@ module _ {M W : Type 0} (fits : W → ℕ → M → Type 0) (g : Ground M W) whe
         total-append f [] b = omega arith
         total-append f (x ∷ a) b = omega (arith, total-append f a b)
 
-  pub tells_allowed : (id : ℕ) (v : View M W) → table.Splits (Rule fits g) id v v (only_seen v.seen)
+  pub tells_allowed : (id : ℕ) (v : SeatView M W) → table.Splits (Rule fits g) id v v (only_seen v.seen)
   tells_allowed id v s r is_at = tells s r id v is_at
 
-  pub joins_allowed : (id other : ℕ) (v w : View M W) → ((q : ℕ) → q < g.boxes → (hand_at q v).inside ≡ [])
+  pub joins_allowed : (id other : ℕ) (v w : SeatView M W) → ((q : ℕ) → q < g.boxes → (hand_at q v).inside ≡ [])
       → ((q : ℕ) → q < g.boxes → (hand_at q w).inside ≡ []) → table.Joins (Rule fits g) id v other w (merged v w) (only_seen unseen)
   joins_allowed id other v w out_v out_w s r is_at ne at_other =
       joins s r id v is_at other w ne (sym (set_else s.views id other (merged v w) ne) ∙ at_other) out_v out_w

@@ -19,7 +19,7 @@ use Rattle.switchboard.specs.declared.lock_per_box.knowing.Seen.{Seen}
 use Rattle.switchboard.specs.Sights.{Sight}
 use Rattle.switchboard.specs.Promises.{Took}
 use Rattle.switchboard.specs.Knowing.{hand_at}
-use Rattle.switchboard.specs.PerBox.{View, flag, LeavesOneEvent, TellsOrder, IsInside, LookedAtWord, Seat}
+use Rattle.switchboard.specs.PerBox.{SeatView, flag, LeavesOneEvent, TellsOrder, IsInside, LookedAtWord, Seat}
 use Rattle.switchboard.specs.BoxPasses.{IsIdleHand, box_sight, IsBoxPass}
 use Rattle.switchboard.specs.BoxAnswers.{TookOut}
 use Rattle.switchboard.proofs.Visits.{posted_fits}
@@ -67,7 +67,7 @@ module _ {M W : Type 0} (fits : W → ℕ → M → Type 0) (id : TableId) (numb
 
   module _ (more : n % 2 ^ 63 ≡ 0 → ⊥) (clear : n < 2 ^ 63) (x : List (Event M)) (v : Seat M W) (inside : IsInside fits number x u v) where
     same_lanes : v.0.lanes ≡ m.0.lanes
-    same_lanes = ap (λ (z : View M W). z.lanes) inside.after ∙ ap (λ (z : Seat M W). z.0.lanes) looked.after
+    same_lanes = ap (λ (z : SeatView M W). z.lanes) inside.after ∙ ap (λ (z : Seat M W). z.0.lanes) looked.after
 
     later : Later fits w boxes m.0.seen v.0.seen
     later =
@@ -80,7 +80,7 @@ module _ {M W : Type 0} (fits : W → ℕ → M → Type 0) (id : TableId) (numb
     list = own_same fits id number left made w boxes m p u.0 v.0.seen.order (ap (λ (z : Seat M W). z.0.lanes) looked.after) inside.own
 
     owes : v.0.owes ≡ 0
-    owes = ap (λ (z : View M W). z.owes) inside.after ∙ (ap (λ (z : Seat M W). z.0.owes) looked.after ∙ p.owes)
+    owes = ap (λ (z : SeatView M W). z.owes) inside.after ∙ (ap (λ (z : Seat M W). z.0.owes) looked.after ∙ p.owes)
 
     alive : v.0.seen.aborted ≡ None
     alive = inside.aborted ∙ not_flagged looked.low u.0.seen.aborted (omega (arith, looked.found))
@@ -106,13 +106,13 @@ module _ {M W : Type 0} (fits : W → ℕ → M → Type 0) (id : TableId) (numb
         idle k near = subst (λ (z : Seat M W). IsIdleHand left (hand_at k z.0)) (sym looked.after) (p.hands k near)
 
         board : v.0.boards ≡ m.0.boards
-        board = ap (λ (z : View M W). z.boards) inside.after ∙ ap (λ (z : Seat M W). z.0.boards) looked.after
+        board = ap (λ (z : SeatView M W). z.boards) inside.after ∙ ap (λ (z : Seat M W). z.0.boards) looked.after
 
         told : v.0.told ≡ m.0.told
-        told = ap (λ (z : View M W). z.told) inside.after ∙ ap (λ (z : Seat M W). z.0.told) looked.after
+        told = ap (λ (z : SeatView M W). z.told) inside.after ∙ ap (λ (z : Seat M W). z.0.told) looked.after
 
         budget : left ≤ v.0.budget + 1
-        budget = omega (arith, ap (λ (z : View M W). z.budget) inside.after, ap (λ (z : Seat M W). z.0.budget) looked.after, p.budget)
+        budget = omega (arith, ap (λ (z : SeatView M W). z.budget) inside.after, ap (λ (z : Seat M W). z.0.budget) looked.after, p.budget)
 
         slots : u.1 ≡ m.1
         slots = ap (λ (z : Seat M W). z.1) looked.after
@@ -124,7 +124,7 @@ module _ {M W : Type 0} (fits : W → ℕ → M → Type 0) (id : TableId) (numb
             on (answer.Message job k) t =
                 record_on fits id number left made w boxes m p number x y u v v out visit idle slots some_of board same_lanes told budget
                 later (event.Take t.0 k) t.3 refl id' out same refl refl refl refl refl refl
-                (ap (λ (z : View M W). z.owes)
+                (ap (λ (z : SeatView M W). z.owes)
                 (recorded_is fits id number left made w boxes m p number x y u v v out visit idle slots some_of board same_lanes told
                 budget later (event.Take t.0 k) t.3 refl).after ∙ owes) refl
             on answer.Empty t =
@@ -143,7 +143,7 @@ module _ {M W : Type 0} (fits : W → ℕ → M → Type 0) (id : TableId) (numb
                 let rec =
                 recorded_is fits id number left made w boxes m p number x y u v v out visit idle slots some_of board same_lanes told
                 budget later e t.3 refl in
-                let order = ap (λ (z : View M W). z.seen.order) rec.after in
+                let order = ap (λ (z : SeatView M W). z.seen.order) rec.after in
                 let whole : part number out.0.seen.order ≡ part number rec.front ++ e ∷ [] = ap (part number) order
                 ∙ (part-append number rec.front (entry.Taken number t.0 k ∷ [])
                 ∙ ap (λ l. part number rec.front ++ l) (part_here number (entry.Taken number t.0 k) [] refl)) in
@@ -157,7 +157,7 @@ module _ {M W : Type 0} (fits : W → ℕ → M → Type 0) (id : TableId) (numb
                   fit =
                       posted_fits fits w number (length (takes x)) t.0 k v.0.seen.order later.sound.fitting
                       (subst (λ h. slice_get (posts h) (length (takes x)) ≡ Some (t.0, k)) (sym inside.part) t.1);
-                  alive = ap (λ (z : View M W). z.seen.aborted) rec.after ∙ alive;
+                  alive = ap (λ (z : SeatView M W). z.seen.aborted) rec.after ∙ alive;
                 }
             is answer.Empty t =
                 let s =

@@ -7,14 +7,14 @@ use Rattle.ticket_lock.specs.Calls as lock
 use Rattle.post_ledger.specs.declared.event.Event.{Event}
 use Rattle.switchboard.specs.declared.lock_per_box.knowing.Seen.{Seen}
 use Rattle.switchboard.specs.Knowing.{hand_at, with_hand, with_seen}
-use Rattle.switchboard.specs.PerBox.{View, CanDraw, TellsOrder, IsInside, News, HasOwn, Seat}
+use Rattle.switchboard.specs.PerBox.{SeatView, CanDraw, TellsOrder, IsInside, News, HasOwn, Seat}
 
 only_ticket : (n : ℕ) (l : List ℕ) → l ≡ [] → without n (l ++ n ∷ []) ≡ []
 only_ticket n l none = ap (λ k. without n (k ++ n ∷ [])) none ∙ rw (eq-eqb n n refl) refl
 
 module _ {M W : Type 0} (fits : W → ℕ → M → Type 0) where
   -- what is news is news whatever the hand is
-  hand_news : (q : ℕ) (h : Hand (List (Event M))) (v : View M W) (x : Seen M) → News fits (with_hand q h v) x → News fits v x
+  hand_news : (q : ℕ) (h : Hand (List (Event M))) (v : SeatView M W) (x : Seen M) → News fits (with_hand q h v) x → News fits v x
   hand_news q h v x n = record { begins = n.begins; aborted = n.aborted; knows = n.knows; sound = n.sound; close = n.close }
 
   -- a seat that was ready, drew and entered
@@ -31,7 +31,7 @@ module _ {M W : Type 0} (fits : W → ℕ → M → Type 0) where
       let entered = came_in.1.0 in
       let back : with_hand q (hand_at q w.0) d.0 ≡ with_hand q (hand_at q w.0) m.0 = ap (with_hand q (hand_at q w.0)) d_is
       ∙ ap (λ l. record m.0 { hands = l }) (set-set m.0.hands q (hand_at q d.0) (hand_at q w.0)) in
-      let seen : d.0.seen ≡ m.0.seen = ap (λ (z : View M W). z.seen) d_is in
+      let seen : d.0.seen ≡ m.0.seen = ap (λ (z : SeatView M W). z.seen) d_is in
       record {
         out = came_in.0 ∙ ap (λ l. (q, None) ∷ l) drew.0;
         after = tell.0 ∙ ap (with_seen w.0.seen) back;

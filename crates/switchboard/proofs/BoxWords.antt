@@ -26,7 +26,7 @@ use Rattle.switchboard.specs.Sights.{IsSound, abort_of}
 use Rattle.switchboard.specs.Proved.Entries.{job_stays}
 use Rattle.switchboard.specs.Knowing.{either_abort, state_of, both_seen, with_seen, numbers, makes, made_by, counted_up, counted_down}
 use Rattle.switchboard.specs.Knowing.{made_abort, taken_in}
-use Rattle.switchboard.specs.PerBox.{View, flag, Saw, Rule, LookedAtWord, Raised, SeatTookIn, Seat, owed}
+use Rattle.switchboard.specs.PerBox.{SeatView, flag, Saw, Rule, LookedAtWord, Raised, SeatTookIn, Seat, owed}
 use Rattle.switchboard.specs.Proved.PerBoxFacts.{BoardGrows, grows_same, saw_grows, saw_all, sound_with, closed_at_zero, fewer_dones}
 use Rattle.switchboard.specs.Proved.PerBoxFacts.{news_is, rebuilt, locks_still, made_still}
 
@@ -54,8 +54,8 @@ module _ {M W : Type 0} (fits : W → ℕ → M → Type 0) (g : Ground M W) whe
       → HasJob o.number job m.0.seen.order → 0 < m.0.budget
       → table.Allows (Rule fits g) slots id m 0 (λ n. (n + 1) % 2 ^ 64) (λ n w. w ≡ (counted_up job m.0, m.1))
   counts_up slots id m job o lanes list has some_of s r len is_at small =
-      let v : View M W = m.0 in
-      let w : View M W = counted_up job v in
+      let v : SeatView M W = m.0 in
+      let w : SeatView M W = counted_up job v in
       let k = r.each id v is_at in
       let mine : own o.number v.seen.order ≡ own o.number r.order = list ∙ sym (k.owns 0 o (ap (λ l. get_elem? l 0) lanes)) in
       let has_still = job_stays o.number job v.seen.order r.order mine has in
@@ -64,7 +64,7 @@ module _ {M W : Type 0} (fits : W → ℕ → M → Type 0) (g : Ground M W) whe
       let on : BoardGrows r.order r.order r.first r.first r.low
       (r.low + 1) = record { begins = StartsWith-refl r.order; aborted = λ a e. e; still = λ e. absurd (open_still e) } in
       let n : ℕ = (get_or s.words 0 0 + 1) % 2 ^ 64 in
-      let budget = total_at (λ (u : View M W). u.budget) s.views id v is_at in
+      let budget = total_at (λ (u : SeatView M W). u.budget) s.views id v is_at in
       let e : n ≡ r.low + 1 + flag r.first = omega (arith, r.word, r.few, flag_small r.first) in
       let holds =
       rebuilt fits g s r id v is_at r.order r.first (r.low + 1) (set s.words 0 n) s.homes w on (λ j _. refl) r.sound
@@ -84,10 +84,10 @@ module _ {M W : Type 0} (fits : W → ℕ → M → Type 0) (g : Ground M W) whe
   pub counts_down : (slots id : ℕ) (m : Seat M W) → 0 < m.0.owes
       → table.Allows (Rule fits g) slots id m 0 (λ n. (n + (2 ^ 64 - 1)) % 2 ^ 64) (λ n w. w ≡ (counted_down m.0, m.1))
   counts_down slots id m some_of s r len is_at small =
-      let v : View M W = m.0 in
-      let w : View M W = counted_down v in
+      let v : SeatView M W = m.0 in
+      let w : SeatView M W = counted_down v in
       let k = r.each id v is_at in
-      let owes = total_at (λ (u : View M W). u.owes) s.views id v is_at in
+      let owes = total_at (λ (u : SeatView M W). u.owes) s.views id v is_at in
       let above : 0 < r.low = omega (arith, r.count, fewer_dones g.boxes r.order r.sound.lawful) in
       let on : BoardGrows r.order r.order r.first r.first r.low
       (r.low - 1) = record { begins = StartsWith-refl r.order; aborted = λ a e. e; still = λ e. absurd (omega arith) } in
@@ -110,9 +110,9 @@ module _ {M W : Type 0} (fits : W → ℕ → M → Type 0) (g : Ground M W) whe
   -- a look at the word
   pub looks : (slots id : ℕ) (m : Seat M W) → table.Allows (Rule fits g) slots id m 0 (λ n. n) (LookedAtWord fits m)
   looks slots id m s r len is_at small =
-      let v : View M W = m.0 in
+      let v : SeatView M W = m.0 in
       let x : Seen M = record { order = r.order; aborted = r.first; knows = r.low == 0 } in
-      let w : View M W = with_seen x v in
+      let w : SeatView M W = with_seen x v in
       let k = r.each id v is_at in
       let n : ℕ = get_or s.words 0 0 in
       let on = grows_same r.order r.first r.low in
@@ -191,9 +191,9 @@ module _ {M W : Type 0} (fits : W → ℕ → M → Type 0) (g : Ground M W) whe
 
   pub takes_in : (slots id : ℕ) (m : Seat M W) → table.Allows (Rule fits g) slots id m 0 (λ n. n) (λ n. SeatTookIn fits m)
   takes_in slots id m s r len is_at small =
-      let v : View M W = m.0 in
+      let v : SeatView M W = m.0 in
       let x : Seen M = both_seen v.seen v.told in
-      let w : View M W = taken_in v in
+      let w : SeatView M W = taken_in v in
       let k = r.each id v is_at in
       let n : ℕ = get_or s.words 0 0 in
       let on = grows_same r.order r.first r.low in
@@ -242,10 +242,10 @@ module _ {M W : Type 0} (fits : W → ℕ → M → Type 0) (g : Ground M W) whe
   pub raises : (slots id : ℕ) (m : Seat M W) (a : Abort) (o : Own M) → m.0.lanes ≡ o ∷ [] → o.number ≡ a.by → o.made ≡ false
       → a.by < g.boxes → table.Allows (Rule fits g) slots id m 0 (λ n. bit_or n (2 ^ 63)) (λ n. Raised fits a m)
   raises slots id m a o lanes by none near s r len is_at small =
-      let v : View M W = m.0 in
+      let v : SeatView M W = m.0 in
       let first : Option Abort = abort_of r.first a in
       let x : Seen M = record { order = r.order; aborted = first; knows = v.seen.knows } in
-      let w : View M W = record v { lanes = map made_abort v.lanes; seen = x } in
+      let w : SeatView M W = record v { lanes = map made_abort v.lanes; seen = x } in
       let k = r.each id v is_at in
       let n : ℕ = bit_or (get_or s.words 0 0) (2 ^ 63) in
       let low_small : r.low < 2 ^ 63 = omega (arith, r.few) in
@@ -291,9 +291,9 @@ module _ {M W : Type 0} (fits : W → ℕ → M → Type 0) (g : Ground M W) whe
           own = k.owns;
           knows = refl;
           which = which r.first (λ c is same. let t = r.maker c is in
-              let others : (j : ℕ) (u : View M W) → j ≢ id → get_elem? s.views j ≡ some u → makes c.by u ≡ 0 =
+              let others : (j : ℕ) (u : SeatView M W) → j ≢ id → get_elem? s.views j ≡ some u → makes c.by u ≡ 0 =
               λ j u ne at.
-              (let two = total_two (λ (z : View M W). times c.by (numbers z)) s.views id j v u (λ i. ne (sym i)) is_at at in
+              (let two = total_two (λ (z : SeatView M W). times c.by (numbers z)) s.views id j v u (λ i. ne (sym i)) is_at at in
               let here : times c.by (numbers v) ≡ 1 = ap (λ l. times c.by (map (λ (p : Own M). p.number) l)) lanes
               ∙ subst (λ i. times i (o.number ∷ []) ≡ 1) (by ∙ sym same) (times-one o.number) in
               omega (arith, r.once c.by, few_made c.by u.lanes)) in

@@ -8,7 +8,7 @@ use Rattle.switchboard.specs.declared.calls.PostFault.TheVariants as fault
 use Rattle.switchboard.specs.declared.calls.Taken.{Taken}
 use Rattle.switchboard.specs.declared.calls.Taken.TheVariants as answer
 use Rattle.switchboard.specs.Knowing.{with_seen, counted_up}
-use Rattle.switchboard.specs.PerBox.{View, News, HasOwn, Seat}
+use Rattle.switchboard.specs.PerBox.{SeatView, News, HasOwn, Seat}
 
 module _ {M : Type 0} where
   -- the oldest message that was not taken is taken out of the mailbox, or every one is
@@ -22,7 +22,7 @@ module _ {M : Type 0} where
 
 module _ {M W : Type 0} (fits : W → ℕ → M → Type 0) where
   -- the seat has seen more, and its passes made no event
-  abbrev pub SawMore : View M W → View M W → Type 0
+  abbrev pub SawMore : SeatView M W → SeatView M W → Type 0
   SawMore before after = News fits before after.seen × HasOwn fits before after.seen.order
 
   -- the message is put in, on a board that is not aborted, and is counted up; or it comes back, and the mailbox stays

@@ -13,7 +13,7 @@ use Rattle.switchboard.specs.declared.lock_per_box.knowing.Ground.{Ground}
 use Rattle.switchboard.specs.declared.lock_per_box.knowing.Own.{Own}
 use Rattle.switchboard.specs.Sights.{Sight, IsSound}
 use Rattle.switchboard.specs.Knowing.{unseen, state_of, hand_at, numbers}
-use Rattle.switchboard.specs.PerBox.{View, Saw, Seat}
+use Rattle.switchboard.specs.PerBox.{SeatView, Saw, Seat}
 use Rattle.switchboard.specs.BoxPasses.{box_sight, IsBoxPass}
 
 module _ {M W : Type 0} where
@@ -22,7 +22,7 @@ module _ {M W : Type 0} where
   own_of sight = record { number = sight.number; events = own sight.number sight.seen.order; made = sight.made }
 
   -- the seat has taken in what this pass had
-  pub record TookInPass (sight : Sight M W) (view : View M W) : Type 0 where
+  pub record TookInPass (sight : Sight M W) (view : SeatView M W) : Type 0 where
     pub begins : StartsWith view.seen.order sight.seen.order
     pub aborted : (a : Abort) → sight.seen.aborted ≡ Some a → view.seen.aborted ≡ Some a
     pub knows : sight.knows ≡ true → view.seen.knows ≡ true
@@ -46,7 +46,7 @@ module _ {M W : Type 0} where
 
     -- What is left of a board whose passes a seat has all: the longest order, whose parts are the histories; it is
     -- closed if no post is outstanding; and the maker of the first abort has made it.
-    pub record BoardEnds (basis : Ground M W) (view : View M W) (histories : List (List (Event M))) (closed : Bool) : Type 0 where
+    pub record BoardEnds (basis : Ground M W) (view : SeatView M W) (histories : List (List (Event M))) (closed : Bool) : Type 0 where
       pub order : List (Entry M)
       pub first : Option Abort
       pub low : ℕ

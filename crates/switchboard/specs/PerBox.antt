@@ -10,7 +10,7 @@ use Rattle.atomic_table.specs.Seated.{TableId}
 use Rattle.ticket_lock.specs.declared.hand.Hand.{Hand}
 use Rattle.ticket_lock.specs.Count.{times, total}
 use Rattle.ticket_lock.specs.History.{StartsWith, EndsIn}
-use Rattle.ticket_lock.specs.Turns.{Kind, draws, waits, enters, passes, Kept}
+use Rattle.ticket_lock.specs.Turns.{StepKind, draws, waits, enters, passes, Kept}
 use Rattle.post_ledger.specs.declared.event.Event.{Event}
 use Rattle.post_ledger.specs.declared.event.Event.TheVariants.{Post, Take, Done}
 use Rattle.post_ledger.specs.declared.entry.Entry.{Entry}
@@ -35,39 +35,39 @@ flag None = 0
 flag (Some abort) = 2 ^ 63
 
 -- what a seat of the board knows, where contracts see a mailbox as its history
-abbrev pub View : Type 0 → Type 0 → Type 0
-View M W = Knowing M W (List (Event M))
+abbrev pub SeatView : Type 0 → Type 0 → Type 0
+SeatView M W = Knowing M W (List (Event M))
 
 -- a seat of one pass alone has the job
-abbrev pub HasOwnJob : {M W : Type 0} → View M W → ℕ → Type 0
+abbrev pub HasOwnJob : {M W : Type 0} → SeatView M W → ℕ → Type 0
 HasOwnJob {M} view job =
     (o : Own M) × (view.lanes ≡ o ∷ []) × (own o.number view.seen.order ≡ o.events) × HasJob o.number job view.seen.order
 
 -- a seat of the board's table: what it knows, and the slots that it has emptied
 abbrev pub Seat : Type 0 → Type 0 → Type 0
-Seat M W = table.Me (Option (List (Event M))) (View M W)
+Seat M W = table.Me (Option (List (Event M))) (SeatView M W)
 
 -- what lies in the slots of the table: a mailbox, or nothing while one is out
-abbrev pub Homes : Type 0 → Type 0
-Homes M = List (maybe.Option (Option (List (Event M))))
+abbrev pub Slots : Type 0 → Type 0
+Slots M = List (maybe.Option (Option (List (Event M))))
 
 -- the table
 abbrev pub Boxes : Type 0 → Type 0 → Type 0
-Boxes M W = table.State (Option (List (Event M))) (View M W)
+Boxes M W = table.State (Option (List (Event M))) (SeatView M W)
 
 module _ {M W : Type 0} where
   -- what the seats have in the count together
-  abbrev pub owed : List (View M W) → ℕ
+  abbrev pub owed : List (SeatView M W) → ℕ
   owed = total (λ v. v.owes)
 
   -- how many Posts they may count up together
-  abbrev pub postable : List (View M W) → ℕ
+  abbrev pub postable : List (SeatView M W) → ℕ
   postable = total (λ v. v.budget)
 
 module _ {M : Type 0} where
   -- the lock of a mailbox keeps the lock's rule, and the last value left in it is the order's projection to the
   -- mailbox
-  abbrev pub LockStands : ℕ → List (Entry M) → List ℕ → Homes M → List (Hand (List (Event M))) → Type 0
+  abbrev pub LockStands : ℕ → List (Entry M) → List ℕ → Slots M → List (Hand (List (Event M))) → Type 0
   LockStands mailbox order words homes hands = (log : List (List (Event M))) × Kept (word_of mailbox) mailbox log words homes hands
       × EndsIn log (part mailbox order)
 
@@ -99,7 +99,8 @@ module _ {M W : Type 0} where
 
     -- What holds for each seat: it has a share of each lock for each of its passes; each of its passes made exactly
     -- its own events of the order; without a pass it has none in the count.
-    pub record KnowsBoard (basis : Ground M W) (order : List (Entry M)) (first : Option Abort) (low : ℕ) (view : View M W) : Type 0 where
+    pub record KnowsBoard (basis : Ground M W) (order : List (Entry M)) (first : Option Abort) (low : ℕ)
+        (view : SeatView M W) : Type 0 where
       pub board : (i : ℕ) (k : Ground M W) → get_elem? view.boards i ≡ some k → k ≡ basis
       pub saw : Saw basis order first low view.seen
       pub told : Saw basis order first low view.told
@@ -120,14 +121,14 @@ module _ {M W : Type 0} where
       pub word : slice_index state.words 0 ≡ low + flag first
       pub count : low + completed order ≡ posted order + owed state.views
       pub few : low + postable state.views < 2 ^ 63
-      pub each : (j : ℕ) (v : View M W) → get_elem? state.views j ≡ some v → KnowsBoard basis order first low v
-      pub once : (n : ℕ) → total (λ (v : View M W). times n (numbers v)) state.views ≤ 1
-      pub whole : total (λ (v : View M W). length v.lanes) state.views ≡ basis.boxes
+      pub each : (j : ℕ) (v : SeatView M W) → get_elem? state.views j ≡ some v → KnowsBoard basis order first low v
+      pub once : (n : ℕ) → total (λ (v : SeatView M W). times n (numbers v)) state.views ≤ 1
+      pub whole : total (λ (v : SeatView M W). length v.lanes) state.views ≡ basis.boxes
       pub maker : (a : Abort) → first ≡ Some a → 0 < total (makes a.by) state.views
 
     -- what a seat sees after a step continues from what it had seen, and is sound; whoever knows the close has seen a
     -- closed order
-    pub record News (view : View M W) (seen : Seen M) : Type 0 where
+    pub record News (view : SeatView M W) (seen : Seen M) : Type 0 where
       pub begins : StartsWith seen.order view.seen.order
       pub aborted : (a : Abort) → view.seen.aborted ≡ Some a → seen.aborted ≡ Some a
       pub knows : view.seen.knows ≡ true → seen.knows ≡ true
@@ -135,19 +136,19 @@ module _ {M W : Type 0} where
       pub close : seen.knows ≡ true → IsClosed seen.order
 
     -- each pass of the seat has exactly its own events in the order
-    abbrev pub HasOwn : View M W → List (Entry M) → Type 0
+    abbrev pub HasOwn : SeatView M W → List (Entry M) → Type 0
     HasOwn view order = (k : ℕ) (o : Own M) → get_elem? view.lanes k ≡ some o → own o.number order ≡ o.events
 
     -- what is asked of an event that a pass is to record, after the history found: a Post is the pass's own, under a
     -- job that it has, fits and is counted up; a Take or a Done is one of the pass's own mailbox, and may follow
-    abbrev pub MayRecord : ℕ → ℕ → Event M → List (Event M) → View M W → Type 0
+    abbrev pub MayRecord : ℕ → ℕ → Event M → List (Event M) → SeatView M W → Type 0
     MayRecord mailbox number (Post sender message) history view = (sender ≡ number) × HasJob number view.under view.seen.order
         × ((g : Ground M W) × (get_elem? view.boards 0 ≡ some g) × fits g.world.value mailbox message) × (0 < view.owes)
     MayRecord mailbox number (Take sender message) history view = (number ≡ mailbox) × MayFollow history (Take sender message)
     MayRecord mailbox number (Done job) history view = (number ≡ mailbox) × MayFollow history (Done job)
 
     -- the history is left as it was found, or with one event that the pass may record
-    abbrev pub LeavesOneEvent : ℕ → Kind (List (Event M)) → View M W → Type 0
+    abbrev pub LeavesOneEvent : ℕ → StepKind (List (Event M)) → SeatView M W → Type 0
     LeavesOneEvent mailbox draws view = Unit {0}
     LeavesOneEvent mailbox waits view = Unit {0}
     LeavesOneEvent mailbox (enters x) view = Unit {0}
@@ -157,7 +158,8 @@ module _ {M W : Type 0} where
 
     -- the event is the last of the order that the pass has seen then, and of its own; the history found was the part of
     -- the order before it
-    pub record Recorded (mailbox : ℕ) (lane : Own M) (event : Event M) (history : List (Event M)) (earlier later : View M W) : Type 0 where
+    pub record Recorded (mailbox : ℕ) (lane : Own M) (event : Event M) (history : List (Event M))
+        (earlier later : SeatView M W) : Type 0 where
       pub front : List (Entry M)
       pub after : later ≡ record earlier {
         hands = slice_set earlier.hands mailbox (hand_at mailbox later);
@@ -172,7 +174,7 @@ module _ {M W : Type 0} where
 
     -- a look in turn tells the order, whose projection to the mailbox is the history found; a pass on records the
     -- event, if there is one
-    abbrev pub TellsOrder : ℕ → Kind (List (Event M)) → View M W → View M W → Type 0
+    abbrev pub TellsOrder : ℕ → StepKind (List (Event M)) → SeatView M W → SeatView M W → Type 0
     TellsOrder mailbox draws before after = after ≡ with_hand mailbox (hand_at mailbox after) before
     TellsOrder mailbox waits before after = after ≡ before
     TellsOrder mailbox (enters x) before after = (after ≡ with_seen after.seen (with_hand mailbox (hand_at mailbox after) before))

@@ -58,10 +58,10 @@ module _ {T Part : Type 0} (before : T → T → Type 0) (part : ℕ → T → P
   abbrev Rule : State (Option T) (View T) → Type 0
   Rule = Lone before part opening lanes
 
-  abbrev Known : List T → List (View T) → Type 0
-  Known log views = (j : ℕ) × (v : View T) × (get_elem? views j ≡ some v) × (0 < length v.own) × ((v.hand.seen ≡ log) ⊎ (v.told ≡ log))
+  abbrev IsKnown : List T → List (View T) → Type 0
+  IsKnown log views = (j : ℕ) × (v : View T) × (get_elem? views j ≡ some v) × (0 < length v.own) × ((v.hand.seen ≡ log) ⊎ (v.told ≡ log))
 
-  known_more : (log : List T) (views : List (View T)) (w : View T) → Known log views → Known log (views ++ w ∷ [])
+  known_more : (log : List T) (views : List (View T)) (w : View T) → IsKnown log views → IsKnown log (views ++ w ∷ [])
   known_more log views w k = (k.0, k.1, at_longer views (w ∷ []) k.0 k.1 k.2, k.3, k.4)
 
   log_some : (s : State (Option T) (View T)) (r : Rule s) → 0 < length r.log
@@ -81,7 +81,7 @@ module _ {T Part : Type 0} (before : T → T → Type 0) (part : ℕ → T → P
       → ((serving : ℕ) → Fits serving r.log v.hand → Fits serving r.log a.hand × Fits serving r.log b.hand)
       → ((l : ℕ) → times l (numbers a) + times l (numbers b) ≡ times l (numbers v)) → length a.own + length b.own ≡ length v.own
       → Knows before part r.log a → Knows before part r.log b
-      → Known r.log (set s.views id a ++ b ∷ []) → Rule record { words = s.words; homes = s.homes; views = set s.views id a ++ b ∷ [] }
+      → IsKnown r.log (set s.views id a ++ b ∷ []) → Rule record { words = s.words; homes = s.homes; views = set s.views id a ++ b ∷ [] }
   split_keeps s r id v a b is_at hands drawn count parts inside fits nums lens knows_a knows_b known =
       let vs : List (View T) = set s.views id a in
       let hs : List (Hand T) = map (hand_of 0) s.views in
@@ -136,7 +136,7 @@ module _ {T Part : Type 0} (before : T → T → Type 0) (part : ℕ → T → P
       split_keeps s r id v v (just_seen v) is_at (λ n. omega arith) (λ n. omega arith) (omega arith) (omega arith) (omega arith)
       (λ serving f. (f, record { begins = f.begins; inside = inl refl; few = omega arith; idle = λ _. (refl, refl) }))
       (λ l. omega arith) (omega arith) (r.each_view id v is_at) (knows_nothing r.log v.hand.seen)
-      (subst (λ l. Known r.log (l ++ just_seen v ∷ [])) (sym none) (known_more r.log s.views (just_seen v) r.known))
+      (subst (λ l. IsKnown r.log (l ++ just_seen v ∷ [])) (sym none) (known_more r.log s.views (just_seen v) r.known))
 
   -- the first view gives its first lane to a new seat
   pub deals_allowed : (id : ℕ) (seen : List T) (p : ℕ × T) (ps : List (ℕ × T))
@@ -208,7 +208,7 @@ module _ {T Part : Type 0} (before : T → T → Type 0) (part : ℕ → T → P
         }
         | inr t ↦ core.each j x t.1
       ]) in
-      let known : Known r.log (set s.views id w) = dite (ℕ_discrete r.known.0 id)
+      let known : IsKnown r.log (set s.views id w) = dite (ℕ_discrete r.known.0 id)
       (λ (e : r.known.0 ≡ id).
       let is : r.known.1 ≡ v = some-injective r.known.1 v (sym r.known.2 ∙ (ap (get_elem? s.views) e ∙ is_at)) in
       let K : View T → Type 0 = λ u. (0 < length u.own) × ((u.hand.seen ≡ r.log) ⊎ (u.told ≡ r.log)) in
@@ -339,7 +339,7 @@ module _ {T Part : Type 0} (before : T → T → Type 0) (part : ℕ → T → P
       -- the view that knew the log is in the one that took both
       let taken : (u : View T) → r.known.1 ≡ u → length u.own ≤ length b.own
       → ((u.hand.seen ≡ r.log) ⊎ (u.told ≡ r.log) → (b.hand.seen ≡ r.log) ⊎ (b.told ≡ r.log))
-      → Known r.log (set vs other z) =
+      → IsKnown r.log (set vs other z) =
       λ u is more saw.
       let at =
       subst (λ (u : View T). (0 < length u.own) × ((u.hand.seen ≡ r.log) ⊎ (u.told ≡ r.log))) is (r.known.3, r.known.4) in (
@@ -349,7 +349,7 @@ module _ {T Part : Type 0} (before : T → T → Type 0) (part : ℕ → T → P
         omega (arith, at.0, more),
         saw at.1,
       ) in
-      let known : Known r.log (set vs other z) = dite (ℕ_discrete r.known.0 id)
+      let known : IsKnown r.log (set vs other z) = dite (ℕ_discrete r.known.0 id)
       (λ (e : r.known.0 ≡ id).
       taken v (some-injective r.known.1 v (sym r.known.2 ∙ (ap (get_elem? s.views) e ∙ is_at))) (omega (arith, len))
       (λ q. elim q [ inl q ↦ inl q | inr q ↦ absurd (not_told s r v.told none_v q) ]))

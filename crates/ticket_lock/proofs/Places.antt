@@ -11,7 +11,7 @@ use Rattle.ticket_lock.specs.declared.hand.Hand.{Hand}
 use Rattle.ticket_lock.specs.Count.{times}
 use Rattle.ticket_lock.specs.History.{StartsWith, EndsIn}
 use Rattle.ticket_lock.specs.Core.{in_hand, Core}
-use Rattle.ticket_lock.specs.Turns.{Kind, draws, waits, enters, passes, with_ticket, with_entry, with_leave, Kept, Opens}
+use Rattle.ticket_lock.specs.Turns.{StepKind, draws, waits, enters, passes, with_ticket, with_entry, with_leave, Kept, Opens}
 use Rattle.ticket_lock.specs.Calls.{Drew, Loaded, Passed}
 use Rattle.ticket_lock.specs.Proved.Facts.{total_at, set_again, set_here, set_else, at-map, StartsWith-length, EndsIn-some}
 use Rattle.ticket_lock.proofs.CoreSteps.{in_range, few_drawn, core_draws, outside, core_enters, core_passes, nobody_inside}
@@ -29,8 +29,8 @@ module _ {T : Type 0} where
         (subst (λ x. Core a x log (get_elem? homes slot) hands) (sym is_b) c);
   }
 
-module _ {T V : Type 0} (holds : State (Option T) V → Type 0) (see : V → Hand T) (asks : Kind T → V → Type 0)
-    (tells : Kind T → V → V → Type 0) (word slot : ℕ) (opening : Opens holds see asks tells word slot) where
+module _ {T V : Type 0} (holds : State (Option T) V → Type 0) (see : V → Hand T) (asks : StepKind T → V → Type 0)
+    (tells : StepKind T → V → V → Type 0) (word slot : ℕ) (opening : Opens holds see asks tells word slot) where
   pub draws_allowed : (slots id : ℕ) (m : Me (Option T) V) → length (see m.0).drawn < (see m.0).parts * 2 ^ 56 → asks draws m.0
       → Allows holds slots id m (word + 1) (λ n. (n + 1) % 2 ^ 64) (Drew see tells m)
   draws_allowed slots id m room asked s ok len is_at small =

@@ -7,7 +7,7 @@ use Rattle.ticket_lock.specs.declared.hand.Hand.{Hand}
 use Rattle.ticket_lock.specs.Count.{times}
 use Rattle.ticket_lock.specs.History.{StartsWith, EndsIn}
 use Rattle.ticket_lock.specs.Core.{in_hand}
-use Rattle.ticket_lock.specs.Turns.{Kind, draws, waits, enters, passes, with_ticket, with_entry, with_leave}
+use Rattle.ticket_lock.specs.Turns.{StepKind, draws, waits, enters, passes, with_ticket, with_entry, with_leave}
 
 -- it is the same seat at the same table
 abbrev pub IsSameSeat : {S V : Type 0} → Seat S V → Seat S V → Type 0
@@ -35,7 +35,7 @@ module _ {T : Type 0} where
       × (length after.seen ≡ ticket + 1) × StartsWith after.seen before.seen
       × EndsIn after.seen value
 
-module _ {T V : Type 0} (see : V → Hand T) (tells : Kind T → V → V → Type 0) where
+module _ {T V : Type 0} (see : V → Hand T) (tells : StepKind T → V → V → Type 0) where
   -- a draw: the slots that the seat holds stay
   abbrev pub Drew : Me (Option T) V → ℕ → Me (Option T) V → Type 0
   Drew before ticket after = (after.1 ≡ before.1) × DrawsTicket ticket (see before.0) (see after.0) × tells draws before.0 after.0
@@ -76,5 +76,5 @@ module _ {T V : Type 0} (see : V → Hand T) (tells : Kind T → V → V → Typ
       × ((x : T) × EndsIn (see before.0).seen x × tells (passes x added) before.0 after.0)
 
 -- the lock asks nothing of a seat that draws, looks or enters, and a look too early changes no view
-abbrev pub IsFree : {T V : Type 0} → (Kind T → V → Type 0) → (Kind T → V → V → Type 0) → Type 0
+abbrev pub IsFree : {T V : Type 0} → (StepKind T → V → Type 0) → (StepKind T → V → V → Type 0) → Type 0
 IsFree {T} {V} asks tells = ((v : V) → asks draws v × asks waits v × ((x : T) → asks (enters x) v)) × ((v w : V) → tells waits v w → w ≡ v)

@@ -9,7 +9,7 @@ use Rattle.ticket_lock.specs.declared.view.View.{View}
 use Rattle.ticket_lock.specs.declared.view.Opening.{Opening}
 use Rattle.ticket_lock.specs.Count.{times, total}
 use Rattle.ticket_lock.specs.History.{StartsWith, EndsIn, longer, IsRising}
-use Rattle.ticket_lock.specs.Turns.{Kind, draws, waits, enters, passes, Kept}
+use Rattle.ticket_lock.specs.Turns.{StepKind, draws, waits, enters, passes, Kept}
 
 module _ {T : Type 0} where
   -- the lock has its two words at the start of the table, and its slot there
@@ -113,7 +113,7 @@ module _ {T Part : Type 0} (before : T → T → Type 0) (part : ℕ → T → P
 
   -- of a value left it is asked that the value found comes before it, and that it has the parts of all lanes but the
   -- one that leaves as they were found
-  abbrev pub MayBeLeft : ℕ → Kind T → View T → Type 0
+  abbrev pub MayBeLeft : ℕ → StepKind T → View T → Type 0
   MayBeLeft slot draws view = Unit {0}
   MayBeLeft slot waits view = Unit {0}
   MayBeLeft slot (enters value) view = Unit {0}
@@ -122,7 +122,7 @@ module _ {T Part : Type 0} (before : T → T → Type 0) (part : ℕ → T → P
 
   -- a look in turn tells that the history rises, and that the value found has the lanes' parts as they left them; and a
   -- pass on that the value left is the one that its lane left last
-  abbrev pub TellsHistory : ℕ → Kind T → View T → View T → Type 0
+  abbrev pub TellsHistory : ℕ → StepKind T → View T → View T → Type 0
   TellsHistory slot draws earlier later = (later.told ≡ earlier.told) × (later.own ≡ earlier.own)
   TellsHistory slot waits earlier later = later ≡ earlier
   TellsHistory slot (enters value) earlier later = (later.told ≡ earlier.told) × (later.own ≡ earlier.own) × IsRising before later.hand.seen

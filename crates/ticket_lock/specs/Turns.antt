@@ -11,11 +11,11 @@ use Rattle.ticket_lock.specs.Core.{Core}
 
 -- the kinds of step that change a hand or look at the count: a draw, a look too early, a look in turn that finds a
 -- value, and a pass on of the value left after the value found
-pub data Kind (T : Type 0) : Type 0 where
-  draws : Kind T
-  waits : Kind T
-  enters : T → Kind T
-  passes : T → T → Kind T
+pub data StepKind (T : Type 0) : Type 0 where
+  draws : StepKind T
+  waits : StepKind T
+  enters : T → StepKind T
+  passes : T → T → StepKind T
 
 module _ {T : Type 0} where
   -- the hand with one more ticket
@@ -31,7 +31,7 @@ module _ {T : Type 0} where
   with_leave added hand = record hand { inside = []; seen = hand.seen ++ added ∷ [] }
 
   -- what a step of this kind does to the history and to the hand that takes it
-  abbrev pub Turns : Kind T → List T → List T → Hand T → Hand T → Type 0
+  abbrev pub Turns : StepKind T → List T → List T → Hand T → Hand T → Type 0
   Turns draws log log' before after = (log' ≡ log) × ((n : ℕ) × (after ≡ with_ticket n before))
   Turns waits log log' before after = (log' ≡ log) × (after ≡ before)
   Turns (enters value) log log' before after = (log' ≡ log) × EndsIn log value × ((n : ℕ) × (after ≡ with_entry n log before))
@@ -44,12 +44,12 @@ module _ {T : Type 0} where
     pub room : word + 1 < length words
     pub core : Core (slice_index words word) (slice_index words (word + 1)) log (get_elem? homes slot) hands
 
-module _ {T V : Type 0} (holds : State (Option T) V → Type 0) (see : V → Hand T) (asks : Kind T → V → Type 0)
-    (tells : Kind T → V → V → Type 0) (word slot : ℕ) where
+module _ {T V : Type 0} (holds : State (Option T) V → Type 0) (see : V → Hand T) (asks : StepKind T → V → Type 0)
+    (tells : StepKind T → V → V → Type 0) (word slot : ℕ) where
   -- if a seat takes a step of the lock that keeps the lock's rule, and meets what the step asks, it has a new view
   -- with that hand which keeps the table's rule, and of which the step tells
   abbrev pub Follows : State (Option T) V → List T → ℕ → V → Type 0
-  Follows state log id view = (kind : Kind T) (i n : ℕ) (homes : List (maybe.Option (Option T))) (log' : List T) (h : Hand T)
+  Follows state log id view = (kind : StepKind T) (i n : ℕ) (homes : List (maybe.Option (Option T))) (log' : List T) (h : Hand T)
       → (i ≡ word) ⊎ (i ≡ word + 1) → length homes ≡ length state.homes → ((k : ℕ) → k ≢ slot → get_elem? homes k ≡ get_elem? state.homes k)
       → Turns kind log log' (see view) h → Kept word slot log' (slice_set state.words i n) homes (slice_set (map see state.views) id h)
       → asks kind view

@@ -32,7 +32,7 @@ impl<T: LaneLaw> LockRule<T, View<T>, Opening<T>> for Alone {
         lone_opens T.before T.part T.reflexive T.transitive key.value.value key.lanes key word slot is_start };
 }
 
-pub(crate) type Board<T, A> = Table<Option<T>, View<T>, Opening<T>, Alone, A>;
+pub(crate) type LoneTable<T, A> = Table<Option<T>, View<T>, Opening<T>, Alone, A>;
 
 pub(crate) type LoneSeat<T> = Seat<Option<T>, View<T>>;
 

@@ -7,14 +7,14 @@ ghost use Rattle.ticket_lock.specs.History.{IsRising};
 ghost use Rattle.ticket_lock.specs.Lanes.{IsLockTable};
 ghost use Rattle.ticket_lock.specs.Promises.{IsIdle, Closes, KeepsOwn, ComesLast};
 
-use crate::alone::{Arrives, Board, LoneSeat, Merges, TakesIn};
+use crate::alone::{Arrives, LoneSeat, LoneTable, Merges, TakesIn};
 use crate::lane::Lane;
 use crate::law::LaneLaw;
 use crate::lock::TicketLock;
 use std::alloc::Allocator;
 
 // Takes the value out of a table whose lanes the seat has all.
-fn finish<T: LaneLaw, A: Allocator>(board: Board<T, A>, seat: LoneSeat<T>) -> T
+fn finish<T: LaneLaw, A: Allocator>(board: LoneTable<T, A>, seat: LoneSeat<T>) -> T
     requires table { (seat.table_id ≡ board.shared.table_id) × IsLockTable board.shared.table_id }
     requires whole { IsWhole board.shared.key.lanes seat.me.0 }
     ensures rests { Rests board.shared.key.value.value seat.me.0 result }

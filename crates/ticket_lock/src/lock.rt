@@ -5,7 +5,7 @@ ghost use Rattle.ticket_lock.specs.Lanes.{IsLockTable};
 ghost use Rattle.ticket_lock.specs.Promises.{Drew, LaneWasSpent, CameBack, Served, EnteredLock};
 ghost use Rattle.ticket_lock.specs.Promises.{MayLeave, Left, LearnedNote};
 
-use crate::alone::{Board, Merges, TakesIn, Tells};
+use crate::alone::{LoneTable, Merges, TakesIn, Tells};
 use crate::lane::{Guard, Lane, Note, Spent, Ticket};
 use crate::law::LaneLaw;
 use crate::place::{draw_at, enter_at, leave_at, look_at};
@@ -16,7 +16,7 @@ use std::sync::Wait;
 /// A value that one lane at a time may change, in the order of the tickets drawn. Contracts see it as a `Lock`.
 #[derive(Drop)]
 pub struct TicketLock<T: LaneLaw, A: Allocator> {
-    pub(crate) board: Board<T, A>,
+    pub(crate) board: LoneTable<T, A>,
 }
 
 impl<T: LaneLaw, A: Allocator> Model for TicketLock<T, A> {
@@ -34,7 +34,7 @@ impl<T: LaneLaw, A: Allocator> Model for TicketLock<T, A> {
 }
 
 impl<T: LaneLaw, A: Allocator> TicketLock<T, A> {
-    pub(crate) fn into_board(self) -> Board<T, A>
+    pub(crate) fn into_board(self) -> LoneTable<T, A>
         ensures { IsLockTable result.shared.table_id × (result.shared.table_id ≡ self.id)
             × (result.shared.key.value.value ≡ self.opening)
             × (result.shared.key.lanes ≡ self.lanes) }

@@ -4,7 +4,7 @@ ghost use Rattle.std.specs.Prelude.{vec_capacity};
 ghost use Rattle.ticket_lock.specs.Lone.{new_view, lanes_from};
 ghost use Rattle.ticket_lock.specs.Lanes.{IsLockTable, fresh_lanes};
 
-use crate::alone::{Alone, Board, Deals, LoneSeat};
+use crate::alone::{Alone, Deals, LoneSeat, LoneTable};
 use crate::lane::Lane;
 use crate::law::LaneLaw;
 use crate::lock::TicketLock;
@@ -47,7 +47,7 @@ fn lay<T: LaneLaw, A: Allocator + Clone>(
     alloc: A,
     value: T,
     lanes: u8,
-) -> Result<(Board<T, A>, LoneSeat<T>), T>
+) -> Result<(LoneTable<T, A>, LoneSeat<T>), T>
     requires { (0 < lanes) × (lanes ≤ 64) }
     ensures ok { IfOk result
         (λ r. (r.0.shared.key.value.value ≡ value) × (r.0.shared.key.lanes ≡ lanes)

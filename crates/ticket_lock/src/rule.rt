@@ -1,7 +1,7 @@
 //! What a table's rule must say so that a lock may be at a place of the table.
 ghost use Rattle.std.specs.Prelude.{ℕ};
 ghost use Rattle.ticket_lock.specs.declared.hand.Hand.{Hand};
-ghost use Rattle.ticket_lock.specs.Turns.{Kind, Opens};
+ghost use Rattle.ticket_lock.specs.Turns.{StepKind, Opens};
 
 use atomic_table::TableRule;
 use std::marker::Brand;
@@ -28,10 +28,10 @@ pub trait LockRule<T, V, K>: TableRule<Option<T>, V, K> {
     ghost see: { ℕ → V → Hand T };
 
     // What a step asks of its caller, beside what the lock asks.
-    ghost asks: { ℕ → Kind T → V → Type 0 };
+    ghost asks: { ℕ → StepKind T → V → Type 0 };
 
     // What a step tells its caller, beside what the lock tells.
-    ghost tells: { ℕ → Kind T → V → V → Type 0 };
+    ghost tells: { ℕ → StepKind T → V → V → Type 0 };
 
     ghost opens: { (key : K) (word slot : ℕ) → is_place key word slot
         → Opens (Self.holds key) (see slot) (asks slot) (tells slot) word slot };

@@ -25,17 +25,17 @@ use Rattle.switchboard.specs.declared.lock_per_box.knowing.Seen.{Seen}
 use Rattle.switchboard.specs.declared.lock_per_box.knowing.Own.{Own}
 use Rattle.switchboard.specs.Sights.{IsSound}
 use Rattle.switchboard.specs.Knowing.{bare, state_of, hand_at, with_hand, numbers, makes}
-use Rattle.switchboard.specs.PerBox.{View, word_of, flag, Saw, KnowsBoard, LockStands, Rule, News, Boxes, Homes, owed}
+use Rattle.switchboard.specs.PerBox.{SeatView, word_of, flag, Saw, KnowsBoard, LockStands, Rule, News, Boxes, Slots, owed}
 
 module _ {M W : Type 0} where
-  pub hand_here : (q : ℕ) (h : Hand (List (Event M))) (v : View M W) → q < length v.hands → hand_at q (with_hand q h v) ≡ h
+  pub hand_here : (q : ℕ) (h : Hand (List (Event M))) (v : SeatView M W) → q < length v.hands → hand_at q (with_hand q h v) ≡ h
   hand_here q h v short = get_or-set_same v.hands q h (bare 0) short
 
-  pub hand_else : (q k : ℕ) (h : Hand (List (Event M))) (v : View M W) → k ≢ q → hand_at k (with_hand q h v) ≡ hand_at k v
+  pub hand_else : (q k : ℕ) (h : Hand (List (Event M))) (v : SeatView M W) → k ≢ q → hand_at k (with_hand q h v) ≡ hand_at k v
   hand_else q k h v ne = get_or-set_other v.hands q k h (bare 0) ne
 
   -- a hand that has something is one of the list
-  pub has_hand : (f : Hand (List (Event M)) → ℕ) (q : ℕ) (v : View M W) → f (bare 0) ≡ 0 → 0 < f (hand_at q v) → q < length v.hands
+  pub has_hand : (f : Hand (List (Event M)) → ℕ) (q : ℕ) (v : SeatView M W) → f (bare 0) ≡ 0 → 0 < f (hand_at q v) → q < length v.hands
   has_hand f q v none some_of = elim (dec_le (length v.hands) q) [
     | no d ↦ omega arith
     | yes d ↦ (let is : f (hand_at q v) ≡ 0 = ap f (get_or_past v.hands q (bare 0) d) ∙ none in absurd (omega arith))
@@ -56,7 +56,7 @@ module _ {M : Type 0} where
   length-numbers (x ∷ xs) = ap suc (length-numbers xs)
 
   -- a lock whose words, slot and hands stay, and whose mailbox gets no event, stands
-  pub stays_there : (q : ℕ) (order order' : List (Entry M)) (words words' : List ℕ) (homes homes' : Homes M)
+  pub stays_there : (q : ℕ) (order order' : List (Entry M)) (words words' : List ℕ) (homes homes' : Slots M)
       (hands hands' : List (Hand (List (Event M)))) → LockStands q order words homes hands
       → part q order' ≡ part q order → length words' ≡ length words → get_or words' (word_of q) 0 ≡ get_or words (word_of q) 0
       → get_or words' (word_of q + 1) 0 ≡ get_or words (word_of q + 1) 0
@@ -137,12 +137,12 @@ module _ {M W : Type 0} where
       close = λ k. (knows k, same);
     }
 
-    module _ (s : Boxes M W) (r : Rule fits g s) (id : ℕ) (v : View M W) (is_at : get_elem? s.views id ≡ some v) where
+    module _ (s : Boxes M W) (r : Rule fits g s) (id : ℕ) (v : SeatView M W) (is_at : get_elem? s.views id ≡ some v) where
       -- a pass of another seat is not one of this one's
-      pub not_mine : (j k : ℕ) (u : View M W) (o : Own M) → j ≢ id → get_elem? s.views j ≡ some u → get_elem? u.lanes k ≡ some o
+      pub not_mine : (j k : ℕ) (u : SeatView M W) (o : Own M) → j ≢ id → get_elem? s.views j ≡ some u → get_elem? u.lanes k ≡ some o
           → times o.number (numbers v) ≡ 0
       not_mine j k u o ne at_u at_o =
-          let two = total_two (λ (w : View M W). times o.number (numbers w)) s.views id j v u (λ e. ne (sym e)) is_at at_u in
+          let two = total_two (λ (w : SeatView M W). times o.number (numbers w)) s.views id j v u (λ e. ne (sym e)) is_at at_u in
           omega (arith, r.once o.number, number_in u.lanes k o at_o)
 
       -- what the seat sees is news, if this holds for the state after the step
@@ -159,18 +159,18 @@ module _ {M W : Type 0} where
       }
 
       -- whoever has made an abort has made it
-      pub made_still : (w : View M W) → ((n : ℕ) → makes n w ≡ makes n v) → (a : Abort) → r.first ≡ Some a
+      pub made_still : (w : SeatView M W) → ((n : ℕ) → makes n w ≡ makes n v) → (a : Abort) → r.first ≡ Some a
           → 0 < total (makes a.by) (set s.views id w)
       made_still w same a is = omega (arith, total_set (makes a.by) s.views id v w is_at, same a.by, r.maker a is)
 
       -- the count after one seat has another view
-      pub count_after : (order' : List (Entry M)) (low' : ℕ) (w : View M W)
+      pub count_after : (order' : List (Entry M)) (low' : ℕ) (w : SeatView M W)
           → low' + completed order' + v.owes ≡ posted order' + owed s.views + w.owes
           → low' + completed order' ≡ posted order' + owed (set s.views id w)
-      count_after order' low' w count = omega (arith, total_set (λ (u : View M W). u.owes) s.views id v w is_at)
+      count_after order' low' w count = omega (arith, total_set (λ (u : SeatView M W). u.owes) s.views id v w is_at)
 
       -- the rule after one seat has another view
-      pub rebuilt : (order' : List (Entry M)) (first' : Option Abort) (low' : ℕ) (words : List ℕ) (homes : Homes M) (w : View M W)
+      pub rebuilt : (order' : List (Entry M)) (first' : Option Abort) (low' : ℕ) (words : List ℕ) (homes : Slots M) (w : SeatView M W)
           → BoardGrows r.order order' r.first first' r.low low'
           → ((n : ℕ) → times n (numbers v) ≡ 0 → own n order' ≡ own n r.order)
           → IsSound fits (state_of g record { order = order'; aborted = first'; knows = false })
@@ -189,7 +189,7 @@ module _ {M W : Type 0} where
         some_word = some_word;
         word = word;
         count = count_after order' low' w count;
-        few = omega (arith, total_set (λ (u : View M W). u.budget) s.views id v w is_at, r.few);
+        few = omega (arith, total_set (λ (u : SeatView M W). u.budget) s.views id v w is_at, r.few);
         each = λ j u at. elim (at_set s.views id j w u at) [
           | inl t ↦ subst (λ z. KnowsBoard fits g order' first' low' z) t.1 mine
           | inr t ↦ (let k = r.each j u t.1 in record {
@@ -202,11 +202,11 @@ module _ {M W : Type 0} where
           })
         ];
         once = λ n. let e : times n (numbers w) ≡ times n (numbers v) = ap (times n) same in
-            omega (arith, total_set (λ (u : View M W). times n (numbers u)) s.views id v w is_at, r.once n);
+            omega (arith, total_set (λ (u : SeatView M W). times n (numbers u)) s.views id v w is_at, r.once n);
         whole =
             omega (
               arith,
-              total_set (λ (u : View M W). length u.lanes) s.views id v w is_at,
+              total_set (λ (u : SeatView M W). length u.lanes) s.views id v w is_at,
               r.whole,
               ap length same,
               length-numbers w.lanes,
@@ -216,7 +216,7 @@ module _ {M W : Type 0} where
       }
 
       -- the other locks stand when one takes a step
-      pub locks_after : (order' : List (Entry M)) (slot i n : ℕ) (homes : Homes M) (log : List (List (Event M))) (w : View M W)
+      pub locks_after : (order' : List (Entry M)) (slot i n : ℕ) (homes : Slots M) (log : List (List (Event M))) (w : SeatView M W)
           (h : Hand (List (Event M))) → (i ≡ word_of slot) ⊎ (i ≡ word_of slot + 1)
           → ((k : ℕ) → k ≢ slot → get_elem? homes k ≡ get_elem? s.homes k) → hand_at slot w ≡ h
           → ((q : ℕ) → q ≢ slot → hand_at q w ≡ hand_at q v)
@@ -240,7 +240,7 @@ module _ {M W : Type 0} where
           ∙ set_again (map (hand_at q) s.views) id (hand_at q v) (at-map (hand_at q) s.views id v is_at)))
 
       -- all locks stand if no hand changes, and no word but word 0
-      pub locks_still : (n : ℕ) (w : View M W) → ((q : ℕ) → hand_at q w ≡ hand_at q v) → (q : ℕ) → q < g.boxes
+      pub locks_still : (n : ℕ) (w : SeatView M W) → ((q : ℕ) → hand_at q w ≡ hand_at q v) → (q : ℕ) → q < g.boxes
           → LockStands q r.order (set s.words 0 n) s.homes (set (map (hand_at q) s.views) id (hand_at q w))
       locks_still n w others q near =
           stays_there q r.order r.order s.words (set s.words 0 n) s.homes s.homes (map (hand_at q) s.views)

@@ -24,8 +24,9 @@ use Rattle.switchboard.specs.declared.lock_per_box.knowing.Own.{Own}
 use Rattle.switchboard.specs.Sights.{IsSound}
 use Rattle.switchboard.specs.Proved.Entries.{Allowed, sound_push, job_stays}
 use Rattle.switchboard.specs.Knowing.{entry_of, owes_after, with_event, made_by, state_of, hand_at, with_hand, with_seen, numbers, makes}
-use Rattle.switchboard.specs.PerBox.{View, word_of, IsBox, Saw, KnowsBoard, Rule, MayRecord, LeavesOneEvent, Recorded, TellsOrder, Boxes}
-use Rattle.switchboard.specs.PerBox.{Homes, owed}
+use Rattle.switchboard.specs.PerBox.{SeatView, word_of, IsBox, Saw, KnowsBoard, Rule, MayRecord, LeavesOneEvent, Recorded, TellsOrder}
+use Rattle.switchboard.specs.PerBox.{Boxes}
+use Rattle.switchboard.specs.PerBox.{Slots, owed}
 use Rattle.switchboard.specs.Proved.PerBoxFacts.{hand_here, hand_else, has_hand, closed_at_zero, BoardGrows, grows_same, saw_grows, saw_all}
 use Rattle.switchboard.specs.Proved.PerBoxFacts.{news_is, made_still, rebuilt, locks_after}
 
@@ -66,12 +67,13 @@ module _ {M : Type 0} where
       ∙ (ap (λ l. part k order ++ l) (part_else k x [] (λ z. ne (sym z ∙ entry_box q under e))) ∙ append-nil (part k order))
 
 module _ {M W : Type 0} (fits : W → ℕ → M → Type 0) (g : Ground M W) where
-  maker_is : (q n : ℕ) (e : Event M) (x : List (Event M)) (v : View M W) → MayRecord fits q n e x v → maker_of (entry_of q v.under e) ≡ n
+  maker_is : (q n : ℕ) (e : Event M) (x : List (Event M)) (v : SeatView M W) → MayRecord fits q n e x v
+      → maker_of (entry_of q v.under e) ≡ n
   maker_is q n (Post s m) x v may = may.0
   maker_is q n (Take s m) x v may = sym may.0
   maker_is q n (Done t) x v may = sym may.0
 
-  counted : (q n low more : ℕ) (e : Event M) (x : List (Event M)) (v : View M W) (order : List (Entry M)) → MayRecord fits q n e x v
+  counted : (q n low more : ℕ) (e : Event M) (x : List (Event M)) (v : SeatView M W) (order : List (Entry M)) → MayRecord fits q n e x v
       → low + completed order ≡ posted order + more
       → (let longer : List (Entry M) = order ++ entry_of q v.under e ∷ [] in
       low + completed longer + v.owes ≡ posted longer + more + owes_after e v.owes)
@@ -83,7 +85,7 @@ module _ {M W : Type 0} (fits : W → ℕ → M → Type 0) (g : Ground M W) whe
   counted q n low more (Done t) x v order may count =
       omega (arith, posted-append order (entry_of q v.under (Done t) ∷ []), completed-append order (entry_of q v.under (Done t) ∷ []))
 
-  module _ (s : Boxes M W) (r : Rule fits g s) (id : ℕ) (v : View M W) (is_at : get_elem? s.views id ≡ some v) where
+  module _ (s : Boxes M W) (r : Rule fits g s) (id : ℕ) (v : SeatView M W) (is_at : get_elem? s.views id ≡ some v) where
     -- what the seat is to record may come after the order
     may_come : (q : ℕ) (o : Own M) (e : Event M) (x : List (Event M)) → q < g.boxes → part q r.order ≡ x
         → own o.number v.seen.order ≡ own o.number r.order → MayRecord fits q o.number e x v
@@ -129,8 +131,8 @@ module _ {M W : Type 0} (fits : W → ℕ → M → Type 0) (g : Ground M W) whe
         }
 
     -- the rule after a step of a lock
-    turned : (order : List (Entry M)) (q i n : ℕ) (homes : Homes M) (log : List (List (Event M))) (h : Hand (List (Event M)))
-        (w : View M W) → (i ≡ word_of q) ⊎ (i ≡ word_of q + 1)
+    turned : (order : List (Entry M)) (q i n : ℕ) (homes : Slots M) (log : List (List (Event M))) (h : Hand (List (Event M)))
+        (w : SeatView M W) → (i ≡ word_of q) ⊎ (i ≡ word_of q + 1)
         → ((k : ℕ) → k ≢ q → get_elem? homes k ≡ get_elem? s.homes k) → hand_at q w ≡ h → ((k : ℕ) → k ≢ q → hand_at k w ≡ hand_at k v)
         → Kept (word_of q) q log (set s.words i n) homes (set (map (hand_at q) s.views) id h) → EndsIn log (part q order)
         → ((k : ℕ) → k ≢ q → part k order ≡ part k r.order) → BoardGrows r.order order r.first r.first r.low r.low
@@ -148,7 +150,7 @@ module _ {M W : Type 0} (fits : W → ℕ → M → Type 0) (g : Ground M W) whe
         (made_still fits g s r id v is_at w made)
 
     -- a hand that has a ticket or is inside has a share
-    has_share : (q i n : ℕ) (homes : Homes M) (log : List (List (Event M))) (h : Hand (List (Event M)))
+    has_share : (q i n : ℕ) (homes : Slots M) (log : List (List (Event M))) (h : Hand (List (Event M)))
         → Kept (word_of q) q log (set s.words i n) homes (set (map (hand_at q) s.views) id h)
         → h.parts ≡ (hand_at q v).parts → ((h.tickets ≡ []) × (h.inside ≡ []) → ⊥) → q < length v.hands
     has_share q i n homes log h kept same busy =
@@ -169,7 +171,7 @@ module _ {M W : Type 0} (fits : W → ℕ → M → Type 0) (g : Ground M W) whe
           let short =
           has_share q i n homes log' h kept parts (λ none. let e = ap (λ (z : Hand (List (Event M))). length z.tickets) turn.1.1 in
           let z = ap length none.0 in omega (arith, length-append (hand_at q v).tickets (turn.1.0 ∷ []))) in
-          let w : View M W = with_hand q h v in
+          let w : SeatView M W = with_hand q h v in
           let is_h = hand_here q h v short in (
             w,
             is_h,
@@ -196,7 +198,7 @@ module _ {M W : Type 0} (fits : W → ℕ → M → Type 0) (g : Ground M W) whe
           let y : Seen M = record v.seen { order = r.order } in
           let saw : Saw fits g r.order r.first r.low y =
           saw_all fits g r.order r.first r.low y r.sound refl mine.saw.aborted (λ e. (mine.saw.close e).0) in
-          let w : View M W = with_seen y (with_hand q h v) in
+          let w : SeatView M W = with_seen y (with_hand q h v) in
           let is_h = hand_here q h v short in (
             w,
             is_h,
@@ -222,7 +224,7 @@ module _ {M W : Type 0} (fits : W → ℕ → M → Type 0) (g : Ground M W) whe
           let part_is : part q r.order ≡ x = EndsIn-same log (part q r.order) x (r.locks q near).2 turn.1 in
           let last : EndsIn log' y = subst (λ l. EndsIn l y) (sym turn.0) (EndsIn-more log y) in
           elim asked [
-            | inl same ↦ (let w : View M W = with_hand q h v in (
+            | inl same ↦ (let w : SeatView M W = with_hand q h v in (
               w,
               is_h,
               turned r.order q i n homes log' h w where_i same_homes is_h (λ k ne. hand_else q k h v ne) kept
@@ -252,7 +254,7 @@ module _ {M W : Type 0} (fits : W → ℕ → M → Type 0) (g : Ground M W) whe
                 let z : Seen M = record v.seen { order = order } in
                 let saw : Saw fits g order r.first r.low z =
                 saw_all fits g order r.first r.low z sound refl mine.saw.aborted (λ k. (mine.saw.close k).0) in
-                let w : View M
+                let w : SeatView M
                 W = record v { hands = set v.hands q h; lanes = with_event more o ∷ []; seen = z; owes = owes_after e v.owes } in
                 let grown : own o.number order ≡ o.events ++ more ∷ [] = own-append o.number r.order (more ∷ [])
                 ∙ ((λ j. list j ++ own_here o.number more [] maker j)) in

@@ -41,12 +41,12 @@ module _ {T : Type 0} where
 
 module _ {T Part : Type 0} (before : T → T → Type 0) (part : ℕ → T → Part) where
   -- some view with a lane has seen the whole history or was told it
-  abbrev Known : List T → List (View T) → Type 0
-  Known log views = (j : ℕ) × (v : View T) × (get_elem? views j ≡ some v) × (0 < length v.own) × ((v.hand.seen ≡ log) ⊎ (v.told ≡ log))
+  abbrev IsKnown : List T → List (View T) → Type 0
+  IsKnown log views = (j : ℕ) × (v : View T) × (get_elem? views j ≡ some v) × (0 < length v.own) × ((v.hand.seen ≡ log) ⊎ (v.told ≡ log))
 
   pub known_set : (log : List T) (views : List (View T)) (id : ℕ) (v w : View T) → get_elem? views id ≡ some v
-      → length w.own ≡ length v.own → (v.hand.seen ≡ log → w.hand.seen ≡ log) → w.told ≡ v.told → Known log views
-      → Known log (set views id w)
+      → length w.own ≡ length v.own → (v.hand.seen ≡ log → w.hand.seen ≡ log) → w.told ≡ v.told → IsKnown log views
+      → IsKnown log (set views id w)
   known_set log views id v w is_at same seen told k = dite (ℕ_discrete k.0 id)
       (λ (e : k.0 ≡ id).
       let u_is : k.1 ≡ v = some-injective k.1 v (sym (k.2) ∙ (ap (get_elem? views) e ∙ is_at)) in
@@ -67,7 +67,7 @@ module _ {T Part : Type 0} (before : T → T → Type 0) (part : ℕ → T → P
         → Kept 0 0 log words homes (set (map (hand_of 0) s.views) id w.hand)
         → StartsWith log (opening ∷ []) → IsRising before log → numbers w ≡ numbers v → length w.own ≡ length v.own
         → Knows before part log w
-        → ((j : ℕ) (u : View T) → j ≢ id → get_elem? s.views j ≡ some u → Knows before part log u) → Known log (set s.views id w)
+        → ((j : ℕ) (u : View T) → j ≢ id → get_elem? s.views j ≡ some u → Knows before part log u) → IsKnown log (set s.views id w)
         → Lone before part opening lanes record { words = words; homes = homes; views = set s.views id w }
     rebuilt log words homes w kept begun rising same_numbers same_length mine others known = record {
       log = log;
