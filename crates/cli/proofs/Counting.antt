@@ -10,7 +10,7 @@ use Rattle.std.proofs.lemmas.Option.{same_Some, slice_get-map, slice_get_read}
 use Rattle.language.specs.Tree.{Procedure, Tree}
 use Rattle.language.specs.Resolve.{meaning_of, routine_of}
 use Rattle.language.specs.Sequential.{numbered_routine}
-use Rattle.round_rewrite.specs.Limits.{last_of}
+use Rattle.round_rewrite.specs.Limits.{last_round}
 use Rattle.round_rewrite.specs.Names.{rewritten_for, rewritten_procedure, sequential_for}
 use Rattle.language.specs.Step.{Program}
 use Rattle.language.specs.Lists.{Member, NoneTwice}
@@ -147,7 +147,7 @@ pub as_many_names : (rounds : ℕ) (t : Tree)
 as_many_names rounds t =
     let tree = rewritten_for rounds t in
     length-map (meaning_of tree).routines numbered_routine ∙ (length-map tree.procedures (routine_of tree)
-    ∙ ap suc (length-map t.procedures (rewritten_procedure (last_of rounds))
+    ∙ ap suc (length-map t.procedures (rewritten_procedure (last_round rounds))
     ∙ sym (length-map t.procedures (λ (p : Procedure). p.name.text))))
 
 -- by the summaries of the rewriting and the histories of its mailboxes, the lines give what is counted

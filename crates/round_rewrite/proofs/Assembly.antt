@@ -10,19 +10,19 @@ use Rattle.language.specs.Step.{Routine, Program, frame, State, state, zeros, bo
 use Rattle.language.specs.Rounds.{starting_stack, Unsafe}
 use Rattle.language.specs.Sequential.{numbered, numbered_routine, in_text_order}
 use Rattle.language.proofs.Lengths.{length_zeros}
-use Rattle.round_rewrite.specs.Table.{Naming, numbers, plain, guess, guesses, starts, check, checks, main, rewritten}
+use Rattle.round_rewrite.specs.Table.{Naming, numbers, no_mark, guess, guesses, starts, check, checks, main, rewritten}
 use Rattle.round_rewrite.specs.Places.{places, all_globals, rewritten_routine, main_routine, rewritten_program, global_count}
 use Rattle.resolved.specs.Scoped.{FitsScopes}
-use Rattle.round_rewrite.proofs.Counting.{zero_bits}
-use Rattle.round_rewrite.proofs.Laid.{Long, flat, row, bits_of, lay, Shape, bad_bit}
+use Rattle.round_rewrite.proofs.RoundBitLemmas.{zero_bits}
+use Rattle.round_rewrite.proofs.LayoutLemmas.{Long, flat, row, bits_of, lay, Shape, bad_bit}
 use Rattle.round_rewrite.proofs.Plain.{PlainAfter, bare, bare_state, bare_routine, world_of, bare-numbered, rest-numbered}
-use Rattle.round_rewrite.proofs.Leading.{Leads}
+use Rattle.round_rewrite.proofs.RunLemmas.{Leads}
 use Rattle.round_rewrite.proofs.Blocks.{bare-rewritten, rest-rewritten}
 use Rattle.round_rewrite.proofs.Frames.{put_routine, IsWorld, Setting, zeros-add}
 use Rattle.round_rewrite.proofs.Compose.{Linked, FailThreads, copies, copies_long, to_rounds, from_rounds}
-use Rattle.round_rewrite.proofs.Guessing.{Bad, main_at}
-use Rattle.round_rewrite.proofs.Checking.{Fill, guesses_lead, guesses_back, checks_lead, checks_back, linked_rows, rows_linked}
-use Rattle.round_rewrite.proofs.Starting.{Ran, fails_lead, starts_back, fails_keep}
+use Rattle.round_rewrite.proofs.GuessLemmas.{Bad, main_at}
+use Rattle.round_rewrite.proofs.CheckLemmas.{Fill, guesses_lead, guesses_back, checks_lead, checks_back, linked_rows, rows_linked}
+use Rattle.round_rewrite.proofs.StartLemmas.{Ran, fails_lead, starts_back, fails_keep}
 use Rattle.round_rewrite.specs.Limits.{most_rounds, round_bits}
 use Rattle.round_rewrite.proofs.InTurn.{passes}
 

@@ -9,15 +9,15 @@ use Rattle.language.specs.Step.{Routine, Frame, frame, State, state, fresh, fram
 use Rattle.language.specs.Step.{AtRoutine, AtRest, body_of, StepsTo, Fails}
 use Rattle.language.specs.Flow.{caller_frame}
 use Rattle.language.proofs.Lengths.{length_values, length_globals, length_locals}
-use Rattle.round_rewrite.specs.Table.{plain, takes, draws, temporaries, expression, side, prologue, stop_test}
+use Rattle.round_rewrite.specs.Table.{no_mark, receiver_draws, draws, temporaries, expression_form, side, prologue, stop_test}
 use Rattle.round_rewrite.specs.Places.{places, is_global, stop_at, bad_at}
 use Rattle.resolved.specs.Scoped.{AreInScope, SideInScope}
-use Rattle.round_rewrite.proofs.Laid.{row, bits_of, lay, Moment, globals_at, turned, unturned, row_long, both_with}
+use Rattle.round_rewrite.proofs.LayoutLemmas.{row, bits_of, lay, Moment, globals_at, turned, unturned, row_long, both_with}
 use Rattle.round_rewrite.proofs.Translate.{expression_is, expressions_are}
-use Rattle.round_rewrite.proofs.Assigned.{writes_more}
-use Rattle.round_rewrite.proofs.Drawing.{assign_back}
+use Rattle.round_rewrite.proofs.AssignmentLemmas.{writes_more}
+use Rattle.round_rewrite.proofs.DrawLemmas.{assign_back}
 use Rattle.round_rewrite.proofs.Plain.{PlainAfter}
-use Rattle.round_rewrite.proofs.Leading.{Never, unstep, Later, later, later_now}
+use Rattle.round_rewrite.proofs.RunLemmas.{Never, unstep, Later, later, later_now}
 use Rattle.round_rewrite.proofs.Prologue.{stop_back}
 use Rattle.round_rewrite.proofs.Frames.{Activation, both, awaiting, entered, given, source_values, put_values, Both, source, Good, AllGood}
 use Rattle.round_rewrite.proofs.Frames.{GoodStack, put_rest, inner, behind, put_target, callers, top, site, frame_site, stack, Setting}
@@ -131,9 +131,9 @@ module _ (setting : Setting) (now : Moment setting.p.globals setting.last) (m : 
   -- what an assert that does not hold is rewritten to
   fail_code : Code → Code
   fail_code t =
-      one plain (assign (global (bad_at p.globals last) ∷ global (stop_at p.globals last) ∷ [])
+      one no_mark (assign (global (bad_at p.globals last) ∷ global (stop_at p.globals last) ∷ [])
       (value (const true) ∷ value (const true) ∷ []))
-      (one plain leave t)
+      (one no_mark leave t)
 
   -- what holds after a jump holds a step later
   at_rest_later : (N k : ℕ) (o : Option Code) (F : Code → State) → N ≡ suc k → AtRest o (λ u. PlainAfter w k (F u) Q)
@@ -154,7 +154,7 @@ module _ (setting : Setting) (now : Moment setting.p.globals setting.last) (m : 
         → IsValue X (put_values a) (side (places p.globals last a.own) last r) v
         → PlainAfter w N
         (state X
-        (top p last a (cond v (one plain skip (put_rest p last a.own t)) (fail_code (put_rest p last a.own t))) bs m)) Q
+        (top p last a (cond v (one no_mark skip (put_rest p last a.own t)) (fail_code (put_rest p last a.own t))) bs m)) Q
         → Begins N a (one k (assert r) t) bs
     unfolding fail_code
     assert_back N a k r t true h is run =
@@ -166,7 +166,7 @@ module _ (setting : Setting) (now : Moment setting.p.globals setting.last) (m : 
     assert_back N a k r t false h is run =
         let fs : List Frame = callers p last bs m in
         let two : List Place = global (bad_at p.globals last) ∷ global (stop_at p.globals last) ∷ [] in
-        let rest : Code = one plain leave (put_rest p last a.own t) in
+        let rest : Code = one no_mark leave (put_rest p last a.own t) in
         let (n1, e1, r1) = unstep w Q N _ _ _ (never_below bs) run in
         let (x, y, ex, ix, iy) = two_back X (put_values a) (value (const true)) (value (const true)) r1.0 r1.1 in
         let r2 : PlainAfter w n1 (state (with_bit (with_bit X (bad_at p.globals last) x) (stop_at p.globals last) y)
@@ -207,7 +207,7 @@ module _ (setting : Setting) (now : Moment setting.p.globals setting.last) (m : 
     -- the same in the rewritten program
     abbrev called_there : Both → ℕ → List (Expression Place) → Routine → State
     called_there d q' es r =
-        let vs : List Bool = values_of X (put_values d.activation) (map (expression (places p.globals last d.own) last) es) in
+        let vs : List Bool = values_of X (put_values d.activation) (map (expression_form (places p.globals last d.own) last) es) in
         state X (frame (suc q') (fresh (frame_size r) vs) r.body ∷ callers p last (d ∷ bs) m)
 
     -- a run through a call
@@ -223,7 +223,7 @@ module _ (setting : Setting) (now : Moment setting.p.globals setting.last) (m : 
         let vs : List Bool = values_of (row C q) (source_values d.activation) es in
         let lv : length vs ≤ r.places =
         subst (λ k. k ≤ r.places) (sym (length_values (row C q) (source_values d.activation) es)) short in
-        let ev : values_of X (put_values d.activation) (map (expression (places p.globals last d.own) last) es) ≡ vs =
+        let ev : values_of X (put_values d.activation) (map (expression_form (places p.globals last d.own) last) es) ≡ vs =
         expressions_are small now d.own (put_values d.activation) d.l d.tmp d.more refl h.long es scope in
         let goal : State = state (row C q) (map source (entered q' r vs ∷ d ∷ bs)) in
         let here : AtRoutine (slice_get p.routines q') (λ r. called d q' es r ≡ goal) =
@@ -254,7 +254,7 @@ module _ (setting : Setting) (now : Moment setting.p.globals setting.last) (m : 
 
     -- such a run begins with a step of the source, or fails
     pub step_back : (N : ℕ) (a : Activation) (rest : Code) → Good p last (both a rest)
-        → put_rest p last a.own rest ≡ prologue (places p.globals last a.own) last plain (inner p last a.own rest)
+        → put_rest p last a.own rest ≡ prologue (places p.globals last a.own) last no_mark (inner p last a.own rest)
         → PlainAfter w N
         (state X (top p last a (inner p last a.own rest) bs m)) Q
         → Begins N a rest bs
@@ -291,10 +291,10 @@ module _ (setting : Setting) (now : Moment setting.p.globals setting.last) (m : 
             → PlainAfter w n1
             (state X
             (top p last a
-            (cond v (join (one plain skip done) (put_rest p last a.own t)) (join (fail_code done) (put_rest p last a.own t))) bs m)) Q
+            (cond v (join (one no_mark skip done) (put_rest p last a.own t)) (join (fail_code done) (put_rest p last a.own t))) bs m)) Q
             → PlainAfter w n1
             (state X
-            (top p last a (cond v (one plain skip (put_rest p last a.own t)) (fail_code (put_rest p last a.own t))) bs m)) Q
+            (top p last a (cond v (one no_mark skip (put_rest p last a.own t)) (fail_code (put_rest p last a.own t))) bs m)) Q
         branches v n1 a t r = r
 
         longer : {n1 : ℕ} → Begins n1 a (one k (assert r) t) bs → N ≡ suc n1 → Begins N a (one k (assert r) t) bs
@@ -326,7 +326,7 @@ module _ (setting : Setting) (now : Moment setting.p.globals setting.last) (m : 
         let (n1, e1, r1) = unstep w Q N _ _ _ (never_below bs) run in
         let v : Bool = value_of (row C q) (source_values a) e in
         let a' : Activation = resulting setting a (one k (leave_with e) t) h v in
-        let ev : value_of X (put_values a) (expression (places p.globals last a.own) last e) ≡ v =
+        let ev : value_of X (put_values a) (expression_form (places p.globals last a.own) last e) ≡ v =
         expression_is small now a.own (put_values a) a.l a.tmp a.more refl h.long e h.fits.0.0.arguments.0 in
         moved_here N a (one k (leave_with e) t) bs (both a' done ∷ bs) (refl, resulting_good setting a (one k (leave_with e) t) h v, good)
         (ap (λ z. state (row C q) (frame a.c z done ∷ map source bs)) (source_with p last (both a (one k (leave_with e) t)) h v))
@@ -336,7 +336,7 @@ module _ (setting : Setting) (now : Moment setting.p.globals setting.last) (m : 
         ∙ put_with setting (both a (one k (leave_with e) t)) h v) r1))
     step_back N a (one k (call_for x q' es) t) h starts run =
         let scope = h.fits.0.0 in
-        let room : takes is_global (Some x) ≤ temporaries is_global h.routine.body =
+        let room : receiver_draws is_global (Some x) ≤ temporaries is_global h.routine.body =
         takes_room p.routines p.globals a.own (temporaries is_global h.routine.body) x q' es h.fits.0 in
         let (n1, e1, r1) = unstep w Q N _ _ _ (never_below bs) run in
         call_made_back N n1 a (one k (call_for x q' es) t) (awaiting a x t) q' es e1

@@ -6,8 +6,8 @@ use Rattle.language.specs.Tree.{choose, loop, RightSide}
 use Rattle.language.specs.Value.{Place}
 use Rattle.language.specs.Rest.{Label, Code, join, rest_from, first_of_two, has_label}
 use Rattle.language.proofs.Rests.{join_join, first_none}
-use Rattle.round_rewrite.specs.Table.{Naming, plain, draws, drawing, prologue, stop_test, received, receiver, statement, rewritten, side}
-use Rattle.round_rewrite.specs.Table.{expression}
+use Rattle.round_rewrite.specs.Table.{Naming, no_mark, draws, drawing, prologue, stop_test, received, receiver, statement, rewritten, side}
+use Rattle.round_rewrite.specs.Table.{expression_form}
 use Rattle.round_rewrite.proofs.Plain.{bare, bare-join, found, firsts}
 
 first_assoc : {A : Type 0} (x y z : Option A) → first_of_two (first_of_two x y) z ≡ first_of_two x (first_of_two y z)
@@ -71,7 +71,7 @@ module _ {V W P Q L : Type 0} (w : Naming V W P Q) (last : ℕ) where
   statement-join (leave_with e) t b = refl
   statement-join (call_for x p es) t b =
       ap
-      (λ z. one plain (call_for (receiver w last x) (w.called p) (map (expression w last) es)) (stop_test w last z))
+      (λ z. one no_mark (call_for (receiver w last x) (w.called p) (map (expression_form w last) es)) (stop_test w last z))
       (cond_join (w.is_shared x) (received w last x t) t b)
 
 module _ (w : Naming Place Place ℕ ℕ) (last : ℕ) where
@@ -90,7 +90,7 @@ module _ (w : Naming Place Place ℕ ℕ) (last : ℕ) where
   bare-statement (leave_with e) t = refl
   bare-statement (call_for x p es) t =
       ap
-      (λ z. one plain (call_for (receiver w last x) (w.called p) (map (expression w last) es)) (stop_test w last z))
+      (λ z. one no_mark (call_for (receiver w last x) (w.called p) (map (expression_form w last) es)) (stop_test w last z))
       (bare-cond (w.is_shared x) (received w last x t) t)
 
   rest-drawing : (x : Label) (n : ℕ) (t k : Code) → rest_from x (drawing w last n t) k ≡ rest_from x t k
@@ -115,12 +115,12 @@ module _ (w : Naming Place Place ℕ ℕ) (last : ℕ) where
   pub bare-rewritten : (b : Code) → bare (rewritten w last b) ≡ put b
   bare-rewritten done = refl
   bare-rewritten (one m s t) =
-      ap (prologue w last plain) (bare-statement s (rewritten w last t) ∙ ap (statement w last s) (bare-rewritten t))
+      ap (prologue w last no_mark) (bare-statement s (rewritten w last t) ∙ ap (statement w last s) (bare-rewritten t))
   bare-rewritten (choose m r a b t) =
-      λ i. prologue w last plain (choose plain (side w last r) (bare-rewritten a i) (bare-rewritten b i) (bare-rewritten t i))
+      λ i. prologue w last no_mark (choose no_mark (side w last r) (bare-rewritten a i) (bare-rewritten b i) (bare-rewritten t i))
   bare-rewritten (loop m r a t) =
-      λ i. prologue w last plain (loop plain (side w last r)
-      ((bare-join (rewritten w last a) (prologue w last plain done) ∙ ap (λ z. join z (prologue w last plain done)) (bare-rewritten a))
+      λ i. prologue w last no_mark (loop no_mark (side w last r)
+      ((bare-join (rewritten w last a) (prologue w last no_mark done) ∙ ap (λ z. join z (prologue w last no_mark done)) (bare-rewritten a))
       i)
       (bare-rewritten t i))
 
@@ -130,9 +130,9 @@ module _ (w : Naming Place Place ℕ ℕ) (last : ℕ) where
       ap (prologue w last m)
       (ap (statement w last s) (rewritten-join t b) ∙ sym (statement-join w last s (rewritten w last t) (rewritten w last b)))
   rewritten-join (choose m r x y t) b =
-      ap (λ z. prologue w last m (choose plain (side w last r) (rewritten w last x) (rewritten w last y) z)) (rewritten-join t b)
+      ap (λ z. prologue w last m (choose no_mark (side w last r) (rewritten w last x) (rewritten w last y) z)) (rewritten-join t b)
   rewritten-join (loop m r x t) b =
-      ap (λ z. prologue w last m (loop plain (side w last r) (join (rewritten w last x) (prologue w last plain done)) z))
+      ap (λ z. prologue w last m (loop no_mark (side w last r) (join (rewritten w last x) (prologue w last no_mark done)) z))
       (rewritten-join t b)
 
   pub put-join : (a b : Code) → put (join a b) ≡ join (put a) (put b)
@@ -141,11 +141,13 @@ module _ (w : Naming Place Place ℕ ℕ) (last : ℕ) where
   -- the body of a loop, its end's prologue and the loop again are the rewritten body and loop
   pub put-again : (m : Mark Label) (r : RightSide Place) (a t : Code)
       → put (join a (loop m r a t))
-      ≡ join (join (put a) (prologue w last plain done)) (loop plain (side w last r) (join (put a) (prologue w last plain done)) (put t))
+      ≡ join (join (put a) (prologue w last no_mark done))
+      (loop no_mark (side w last r) (join (put a) (prologue w last no_mark done)) (put t))
   put-again m r a t =
       put-join a (loop m r a t)
       ∙ sym
-      (join_join (put a) (prologue w last plain done) (loop plain (side w last r) (join (put a) (prologue w last plain done)) (put t)))
+      (join_join (put a) (prologue w last no_mark done)
+      (loop no_mark (side w last r) (join (put a) (prologue w last no_mark done)) (put t)))
 
   tails : (t k k' : Code) → bare k ≡ put k' → bare (join (rewritten w last t) k) ≡ put (join t k')
   tails t k k' e = bare-join (rewritten w last t) k ∙ (ap₂ join (bare-rewritten t) e ∙ sym (put-join t k'))
@@ -158,23 +160,23 @@ module _ (w : Naming Place Place ℕ ℕ) (last : ℕ) where
       let whole : bare (join (statement w last s (rewritten w last t)) k) ≡ statement w last s (put (join t k')) =
       ap bare (statement-join w last s (rewritten w last t) k)
       ∙ (bare-statement s (join (rewritten w last t) k) ∙ ap (statement w last s) (tails t k k' e)) in
-      found bare put (has_label x m) _ _ _ _ (ap (prologue w last plain) whole)
+      found bare put (has_label x m) _ _ _ _ (ap (prologue w last no_mark) whole)
       (ap (option_map bare) (rest-statement x s (rewritten w last t) k) ∙ rest-rewritten x t k k' e)
   rest-rewritten x (choose m r a b t) k k' e =
       let after : bare (join (rewritten w last t) k) ≡ put (join t k') = tails t k k' e in
       found bare put (has_label x m) _ _ _ _
-      (λ i. prologue w last plain (choose plain (side w last r) (bare-rewritten a i) (bare-rewritten b i) (after i)))
+      (λ i. prologue w last no_mark (choose no_mark (side w last r) (bare-rewritten a i) (bare-rewritten b i) (after i)))
       (firsts bare put _ _ _ _ (rest-rewritten x a (join (rewritten w last t) k) (join t k') after)
       (firsts bare put _ _ _ _ (rest-rewritten x b (join (rewritten w last t) k) (join t k') after)
       (rest-rewritten x t k k' e)))
   rest-rewritten x (loop m r a t) k k' e =
       let after : bare (join (rewritten w last t) k) ≡ put (join t k') = tails t k k' e in
-      let pd : Code = prologue w last plain done in
+      let pd : Code = prologue w last no_mark done in
       let body : Code = join (rewritten w last a) pd in
       let bodies : bare body ≡ join (put a) pd = bare-join (rewritten w last a) pd ∙ ap (λ z. join z pd) (bare-rewritten a) in
-      let again : Code = loop plain (side w last r) body (join (rewritten w last t) k) in
+      let again : Code = loop no_mark (side w last r) body (join (rewritten w last t) k) in
       let agains : bare (join pd again) ≡ put (loop m r a (join t k')) =
-      (λ i. prologue w last plain (loop plain (side w last r) (bodies i) (after i))) in
+      (λ i. prologue w last no_mark (loop no_mark (side w last r) (bodies i) (after i))) in
       found bare put (has_label x m) _ _ _ _ agains
       (firsts bare put _ _ _ _
       (ap (option_map bare) (rest-join x (rewritten w last a) pd again ∙ first_none (rest_from x (rewritten w last a) (join pd again)))

@@ -8,7 +8,7 @@ use Rattle.language.specs.Step.{Routine, Program, Frame, frame, waiting, State, 
 use Rattle.language.specs.Step.{AtRest, body_of, StepsTo, AfterSteps, Runs}
 use Rattle.language.specs.Rounds.{Round, Rounds, FailsInRound}
 use Rattle.language.proofs.Lengths.{length_globals}
-use Rattle.round_rewrite.proofs.Laid.{Long}
+use Rattle.round_rewrite.proofs.LayoutLemmas.{Long}
 use Rattle.round_rewrite.proofs.Turns.{Turns, FailTurns, idle}
 
 -- steps keep how many globals there are

@@ -12,7 +12,7 @@ use Rattle.trees.specs.declared.tree.Core.{Core}
 use Rattle.trees.specs.declared.tree.Core.TheFolds.{fold_out-Stmt}
 use Rattle.trees.specs.Trees.{Deed, simple, branch, repeat, Item, name_of, core_step, stmt_step, items_of, deed_of, marked_before}
 use Rattle.trees.specs.Trees.{all_before, block_of}
-use Rattle.round_rewrite.specs.Table.{Naming, numbers, each, plain, side, drawing, prologue, statement, rewritten}
+use Rattle.round_rewrite.specs.Table.{Naming, numbers, each, no_mark, side, drawing, prologue, statement, rewritten}
 use Rattle.round_rewrite.specs.Writing.{TextBlock, Lays, bare_form, form, forms}
 use Rattle.language.proofs.Rests.{join_done}
 use Rattle.round_rewrite.proofs.Blocks.{statement-join}
@@ -30,9 +30,9 @@ module _ (w : Naming tree.Name tree.Name tree.Name tree.Name) (last : ℕ) where
           ap (prologue w last i.mark) (ap (statement w last s) e
           ∙ sym (statement-join w last s (rewritten w last (all_before is done)) k))
       by_deed (branch r a b) e =
-          ap (λ t. prologue w last i.mark (choose plain (side w last r) (rewritten w last a) (rewritten w last b) t)) e
+          ap (λ t. prologue w last i.mark (choose no_mark (side w last r) (rewritten w last a) (rewritten w last b) t)) e
       by_deed (repeat r a) e =
-          ap (λ t. prologue w last i.mark (loop plain (side w last r) (join (rewritten w last a) (prologue w last plain done)) t)) e
+          ap (λ t. prologue w last i.mark (loop no_mark (side w last r) (join (rewritten w last a) (prologue w last no_mark done)) t)) e
 
   -- a block rewritten from nothing, with others after it
   pub block_whole : {M N : Type 0} (start new : List (Stmt M)) (body items : List (Stmt N)) → start ≡ [] → body ≡ items
@@ -49,7 +49,7 @@ module _ (w : Naming tree.Name tree.Name tree.Name tree.Name) (last : ℕ) where
   block_done start new body items e f l = block_whole start new body items e f l done ∙ join_done (rewritten w last (block_of items))
 
   pub drawing_some : (n : ℕ) (k : TextBlock) → (n ≡ 0 → ⊥)
-      → drawing w last n k ≡ one plain (assign (map w.drawn (numbers 0 n)) (each any (numbers 0 n))) k
+      → drawing w last n k ≡ one no_mark (assign (map w.drawn (numbers 0 n)) (each any (numbers 0 n))) k
   drawing_some zero k some = absurd (some refl)
   drawing_some (suc n) k some = refl
 

@@ -8,15 +8,15 @@ use Rattle.language.specs.Rest.{Label, Code, join, rest_from}
 use Rattle.language.specs.Step.{Routine, Program, frame, State, state, fresh, frame_size, with_result, given_back}
 use Rattle.language.specs.Step.{AtRoutine, AtRest, body_of, StepsTo}
 use Rattle.language.proofs.Lengths.{length_zeros, length_fresh, length_values, length_globals, length_locals}
-use Rattle.round_rewrite.specs.Table.{Naming, plain, takes, draws, temporaries, expression, side, prologue, stop_test}
+use Rattle.round_rewrite.specs.Table.{Naming, no_mark, receiver_draws, draws, temporaries, expression_form, side, prologue, stop_test}
 use Rattle.round_rewrite.specs.Places.{places, is_global}
 use Rattle.resolved.specs.Scoped.{PlaceInScope, AreInScope, SideInScope, RoutineInScope, FitsScopes}
-use Rattle.round_rewrite.proofs.Laid.{row, Moment, globals_at, turned, unturned, row_long}
+use Rattle.round_rewrite.proofs.LayoutLemmas.{row, Moment, globals_at, turned, unturned, row_long}
 use Rattle.round_rewrite.proofs.Translate.{side_is, expression_is, expressions_are}
-use Rattle.round_rewrite.proofs.Assigned.{writes_more}
-use Rattle.round_rewrite.proofs.Drawing.{Redrawn, assign_leads}
+use Rattle.round_rewrite.proofs.AssignmentLemmas.{writes_more}
+use Rattle.round_rewrite.proofs.DrawLemmas.{Redrawn, assign_leads}
 use Rattle.round_rewrite.proofs.Plain.{PlainAfter}
-use Rattle.round_rewrite.proofs.Leading.{Leads}
+use Rattle.round_rewrite.proofs.RunLemmas.{Leads}
 use Rattle.round_rewrite.proofs.Blocks.{put-join, put-again}
 use Rattle.round_rewrite.proofs.Prologue.{stop_leads}
 use Rattle.round_rewrite.proofs.Frames.{Activation, both, awaiting, results, entered, given, source_values, put_values, Fits, Roomy, Both}
@@ -68,7 +68,7 @@ good_rest p last a rest rest' h fits = good_on p last (both a rest) None rest' h
 -- an open call that waits for the value of its call
 pub good_awaiting : (p : Program) (last : ℕ) (a : Activation) (rest : Code) (x : Place) (rest' : Code)
     → (h : Good p last (both a rest)) → PlaceInScope p.globals a.own x
-    → takes is_global (Some x) ≤ temporaries is_global h.routine.body
+    → receiver_draws is_global (Some x) ≤ temporaries is_global h.routine.body
     → Fits p.routines p.globals a.own (temporaries is_global h.routine.body) rest' → Good p last (awaiting a x rest')
 good_awaiting p last a rest x rest' h scope room fits = good_on p last (both a rest) (Some x) rest' h (scope, room) fits
 
@@ -102,9 +102,10 @@ loop_fits p own d false k r x t h = h.2
 pub put_loop : (p : Program) (last own : ℕ) (v : Bool) (k : Mark Label) (r : RightSide Place) (x t : Code)
     → put_rest p last own (cond v (join x (loop k r x t)) t)
     ≡ cond v
-    (join (join (put_rest p last own x) (prologue (places p.globals last own) last plain done))
-    (loop plain (side (places p.globals last own) last r)
-    (join (put_rest p last own x) (prologue (places p.globals last own) last plain done)) (put_rest p last own t))) (put_rest p last own t)
+    (join (join (put_rest p last own x) (prologue (places p.globals last own) last no_mark done))
+    (loop no_mark (side (places p.globals last own) last r)
+    (join (put_rest p last own x) (prologue (places p.globals last own) last no_mark done)) (put_rest p last own t)))
+    (put_rest p last own t)
 put_loop p last own true k r x t = put-again (places p.globals last own) last k r x t
 put_loop p last own false k r x t = refl
 
@@ -215,14 +216,15 @@ module _ (setting : Setting) (now : Moment setting.p.globals setting.last) (m : 
             (λ r.
             PlainAfter w n
             (state X
-            (frame (suc q') (fresh (frame_size r) (values_of X (put_values d.activation) (map (expression (naming d.own) last) es))) r.body
+            (frame (suc q')
+            (fresh (frame_size r) (values_of X (put_values d.activation) (map (expression_form (naming d.own) last) es))) r.body
             ∷ callers p last (d ∷ bs) m)) Q)
         call_leads d q' es None e h scope short at = absurd at
         call_leads d q' es (Some r) e h scope short at =
             let vs : List Bool = values_of (row C q) (source_values d.activation) es in
             let lv : length vs ≤ r.places =
             subst (λ k. k ≤ r.places) (sym (length_values (row C q) (source_values d.activation) es)) short in
-            let ev : values_of X (put_values d.activation) (map (expression (naming d.own) last) es) ≡ vs =
+            let ev : values_of X (put_values d.activation) (map (expression_form (naming d.own) last) es) ≡ vs =
             expressions_are small now d.own (put_values d.activation) d.l d.tmp d.more refl h.long es scope in
             let k =
             same_globals next (entered q' r vs ∷ d ∷ bs)
@@ -249,7 +251,8 @@ module _ (setting : Setting) (now : Moment setting.p.globals setting.last) (m : 
             (λ r.
             PlainAfter w n
             (state X
-            (frame (suc q') (fresh (frame_size r) (values_of X (put_values d.activation) (map (expression (naming d.own) last) es))) r.body
+            (frame (suc q')
+            (fresh (frame_size r) (values_of X (put_values d.activation) (map (expression_form (naming d.own) last) es))) r.body
             ∷ callers p last (d ∷ bs) m)) Q)
         call_made d q' es h scope short s =
             let z = call_leads d q' es (slice_get p.routines q') refl h scope short s in (
@@ -260,14 +263,15 @@ module _ (setting : Setting) (now : Moment setting.p.globals setting.last) (m : 
                   (λ r.
                   PlainAfter w z.0
                   (state X
-                  (frame (suc q') (fresh (frame_size r) (values_of X (put_values d.activation) (map (expression (naming d.own) last) es)))
+                  (frame (suc q')
+                  (fresh (frame_size r) (values_of X (put_values d.activation) (map (expression_form (naming d.own) last) es)))
                   r.body
                   ∷ callers p last (d ∷ bs) m)) Q)) (sym (isw.enters_is q')) z.1,
             )
 
         -- a step of the top frame, after its prologue
         pub step_leads : (a : Activation) (rest : Code) → Good p last (both a rest)
-            → put_rest p last a.own rest ≡ prologue (naming a.own) last plain (inner p last a.own rest)
+            → put_rest p last a.own rest ≡ prologue (naming a.own) last no_mark (inner p last a.own rest)
             → StepsTo p (state (row C q) (frame a.c (source_values a) rest ∷ map source bs)) R
             → Leads w (state X (top p last a (inner p last a.own rest) bs m)) Q
         step_leads a done h starts s = cc
@@ -334,7 +338,7 @@ module _ (setting : Setting) (now : Moment setting.p.globals setting.last) (m : 
             same_globals next (both a' done ∷ bs) (refl, resulting_good setting a (one k (leave_with e) t) h v, good)
             (subst (λ z. R (state (row C q) (frame a.c z done ∷ map source bs)))
             (source_with p last (both a (one k (leave_with e) t)) h v) s) in
-            let ev : value_of X (put_values a) (expression (naming a.own) last e) ≡ v =
+            let ev : value_of X (put_values a) (expression_form (naming a.own) last e) ≡ v =
             expression_is small now a.own (put_values a) a.l a.tmp a.more refl h.long e h.fits.0.0.arguments.0 in (
               suc r.0,
               subst (λ z. PlainAfter w r.0 (state X (frame (suc a.c) z done ∷ callers p last bs m)) Q)
@@ -344,7 +348,7 @@ module _ (setting : Setting) (now : Moment setting.p.globals setting.last) (m : 
             )
         step_leads a (one k (call_for x q' es) t) h starts s =
             let scope = h.fits.0.0 in
-            let room : takes is_global (Some x) ≤ temporaries is_global h.routine.body =
+            let room : receiver_draws is_global (Some x) ≤ temporaries is_global h.routine.body =
             takes_room p.routines p.globals a.own (temporaries is_global h.routine.body) x q' es h.fits.0 in
             let z =
             call_made (awaiting a x t) q' es

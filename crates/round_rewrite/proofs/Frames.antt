@@ -8,14 +8,15 @@ use Rattle.language.specs.Value.{Place, global, local, bit, with_bit, written_lo
 use Rattle.language.specs.Rest.{Label, Code, join, rest_from, first_of_two, has_label}
 use Rattle.language.specs.Step.{Routine, Program, Frame, frame, state, zeros, fresh, frame_size, result_of, with_result, given_back}
 use Rattle.language.specs.Flow.{caller_frame}
-use Rattle.round_rewrite.specs.Table.{plain, takes, draws, temporaries, side, prologue, statement, stop_test, received, receiver, draws_of}
+use Rattle.round_rewrite.specs.Table.{no_mark, receiver_draws, draws, temporaries, side, prologue, statement, stop_test, received, receiver}
+use Rattle.round_rewrite.specs.Table.{draws_of}
 use Rattle.language.specs.Parts as parts
 use Rattle.round_rewrite.specs.Places.{places, is_global}
 use Rattle.round_rewrite.specs.Limits.{most_rounds}
 use Rattle.resolved.specs.Scoped.{SimpleInScope, SideInScope, PlaceInScope, Throughout, FitsScopes}
 use Rattle.round_rewrite.proofs.Plain.{World}
 use Rattle.round_rewrite.proofs.Blocks.{put}
-use Rattle.round_rewrite.proofs.Laid.{Shape, bit_right, with_right}
+use Rattle.round_rewrite.proofs.LayoutLemmas.{Shape, bit_right, with_right}
 use Rattle.round_rewrite.proofs.Prologue.{Site}
 
 -- in scope, with room for a given number of temporaries
@@ -76,7 +77,7 @@ draws_room routines n own d xs rs (scope, room) = omega arith
 
 -- a call for a value with room has room for the value
 pub takes_room : (routines : List Routine) (n own d : ℕ) (x : Place) (q : ℕ) (es : List (Expression Place))
-    → Roomy routines n own d (call_for x q es) → takes is_global (Some x) ≤ d
+    → Roomy routines n own d (call_for x q es) → receiver_draws is_global (Some x) ≤ d
 takes_room routines n own d x q es (scope, room) = omega arith
 
 -- a block in scope, with room for its temporaries, fits
@@ -179,7 +180,7 @@ given_values (Some x) v L = written_locals (x ∷ []) (v ∷ []) L
 -- the variable is in scope, and the first temporary is there if it is a global
 abbrev pub Waits : ℕ → ℕ → ℕ → Option Place → Type 0
 Waits n own d None = Unit {0}
-Waits n own d (Some x) = PlaceInScope n own x × (takes is_global (Some x) ≤ d)
+Waits n own d (Some x) = PlaceInScope n own x × (receiver_draws is_global (Some x) ≤ d)
 
 module _ (p : Program) (last : ℕ) where
   -- the frame is one of a procedure that is there, and fits; both results are the same
@@ -217,10 +218,10 @@ module _ (p : Program) (last : ℕ) where
   inner own done = done
   inner own (one k s t) = statement (places p.globals last own) last s (put_rest own t)
   inner own (choose k r x y t) =
-      choose plain (side (places p.globals last own) last r) (put_rest own x) (put_rest own y) (put_rest own t)
+      choose no_mark (side (places p.globals last own) last r) (put_rest own x) (put_rest own y) (put_rest own t)
   inner own (loop k r x t) =
-      loop plain (side (places p.globals last own) last r)
-      (join (put_rest own x) (prologue (places p.globals last own) last plain done)) (put_rest own t)
+      loop no_mark (side (places p.globals last own) last r)
+      (join (put_rest own x) (prologue (places p.globals last own) last no_mark done)) (put_rest own t)
 
   -- what a caller has to do after its test of `stop`: if a global waits, it gets the value first
   abbrev pub behind : ℕ → Option Place → Code → Code

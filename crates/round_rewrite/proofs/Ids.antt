@@ -11,8 +11,8 @@ use Rattle.tokens.specs.declared.vocabulary.Kind.TheVariants as kind
 use Rattle.tokens.specs.Spelling.{reserved_word, is_word_byte, AreWordBytes, BeginsName, IsNameWord}
 use Rattle.grammar.specs.InGrammar.{IsId}
 use Rattle.checked.specs.Rewritable.{has_double}
-use Rattle.round_rewrite.specs.Names.{named, bit_name, copy_name, save_name, drawn_name}
-use Rattle.round_rewrite.proofs.Spelling.{double_there}
+use Rattle.round_rewrite.specs.Names.{fresh_name, bit_name, copy_name, save_name, drawn_name}
+use Rattle.round_rewrite.proofs.SpellingLemmas.{double_there}
 use Rattle.resolved.specs.Limits.{most_places}
 use Rattle.round_rewrite.specs.Limits.{most_rounds}
 
@@ -78,11 +78,11 @@ bit_id zero = two_lows (codes "rl") [] refl (refl, (refl, tt)) tt
 bit_id (suc zero) = two_lows (codes "rh") [] refl (refl, (refl, tt)) tt
 bit_id (suc (suc j)) = two_lows (codes "rt") [] refl (refl, (refl, tt)) tt
 
-pub stop_id : IsId (named (codes "stop__"))
+pub stop_id : IsId (fresh_name (codes "stop__"))
 stop_id = two_lows (codes "stop") [] refl (refl, (refl, (refl, (refl, tt)))) tt
 
-pub bad_id : IsId (named (codes "bad__"))
+pub bad_id : IsId (fresh_name (codes "bad__"))
 bad_id = two_lows (codes "bad") [] refl (refl, (refl, (refl, tt))) tt
 
-pub main_id : IsId (named (codes "main__"))
+pub main_id : IsId (fresh_name (codes "main__"))
 main_id = two_lows (codes "main") [] refl (refl, (refl, (refl, (refl, tt)))) tt

@@ -1,7 +1,7 @@
 -- Parts that come one after the other in front of a rest, one for each of a list, as the guesses and the checks do.
 use Rattle.std.proofs.Common.{◌≡◌, ℕ, ◌+◌, List, [], ◌∷◌, ◌++◌, sym, ◌∙◌, ap, subst}
 use Rattle.language.specs.Sequential.{numbers}
-use Rattle.round_rewrite.proofs.Pushed.{numbers_next}
+use Rattle.round_rewrite.proofs.PushLemmas.{numbers_next}
 
 module _ {K T : Type 0} (parts : List K → T → T) (part : K → T → T) (none : (t : T) → parts [] t ≡ t)
     (more : (k : K) (ks : List K) (t : T) → parts (k ∷ ks) t ≡ part k (parts ks t)) where

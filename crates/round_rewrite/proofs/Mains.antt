@@ -6,7 +6,7 @@ use Rattle.language.specs.Tree as tree
 use Rattle.language.specs.Tree.{any, var, value, assign, one}
 use Rattle.trees.specs.declared.tree.Stmt.{Stmt}
 use Rattle.trees.specs.Trees.{items_of, all_before}
-use Rattle.round_rewrite.specs.Table.{Naming, numbers, each, plain, guess, guesses, check, checks}
+use Rattle.round_rewrite.specs.Table.{Naming, numbers, each, no_mark, guess, guesses, check, checks}
 use Rattle.round_rewrite.specs.Writing.{TextBlock, Lays}
 use Rattle.round_rewrite.proofs.InTurn.{one_behind}
 
@@ -37,8 +37,8 @@ module _ {M X Y : Type 0} (seen : X → Y) (f : List Y → TextBlock → TextBlo
 module _ (w : Naming tree.Name tree.Name tree.Name tree.Name) (last : ℕ) where
   pub guess_some : (xs : List tree.Name) (x : tree.Name) (more : List tree.Name) (k : ℕ) (t : TextBlock) → xs ≡ x ∷ more
       → guess w last xs k t
-      ≡ one plain (assign (map (w.copy k) xs) (each any xs))
-      (one plain (assign (map (w.save k) xs) (map (λ y. value (var (w.copy k y))) xs)) t)
+      ≡ one no_mark (assign (map (w.copy k) xs) (each any xs))
+      (one no_mark (assign (map (w.save k) xs) (map (λ y. value (var (w.copy k y))) xs)) t)
   guess_some [] x more k t e = cc
   guess_some (y ∷ ys) x more k t e = refl
 

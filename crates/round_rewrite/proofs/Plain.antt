@@ -9,14 +9,14 @@ use Rattle.language.specs.Rest.{Label, Code, join, rest_from, first_of_two, has_
 use Rattle.language.specs.Step.{Routine, Program, Frame, frame, waiting, State, state, fresh, frame_size, result_of, with_result}
 use Rattle.language.specs.Step.{given_back, AtRoutine, AtRest, body_of, StepsTo, AfterSteps}
 use Rattle.language.specs.Sequential.{statements, marked, numbered}
-use Rattle.round_rewrite.specs.Table.{plain}
+use Rattle.round_rewrite.specs.Table.{no_mark}
 
 -- the block without labels and numbers
 abbrev pub bare : Code → Code
 bare done = done
-bare (one m s t) = one plain s (bare t)
-bare (choose m r a b t) = choose plain r (bare a) (bare b) (bare t)
-bare (loop m r a t) = loop plain r (bare a) (bare t)
+bare (one m s t) = one no_mark s (bare t)
+bare (choose m r a b t) = choose no_mark r (bare a) (bare b) (bare t)
+bare (loop m r a t) = loop no_mark r (bare a) (bare t)
 
 abbrev pub bare_frame : Frame → Frame
 bare_frame (frame c l rest) = frame c l (bare rest)
@@ -70,16 +70,16 @@ PlainAfter w (suc n) s Q = PlainSteps w s (λ t. PlainAfter w n t Q)
 
 pub bare-join : (a b : Code) → bare (join a b) ≡ join (bare a) (bare b)
 bare-join done b = refl
-bare-join (one m s t) b = ap (one plain s) (bare-join t b)
-bare-join (choose m r x y t) b = ap (choose plain r (bare x) (bare y)) (bare-join t b)
-bare-join (loop m r x t) b = ap (loop plain r (bare x)) (bare-join t b)
+bare-join (one m s t) b = ap (one no_mark s) (bare-join t b)
+bare-join (choose m r x y t) b = ap (choose no_mark r (bare x) (bare y)) (bare-join t b)
+bare-join (loop m r x t) b = ap (loop no_mark r (bare x)) (bare-join t b)
 
 bare-branch : (v : Bool) (a b t : Code) → bare (cond v (join a t) (join b t)) ≡ cond v (join (bare a) (bare t)) (join (bare b) (bare t))
 bare-branch true a b t = bare-join a t
 bare-branch false a b t = bare-join b t
 
 bare-again : (v : Bool) (m : Mark Label) (r : RightSide Place) (a t : Code)
-    → bare (cond v (join a (loop m r a t)) t) ≡ cond v (join (bare a) (loop plain r (bare a) (bare t))) (bare t)
+    → bare (cond v (join a (loop m r a t)) t) ≡ cond v (join (bare a) (loop no_mark r (bare a) (bare t))) (bare t)
 bare-again true m r a t = bare-join a (loop m r a t)
 bare-again false m r a t = refl
 
@@ -145,12 +145,12 @@ plain_after p (suc n) s Q =
 
 pub bare-numbered : (n : ℕ) (b : Code) → bare (numbered n b) ≡ bare b
 bare-numbered n done = refl
-bare-numbered n (one m s t) = ap (one plain s) (bare-numbered (suc n) t)
+bare-numbered n (one m s t) = ap (one no_mark s) (bare-numbered (suc n) t)
 bare-numbered n (choose m r a b t) =
-    λ i. choose plain r (bare-numbered (suc n) a i) (bare-numbered (suc n + statements a) b i)
+    λ i. choose no_mark r (bare-numbered (suc n) a i) (bare-numbered (suc n + statements a) b i)
     (bare-numbered (suc n + (statements a + statements b)) t i)
 bare-numbered n (loop m r a t) =
-    λ i. loop plain r (bare-numbered (suc n) a i) (bare-numbered (suc n + statements a) t i)
+    λ i. loop no_mark r (bare-numbered (suc n) a i) (bare-numbered (suc n + statements a) t i)
 
 pub map-first : {A B : Type 0} (f : A → B) (x y : Option A)
     → option_map f (first_of_two x y) ≡ first_of_two (option_map f x) (option_map f y)
@@ -176,21 +176,21 @@ pub rest-numbered : (x : Label) (n : ℕ) (b k k' : Code) → bare k ≡ bare k'
     → option_map bare (rest_from x (numbered n b) k) ≡ option_map bare (rest_from x b k')
 rest-numbered x n done k k' e = refl
 rest-numbered x n (one m s t) k k' e =
-    found bare bare (has_label x m) _ _ _ _ (ap (one plain s) (tails-numbered (suc n) t k k' e)) (rest-numbered x (suc n) t k k' e)
+    found bare bare (has_label x m) _ _ _ _ (ap (one no_mark s) (tails-numbered (suc n) t k k' e)) (rest-numbered x (suc n) t k k' e)
 rest-numbered x n (choose m r a b t) k k' e =
     let nb : ℕ = suc n + statements a in
     let nt : ℕ = suc n + (statements a + statements b) in
     let tails : bare (join (numbered nt t) k) ≡ bare (join t k') = tails-numbered nt t k k' e in
     found bare bare (has_label x m) _ _ _ _
-    (λ i. choose plain r (bare-numbered (suc n) a i) (bare-numbered nb b i) (tails i))
+    (λ i. choose no_mark r (bare-numbered (suc n) a i) (bare-numbered nb b i) (tails i))
     (firsts bare bare _ _ _ _ (rest-numbered x (suc n) a (join (numbered nt t) k) (join t k') tails)
     (firsts bare bare _ _ _ _ (rest-numbered x nb b (join (numbered nt t) k) (join t k') tails)
     (rest-numbered x nt t k k' e)))
 rest-numbered x n (loop m r a t) k k' e =
     let nt : ℕ = suc n + statements a in
     let tails : bare (join (numbered nt t) k) ≡ bare (join t k') = tails-numbered nt t k k' e in
-    let wholes : loop plain r (bare (numbered (suc n) a)) (bare (join (numbered nt t) k)) ≡ loop plain r (bare a) (bare (join t k')) =
-    λ i. loop plain r (bare-numbered (suc n) a i) (tails i) in
+    let wholes : loop no_mark r (bare (numbered (suc n) a)) (bare (join (numbered nt t) k)) ≡ loop no_mark r (bare a) (bare (join t k')) =
+    λ i. loop no_mark r (bare-numbered (suc n) a i) (tails i) in
     found bare bare (has_label x m) _ _ _ _ wholes
     (firsts bare bare _ _ _ _
     (rest-numbered x (suc n) a (loop (marked n m) r (numbered (suc n) a) (join (numbered nt t) k)) (loop m r a (join t k')) wholes)

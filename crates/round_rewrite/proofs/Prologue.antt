@@ -7,13 +7,13 @@ use Rattle.language.specs.Tree.{const, RightSide, any, value, skip, assign, leav
 use Rattle.language.specs.Value.{Place, global, bit, with_bit, value_of, IsValue, AreValues, written_globals, written_locals}
 use Rattle.language.specs.Rest.{Code, join}
 use Rattle.language.specs.Step.{Frame, frame, State, state}
-use Rattle.round_rewrite.specs.Table.{plain, in_round, stop_test, rise, prologue}
+use Rattle.round_rewrite.specs.Table.{no_mark, in_round, stop_test, rise, prologue}
 use Rattle.round_rewrite.specs.Places.{places, bits_at, bits_from, stop_at}
-use Rattle.round_rewrite.proofs.Counting.{low_first, outside_bits, frame_kept, raise_goes, raise_only, same, same_refl, same_false}
-use Rattle.round_rewrite.proofs.Laid.{bits_of, lay, Shape, Moment, has_bits, stop_bit, stop_with, bits_written}
+use Rattle.round_rewrite.proofs.RoundBitLemmas.{low_first, outside_bits, frame_kept, raise_goes, raise_only, same, same_refl, same_false}
+use Rattle.round_rewrite.proofs.LayoutLemmas.{bits_of, lay, Shape, Moment, has_bits, stop_bit, stop_with, bits_written}
 use Rattle.round_rewrite.proofs.Translate.{at_is}
 use Rattle.round_rewrite.proofs.Plain.{World, PlainAfter}
-use Rattle.round_rewrite.proofs.Leading.{Leads, Never, unstep, Later, later, later_now}
+use Rattle.round_rewrite.proofs.RunLemmas.{Leads, Never, unstep, Later, later, later_now}
 use Rattle.round_rewrite.specs.Limits.{most_rounds, round_bits}
 
 pub not_true : (x : Bool) → true ≡ not x → x ≡ false
@@ -52,7 +52,7 @@ module _ (w : World) {n last : ℕ} (small : last < most_rounds) (site : Site n 
   stop_leads q false b t (m, h) = (suc (suc m), (false, sym (stop_is q false b), h))
 
   stop_go : Never Q fs → (N : ℕ) (X : List Bool) (v s : Bool) (t : Code) → v ≡ s
-      → PlainAfter w N (on X (cond v (join (one plain leave done) t) (join (one plain skip done) t))) Q
+      → PlainAfter w N (on X (cond v (join (one no_mark leave done) t) (join (one no_mark skip done) t))) Q
       → Later w N (on X (cond s done t)) Q
   stop_go never N X true s t e h =
       let (m, em, k) = unstep w Q N _ _ fs never h in
@@ -70,7 +70,7 @@ module _ (w : World) {n last : ℕ} (small : last < most_rounds) (site : Site n 
 
   -- the prologue: on, one round up, or out
   pub prologue_goes : (q : ℕ) (b : Bool) (t : Code) → Leads w (on (now q false b) t) Q
-      → Leads w (on (now q false b) (prologue (places n last own) last plain t)) Q
+      → Leads w (on (now q false b) (prologue (places n last own) last no_mark t)) Q
   prologue_goes q b t (m, h) = (suc (suc (suc (suc (suc m)))), (false, tt, (false, tt, (false, sym (stop_is q false b), h))))
 
   -- what the prologue writes when it rises, and the values that it writes in this round
@@ -90,8 +90,8 @@ module _ (w : World) {n last : ℕ} (small : last < most_rounds) (site : Site n 
       (frame_kept rise_targets (risen q) L (outside_bits (bits_at n last) (round_bits last)))
 
   pub prologue_rises : (q : ℕ) (b : Bool) (t : Code) → q < last
-      → Leads w (on (now (suc q) false b) (prologue (places n last own) last plain t)) Q
-      → Leads w (on (now q false b) (prologue (places n last own) last plain t)) Q
+      → Leads w (on (now (suc q) false b) (prologue (places n last own) last no_mark t)) Q
+      → Leads w (on (now q false b) (prologue (places n last own) last no_mark t)) Q
   prologue_rises q b t lt (m, h) =
       let X : List Bool = now q false b in
       let free : true ≡ not (value_of X L (in_round (places n last own) last last)) =
@@ -105,14 +105,14 @@ module _ (w : World) {n last : ℕ} (small : last < most_rounds) (site : Site n 
             (
               risen q,
               raise_goes X L (bits_at n last) (round_bits last) q (false ∷ b ∷ []) (has_bits n last C S shape q false b),
-              subst (λ T. T) (sym (rise_writes m q b (prologue (places n last own) last plain t))) h,
+              subst (λ T. T) (sym (rise_writes m q b (prologue (places n last own) last no_mark t))) h,
             ),
           ),
         ),
       )
 
   pub prologue_stops : (q : ℕ) (b : Bool) (t : Code) → Leads w (on (now q true b) done) Q
-      → Leads w (on (now q false b) (prologue (places n last own) last plain t)) Q
+      → Leads w (on (now q false b) (prologue (places n last own) last no_mark t)) Q
   prologue_stops q b t h =
       let r = stop_leads q true b t h in (
         suc (suc (suc r.0)),
@@ -134,7 +134,7 @@ module _ (w : World) {n last : ℕ} (small : last < most_rounds) (site : Site n 
 
   -- what a run from a prologue does
   pub data Exits (N q : ℕ) (b : Bool) (t : Code) : Type 0 where
-    rose : q < last → Later w N (on (now (suc q) false b) (prologue (places n last own) last plain t)) Q → Exits N q b t
+    rose : q < last → Later w N (on (now (suc q) false b) (prologue (places n last own) last no_mark t)) Q → Exits N q b t
     went : Later w N (on (now q false b) t) Q → Exits N q b t
     stopped : Later w N (on (now q true b) done) Q → Exits N q b t
 
@@ -146,14 +146,14 @@ module _ (w : World) {n last : ℕ} (small : last < most_rounds) (site : Site n 
 
   stop_branch : Code → Code
   stop_branch t =
-      choose plain any (one plain (assign (global (stop_at n last) ∷ []) (value (const true) ∷ [])) done) (one plain skip done)
+      choose no_mark any (one no_mark (assign (global (stop_at n last) ∷ []) (value (const true) ∷ [])) done) (one no_mark skip done)
       (stop_test (places n last own) last t)
 
   -- after the loop: stop or not
   exits_stop : Never Q fs → (N q : ℕ) (b v : Bool) (t : Code) →
       PlainAfter w N (on (now q false b)
-      (cond v (one plain (assign (global (stop_at n last) ∷ []) (value (const true) ∷ []))
-      (stop_test (places n last own) last t)) (one plain skip (stop_test (places n last own) last t)))) Q → Exits N q b t
+      (cond v (one no_mark (assign (global (stop_at n last) ∷ []) (value (const true) ∷ []))
+      (stop_test (places n last own) last t)) (one no_mark skip (stop_test (places n last own) last t)))) Q → Exits N q b t
   exits_stop never N q b true t h =
       let (m, e, k) = unstep w Q N _ _ fs never h in
       let (x, ex, ix) = one_back (now q false b) (value (const true)) k.0 k.1 in
@@ -179,7 +179,7 @@ module _ (w : World) {n last : ℕ} (small : last < most_rounds) (site : Site n 
 
   exits_loop : Never Q fs → (N q : ℕ) (b v : Bool) (t : Code) → q ≤ last
       → PlainAfter w N
-      (on (now q false b) (cond v (join (rise (places n last own) last) (prologue (places n last own) last plain t)) (stop_branch t))) Q
+      (on (now q false b) (cond v (join (rise (places n last own) last) (prologue (places n last own) last no_mark t)) (stop_branch t))) Q
       → Exits N q b t
   unfolding stop_branch
   exits_loop never N q b true t within h =
@@ -196,26 +196,26 @@ module _ (w : World) {n last : ℕ} (small : last < most_rounds) (site : Site n 
         | inr ne ↦ omega arith
       ] in
       let k' : PlainAfter w m1 (state (written_globals rise_targets (risen q) X)
-      (frame c (written_locals rise_targets (risen q) L) (prologue (places n last own) last plain t) ∷ fs)) Q =
+      (frame c (written_locals rise_targets (risen q) L) (prologue (places n last own) last no_mark t) ∷ fs)) Q =
       subst (λ vs. PlainAfter w m1 (state (written_globals rise_targets vs X)
-      (frame c (written_locals rise_targets vs L) (prologue (places n last own) last plain t) ∷ fs)) Q) risen_is k1.2 in
-      rose lt (m1, omega arith, subst (λ T. T) (rise_writes m1 q b (prologue (places n last own) last plain t)) k')
+      (frame c (written_locals rise_targets vs L) (prologue (places n last own) last no_mark t) ∷ fs)) Q) risen_is k1.2 in
+      rose lt (m1, omega arith, subst (λ T. T) (rise_writes m1 q b (prologue (places n last own) last no_mark t)) k')
   exits_loop never N q b false t within h =
       let (m, e, k) = unstep w Q N _ _ fs never h in
       shorter N m q b t e (exits_stop never m q b k.0 t (branches m q b k.0 t k.2))
     where
       branches : (m q : ℕ) (b v : Bool) (t : Code) →
           PlainAfter w m (on (now q false b)
-          (cond v (join (one plain (assign (global (stop_at n last) ∷ []) (value (const true) ∷ [])) done)
-          (stop_test (places n last own) last t)) (join (one plain skip done) (stop_test (places n last own) last t))))
+          (cond v (join (one no_mark (assign (global (stop_at n last) ∷ []) (value (const true) ∷ [])) done)
+          (stop_test (places n last own) last t)) (join (one no_mark skip done) (stop_test (places n last own) last t))))
           Q → PlainAfter w m (on (now q false b)
-          (cond v (one plain (assign (global (stop_at n last) ∷ []) (value (const true) ∷ []))
-          (stop_test (places n last own) last t)) (one plain skip (stop_test (places n last own) last t)))) Q
+          (cond v (one no_mark (assign (global (stop_at n last) ∷ []) (value (const true) ∷ []))
+          (stop_test (places n last own) last t)) (one no_mark skip (stop_test (places n last own) last t)))) Q
       branches m q b v t h = h
 
   -- every run from a prologue rises, continues or stops
   pub exits : Never Q fs → (N q : ℕ) (b : Bool) (t : Code) → q ≤ last
-      → PlainAfter w N (on (now q false b) (prologue (places n last own) last plain t)) Q → Exits N q b t
+      → PlainAfter w N (on (now q false b) (prologue (places n last own) last no_mark t)) Q → Exits N q b t
   unfolding stop_branch
   exits never N q b t within h =
       let (m, e, k) = unstep w Q N _ _ fs never h in

@@ -12,9 +12,9 @@ use Rattle.resolved.specs.Scoped.{FitsScopes}
 use Rattle.round_rewrite.specs.Law.{KeepsFailures}
 use Rattle.round_rewrite.proofs.Plain.{PlainAfter, bare_state, world_of, plain_after}
 use Rattle.round_rewrite.proofs.Turns.{after_map, after_pick}
-use Rattle.round_rewrite.proofs.Guessing.{Bad}
+use Rattle.round_rewrite.proofs.GuessLemmas.{Bad}
 use Rattle.round_rewrite.proofs.Assembly.{start_is, unsafe_leads, leads_unsafe}
-use Rattle.round_rewrite.proofs.Uncalled.{never_asked}
+use Rattle.round_rewrite.proofs.EntryLemmas.{never_asked}
 use Rattle.round_rewrite.specs.Limits.{most_rounds}
 
 module _ (p : Program) (last : ℕ) (fits : FitsScopes p) (small : last < most_rounds) where

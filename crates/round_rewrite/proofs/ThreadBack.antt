@@ -7,13 +7,14 @@ use Rattle.language.specs.Tree.{done, one, choose, loop}
 use Rattle.language.specs.Value.{Place, global, local, bit, with_bit}
 use Rattle.language.specs.Rest.{Code}
 use Rattle.language.specs.Step.{Frame, frame, State, state, result_of, given_back, StepsTo, Fails}
-use Rattle.round_rewrite.specs.Table.{plain, prologue, received, temporaries}
+use Rattle.round_rewrite.specs.Table.{no_mark, prologue, received, temporaries}
 use Rattle.round_rewrite.specs.Places.{places, is_global}
-use Rattle.round_rewrite.proofs.Laid.{row, row_middle, with_middle, Long, long-append, bits_of, lay, Shape, Moment, globals_at, turned}
-use Rattle.round_rewrite.proofs.Laid.{row_long}
+use Rattle.round_rewrite.proofs.LayoutLemmas.{row, row_middle, with_middle, Long, long-append, bits_of, lay, Shape, Moment, globals_at}
+use Rattle.round_rewrite.proofs.LayoutLemmas.{turned}
+use Rattle.round_rewrite.proofs.LayoutLemmas.{row_long}
 use Rattle.round_rewrite.proofs.Plain.{PlainAfter}
 use Rattle.round_rewrite.proofs.Prologue.{Exits, rose, went, stopped, exits}
-use Rattle.round_rewrite.proofs.Drawing.{landed, landed_back}
+use Rattle.round_rewrite.proofs.DrawLemmas.{landed, landed_back}
 use Rattle.round_rewrite.proofs.Frames.{Activation, both, awaiting, given, given_globals, source_values, put_values, Both, source, Good}
 use Rattle.round_rewrite.proofs.Frames.{AllGood, GoodStack, put_rest, inner, callers, top, site, stack, Setting, source_result}
 use Rattle.round_rewrite.proofs.Frames.{source_given, given_good}
@@ -266,7 +267,7 @@ module _ (setting : Setting) (S : List (List Bool)) (m : Code) (Q : State → Ty
 
       -- a run that has left the prologue of the top frame
       exited : (a : Activation) (rest : Code) (bs : List Both) → Good p last (both a rest) → AllGood p last bs
-          → put_rest p last a.own rest ≡ prologue (places p.globals last a.own) last plain (inner p last a.own rest)
+          → put_rest p last a.own rest ≡ prologue (places p.globals last a.own) last no_mark (inner p last a.own rest)
           → Exits w small (site p last now.C S now.shape a bs m) Q N
           (length r.pre) b (inner p last a.own rest)
           → Ends N post r b (map source (both a rest ∷ bs))
@@ -288,7 +289,7 @@ module _ (setting : Setting) (S : List (List Bool)) (m : Code) (Q : State → Ty
       -- a run from the prologue of a frame on top
       through : (a : Activation) (t : Code) (bs : List Both)
           → PlainAfter w N (state (globals_at now)
-          (top p last a (prologue (places p.globals last a.own) last plain t) bs m)) Q
+          (top p last a (prologue (places p.globals last a.own) last no_mark t) bs m)) Q
           → Exits w small (site p last now.C S now.shape a bs m) Q N
           (length r.pre) b t
       through a t bs run =

@@ -7,12 +7,13 @@ use Rattle.language.specs.Tree.{skip, assign, assert, assume, goto, leave, call,
 use Rattle.language.specs.Value.{Place, global, local, bit, with_bit, IsValue}
 use Rattle.language.specs.Rest.{Code}
 use Rattle.language.specs.Step.{Frame, frame, State, state, result_of, given_back, StepsTo, AfterSteps, Fails}
-use Rattle.round_rewrite.specs.Table.{plain, temporaries, side, prologue, stop_test}
+use Rattle.round_rewrite.specs.Table.{no_mark, temporaries, side, prologue, stop_test}
 use Rattle.round_rewrite.specs.Places.{places, is_global, stop_at, bad_at}
-use Rattle.round_rewrite.proofs.Laid.{row, with_row, row_middle, with_middle, bits_of, lay, Shape, Moment, globals_at, turned, both_with}
+use Rattle.round_rewrite.proofs.LayoutLemmas.{row, with_row, row_middle, with_middle, bits_of, lay, Shape, Moment, globals_at, turned}
+use Rattle.round_rewrite.proofs.LayoutLemmas.{both_with}
 use Rattle.round_rewrite.proofs.Plain.{PlainAfter}
-use Rattle.round_rewrite.proofs.Leading.{Leads}
-use Rattle.round_rewrite.proofs.Drawing.{landed_leads}
+use Rattle.round_rewrite.proofs.RunLemmas.{Leads}
+use Rattle.round_rewrite.proofs.DrawLemmas.{landed_leads}
 use Rattle.round_rewrite.proofs.Prologue.{prologue_goes, prologue_rises, prologue_stops, stop_leads}
 use Rattle.round_rewrite.proofs.Frames.{Activation, both, awaiting, given, given_globals, source_values, put_values, Both, source, Good}
 use Rattle.round_rewrite.proofs.Frames.{AllGood, GoodStack, put_rest, inner, behind, callers, top, site, frame_site, stack, Setting}
@@ -53,7 +54,7 @@ module _ (setting : Setting) (S : List (List Bool)) (m : Code) (Q : State → Ty
 
     -- the thread stops at a prologue
     stops_at : (q : ℕ) (a : Activation) (t : Code) (bs : List Both) → At C q true b (frame 0 [] m ∷ [])
-        → At C q false b (top p last a (prologue (places p.globals last a.own) last plain t) bs m)
+        → At C q false b (top p last a (prologue (places p.globals last a.own) last no_mark t) bs m)
     stops_at q a t bs out = prologue_stops w small (site p last C S shape a bs m) Q q b t (unwind (suc a.c) (put_values a) bs q out)
 
     -- the globals in this round
@@ -100,18 +101,18 @@ module _ (setting : Setting) (S : List (List Bool)) (m : Code) (Q : State → Ty
 
     -- the round's bits catch up in a prologue
     catch_up : (d q r : ℕ) → q + d ≡ r → r ≤ last → (a : Activation) (t : Code) (bs : List Both)
-        → At C r false b (top p last a (prologue (places p.globals last a.own) last plain t) bs m)
-        → At C q false b (top p last a (prologue (places p.globals last a.own) last plain t) bs m)
+        → At C r false b (top p last a (prologue (places p.globals last a.own) last no_mark t) bs m)
+        → At C q false b (top p last a (prologue (places p.globals last a.own) last no_mark t) bs m)
     catch_up zero q r e within a t bs h =
         let same : r ≡ q = omega arith in
-        subst (λ k. At C k false b (top p last a (prologue (places p.globals last a.own) last plain t) bs m)) same h
+        subst (λ k. At C k false b (top p last a (prologue (places p.globals last a.own) last no_mark t) bs m)) same h
     catch_up (suc d) q r e within a t bs h =
         prologue_rises w small (site p last C S shape a bs m) Q q b t (omega arith)
         (catch_up d (suc q) r (omega arith) within a t bs h)
 
     -- after the prologue, with the round's bits
     go_in : (q r : ℕ) → q ≤ r → r ≤ last → (a : Activation) (t : Code) (bs : List Both) → At C r false b (top p last a t bs m)
-        → At C q false b (top p last a (prologue (places p.globals last a.own) last plain t) bs m)
+        → At C q false b (top p last a (prologue (places p.globals last a.own) last no_mark t) bs m)
     go_in q r le within a t bs h =
         catch_up (r - q) q r (omega arith) within a t bs (prologue_goes w small (site p last C S shape a bs m) Q r b t h)
 
@@ -143,7 +144,7 @@ module _ (setting : Setting) (S : List (List Bool)) (m : Code) (Q : State → Ty
       -- a step after the prologue, and then the k steps
       busy : (g : List Bool) → (eg : length g ≡ p.globals) → (a : Activation) (rest : Code) (bs : List Both)
           → Good p last (both a rest) → AllGood p last bs
-          → put_rest p last a.own rest ≡ prologue (places p.globals last a.own) last plain (inner p last a.own rest)
+          → put_rest p last a.own rest ≡ prologue (places p.globals last a.own) last no_mark (inner p last a.own rest)
           → StepsTo p (state g (map source (both a rest ∷ bs))) (λ t. AfterSteps p k t (λ u. u ≡ state h' mid))
           → At (rows g) (length r.pre) false b (top p last a (inner p last a.own rest) bs m)
       busy g eg a rest bs good goods starts steps =

@@ -6,11 +6,11 @@ use Rattle.std.proofs.lemmas.Bool.{cases_eq}
 use Rattle.std.proofs.lemmas.List.{get_or_append_left}
 use Rattle.language.specs.Tree.{Expression, const, var, negation, two, RightSide, any, value}
 use Rattle.language.specs.Value.{Place, global, local, bit, operate, value_of, values_of, IsValue}
-use Rattle.round_rewrite.specs.Table.{in_round, joined, expression, side}
+use Rattle.round_rewrite.specs.Table.{in_round, read_by_round, expression_form, side}
 use Rattle.round_rewrite.specs.Places.{places, bits_at}
 use Rattle.resolved.specs.Scoped.{InScope, AreInScope, SideInScope}
-use Rattle.round_rewrite.proofs.Counting.{same, same_refl, same_false, tells, bits_suffice}
-use Rattle.round_rewrite.proofs.Laid.{row, row_bit, Moment, globals_at, has_bits}
+use Rattle.round_rewrite.proofs.RoundBitLemmas.{same, same_refl, same_false, tells, bits_suffice}
+use Rattle.round_rewrite.proofs.LayoutLemmas.{row, row_bit, Moment, globals_at, has_bits}
 use Rattle.round_rewrite.specs.Limits.{most_rounds, round_bits}
 
 pub or_false : (x : Bool) → (x || false) ≡ x
@@ -37,14 +37,14 @@ module _ {n last : ℕ} (small : last < most_rounds) (now : Moment n last) (own 
   and_false x y e = ap (λ z. z && y) e
 
   before : (k i : ℕ) → k ≤ last → i < n → k < q
-      → value_of globals_now L (joined (places n last own) last k (global i)) ≡ false
+      → value_of globals_now L (read_by_round (places n last own) last k (global i)) ≡ false
   before zero i h h' lt = and_false _ _ (at_is zero h ∙ same_false zero q (omega arith))
   before (suc k) i h h' lt =
       ap₂ (λ x y. x || y) (before k i (omega arith) h' (omega arith))
       (and_false _ _ (at_is (suc k) h ∙ same_false (suc k) q (omega arith)))
 
   from : (k i : ℕ) → k ≤ last → i < n → q ≤ k
-      → value_of globals_now L (joined (places n last own) last k (global i)) ≡ bit (row C q) i
+      → value_of globals_now L (read_by_round (places n last own) last k (global i)) ≡ bit (row C q) i
   from zero i h h' le =
       let e : q ≡ zero = omega arith in
       ap₂ (λ x y. x && y) (at_is zero h ∙ (ap (same zero) e ∙ refl)) (copy_is zero i h h' ∙ ap (λ z. bit (row C z) i) (sym e))
@@ -59,7 +59,7 @@ module _ {n last : ℕ} (small : last < most_rounds) (now : Moment n last) (own 
 
   -- a rewritten read is the read of the round's copy: the frame's own places come first in both
   pub expression_is : (l tmp more : List Bool) → L ≡ l ++ tmp → length l ≡ own → (e : Expression Place) → InScope n own e
-      → value_of globals_now L (expression (places n last own) last e) ≡ value_of (row C q) (l ++ more) e
+      → value_of globals_now L (expression_form (places n last own) last e) ≡ value_of (row C q) (l ++ more) e
   expression_is l tmp more eL el (const c) h = refl
   expression_is l tmp more eL el (var (global i)) h = from last i (omega arith) h within
   expression_is l tmp more eL el (var (local i)) h =
@@ -71,7 +71,7 @@ module _ {n last : ℕ} (small : last < most_rounds) (now : Moment n last) (own 
 
   pub expressions_are : (l tmp more : List Bool) → L ≡ l ++ tmp → length l ≡ own → (es : List (Expression Place))
       → AreInScope n own es
-      → values_of globals_now L (map (expression (places n last own) last) es) ≡ values_of (row C q) (l ++ more) es
+      → values_of globals_now L (map (expression_form (places n last own) last) es) ≡ values_of (row C q) (l ++ more) es
   expressions_are l tmp more eL el [] h = refl
   expressions_are l tmp more eL el (e ∷ es) h =
       ap₂ (λ x xs. x ∷ xs) (expression_is l tmp more eL el e h.0) (expressions_are l tmp more eL el es h.1)

@@ -15,12 +15,12 @@ use Rattle.checked.specs.Checked.{IsChecked}
 use Rattle.resolved.specs.There.{IsThere}
 use Rattle.round_rewrite.specs.Table.{numbers}
 use Rattle.round_rewrite.specs.Places.{global_count}
-use Rattle.round_rewrite.specs.Names.{names, drawn_name, rewritten_procedure, main_procedure, rewritten_tree}
+use Rattle.round_rewrite.specs.Names.{spelling, drawn_name, rewritten_procedure, main_procedure, rewritten_tree}
 use Rattle.resolved.specs.Narrow.{width}
 use Rattle.round_rewrite.specs.Narrow.{rewritten_width, AreNarrow, IsNarrow}
 use Rattle.round_rewrite.specs.Writing.{own_width, procedure_needs, IsOwnNarrow, AreFew}
-use Rattle.round_rewrite.proofs.Placing.{length-numbers, length-globals}
-use Rattle.round_rewrite.proofs.Giving.{gives_rewritten, gives_main}
+use Rattle.round_rewrite.proofs.PlaceLemmas.{length-numbers, length-globals}
+use Rattle.round_rewrite.proofs.ResultLemmas.{gives_rewritten, gives_main}
 use Rattle.resolved.specs.Limits.{most_places}
 
 own_places : (last : ℕ) (p : Procedure)
@@ -44,7 +44,7 @@ module _ (t : Tree) (last n : ℕ) (is : global_count (length t.globals) last �
       let sum : (length p.formals + (length p.locals + procedure_needs p)) + r ≡ own_width p = omega arith in
       λ i.
       wide i
-      + ((λ j. own_places last p j + cond (gives_rewritten (names (p.formals ++ p.locals)) last p.body j) 1 0) ∙ sum) i
+      + ((λ j. own_places last p j + cond (gives_rewritten (spelling (p.formals ++ p.locals)) last p.body j) 1 0) ∙ sum) i
 
   into : (ps : List Procedure) → AreNarrow last t ps →
       AllByRecursion (λ p. width (rewritten_tree last t) p ≤ most_places) (map (rewritten_procedure last) ps)
@@ -65,7 +65,7 @@ module _ (t : Tree) (last n : ℕ) (is : global_count (length t.globals) last �
   no_result : frame_size (routine_of (rewritten_tree last t) (main_procedure last t)) ≡ 0
   no_result =
       ap (λ b. 0 + cond b 1 0)
-      (gives_main Name (names []) last t.globals (map (λ (line : ThreadLine). line.name) t.threads))
+      (gives_main Name (spelling []) last t.globals (map (λ (line : ThreadLine). line.name) t.threads))
 
   -- the program is narrow if the globals are at most 64 and each procedure of the source is when it is rewritten
   pub narrow : n ≤ most_places → AreNarrow last t t.procedures → IsNarrow last t

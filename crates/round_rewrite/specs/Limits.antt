@@ -10,6 +10,6 @@ abbrev pub round_bits : ℕ → ℕ
 round_bits last = cond (nat_lt last 4) 2 3
 
 -- the last of K rounds, which count from 0; of no round it is 0 too
-abbrev pub last_of : ℕ → ℕ
-last_of zero = zero
-last_of (suc n) = n
+abbrev pub last_round : ℕ → ℕ
+last_round zero = zero
+last_round (suc n) = n

@@ -4,46 +4,46 @@ use Rattle.language.specs.Tree.{Name, Procedure, ThreadLine, Tree}
 use Rattle.language.specs.Resolve.{is_declared}
 use Rattle.language.specs.Sequential.{sequential_of}
 use Rattle.language.specs.Step.{Program}
-use Rattle.round_rewrite.specs.Limits.{last_of, round_bits}
+use Rattle.round_rewrite.specs.Limits.{last_round, round_bits}
 use Rattle.round_rewrite.specs.Table.{Naming, numbers, temporaries, rewritten, main, globals}
 
 -- a name that occurs in no text
-abbrev pub named : List ℕ → Name
-named text = record { text = text; at = 0 }
+abbrev pub fresh_name : List ℕ → Name
+fresh_name text = record { text = text; at = 0 }
 
 -- x__1, x__2 and so on: the copy for a round, from 0
 abbrev pub copy_name : ℕ → Name → Name
-copy_name round name = named (name.text ++ (codes "__" ++ decimal (suc round)))
+copy_name round name = fresh_name (name.text ++ (codes "__" ++ decimal (suc round)))
 
 -- x__s2, x__s3 and so on: the guess saved for a round, from 0
 abbrev pub save_name : ℕ → Name → Name
-save_name round name = named (name.text ++ (codes "__s" ++ decimal (suc round)))
+save_name round name = fresh_name (name.text ++ (codes "__s" ++ decimal (suc round)))
 
 -- tmp__t1, tmp__t2 and so on
 abbrev pub drawn_name : ℕ → Name
-drawn_name number = named (codes "tmp__t" ++ decimal (suc number))
+drawn_name number = fresh_name (codes "tmp__t" ++ decimal (suc number))
 
 -- the name of a bit of the round, by its number, where the low bit is 0
 abbrev pub bit_name : ℕ → Name
-bit_name zero = named (codes "rl__")
-bit_name (suc zero) = named (codes "rh__")
-bit_name (suc (suc number)) = named (codes "rt__")
+bit_name zero = fresh_name (codes "rl__")
+bit_name (suc zero) = fresh_name (codes "rh__")
+bit_name (suc (suc number)) = fresh_name (codes "rt__")
 
 -- the lowest bits of the round, the low bit first
 abbrev pub bit_names : ℕ → List Name
 bit_names count = map bit_name (numbers 0 count)
 
 -- the names in a procedure with these formals and locals
-abbrev pub names : List Name → Naming Name Name Name Name
-names own = record {
+abbrev pub spelling : List Name → Naming Name Name Name Name
+spelling own = record {
   is_shared = λ x. not (is_declared x.text own);
   copy = copy_name;
   save = save_name;
   kept = λ x. x;
   drawn = drawn_name;
   bits = λ last. bit_names (round_bits last);
-  stop = named (codes "stop__");
-  bad = named (codes "bad__");
+  stop = fresh_name (codes "stop__");
+  bad = fresh_name (codes "bad__");
   called = λ p. p;
 }
 
@@ -51,7 +51,7 @@ names own = record {
 abbrev pub rewritten_procedure : ℕ → Procedure → Procedure
 rewritten_procedure last procedure =
     let own = procedure.formals ++ procedure.locals in
-    let w = names own in
+    let w = spelling own in
     record {
       name = procedure.name;
       formals = procedure.formals;
@@ -62,23 +62,23 @@ rewritten_procedure last procedure =
 -- the first procedure
 abbrev pub main_procedure : ℕ → Tree → Procedure
 main_procedure last tree = record {
-  name = named (codes "main__");
+  name = fresh_name (codes "main__");
   formals = [];
   locals = [];
-  body = main (names []) last tree.globals (map (λ (line : ThreadLine). line.name) tree.threads);
+  body = main (spelling []) last tree.globals (map (λ (line : ThreadLine). line.name) tree.threads);
 }
 
 -- the rewritten tree, where rounds count from 0 to `last`
 abbrev pub rewritten_tree : ℕ → Tree → Tree
 rewritten_tree last tree = record {
-  globals = globals (names []) last tree.globals;
+  globals = globals (spelling []) last tree.globals;
   procedures = main_procedure last tree ∷ map (rewritten_procedure last) tree.procedures;
-  threads = record { at = 0; name = named (codes "main__") } ∷ [];
+  threads = record { at = 0; name = fresh_name (codes "main__") } ∷ [];
 }
 
 -- the tree that a tree is rewritten to for K rounds
 abbrev pub rewritten_for : ℕ → Tree → Tree
-rewritten_for rounds tree = rewritten_tree (last_of rounds) tree
+rewritten_for rounds tree = rewritten_tree (last_round rounds) tree
 
 -- the sequential program that a tree is rewritten to for K rounds
 abbrev pub sequential_for : ℕ → Tree → Program

@@ -3,7 +3,7 @@ use Rattle.std.specs.Prelude.{◌≡◌, ℕ, ◌<◌, ◌≤◌, List, Option, 
 use Rattle.std.specs.List.{AllByRecursion}
 use Rattle.language.specs.Tree.{Procedure, Tree}
 use Rattle.resolved.specs.Narrow.{width, AllNarrow}
-use Rattle.round_rewrite.specs.Limits.{last_of}
+use Rattle.round_rewrite.specs.Limits.{last_round}
 use Rattle.round_rewrite.specs.Names.{rewritten_for, rewritten_procedure, rewritten_tree}
 use Rattle.resolved.specs.Limits.{most_places}
 use Rattle.round_rewrite.specs.declared.width.Wide.{Wide}
@@ -34,4 +34,4 @@ IsFirstWide last tree (Some wide) =
 
 -- the same for the tree rewritten for K rounds
 abbrev pub IsFirstWideFor : ℕ → Tree → Option Wide → Type 0
-IsFirstWideFor rounds tree wide = IsFirstWide (last_of rounds) tree wide
+IsFirstWideFor rounds tree wide = IsFirstWide (last_round rounds) tree wide

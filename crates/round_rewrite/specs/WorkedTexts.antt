@@ -1,17 +1,19 @@
 -- Four programs and what they are rewritten to, byte for byte: texts that were worked out by hand.
-use Rattle.std.specs.Prelude.{ℕ, false, List, [], ◌∷◌, ◌++◌, Some, None, codes}
+use Rattle.std.specs.Prelude.{◌≡◌, ℕ, false, List, [], ◌∷◌, ◌++◌, Some, None, codes}
 use Rattle.language.specs.Tree.{Name, implies, xor, equal, const, var, negation, two, any, value, skip, assign}
 use Rattle.language.specs.Tree.{assert, assume, goto, leave, call, leave_with, call_for, Mark, done, one, choose, loop, Tree}
-use Rattle.round_rewrite.specs.Names.{named}
+use Rattle.grammar.specs.Printed.{printed}
+use Rattle.round_rewrite.specs.Table.{no_mark}
+use Rattle.round_rewrite.specs.Names.{fresh_name, rewritten_for}
 
 -- a text by its lines, each ended by a line feed
 unfoldable pub text : List (List ℕ) → List ℕ
 text [] = []
 text (line ∷ lines) = line ++ (10 ∷ text lines)
 
--- no label
-abbrev pub unmarked : Mark Name
-unmarked = record { label = None; at = 0 }
+-- the tree that a tree is rewritten to for a number of rounds is printed as this text
+abbrev pub Becomes : Tree → ℕ → List ℕ → Type 0
+Becomes tree rounds text = printed (rewritten_for rounds tree) ≡ text
 
 -- a thread that does nothing
 abbrev pub skipping : Tree
@@ -19,40 +21,40 @@ skipping = record {
   globals = [];
   procedures =
       (record {
-        name = named (codes "t");
+        name = fresh_name (codes "t");
         formals = [];
         locals = [];
-        body = one unmarked skip done;
+        body = one no_mark skip done;
       }) ∷ [];
-  threads = (record { at = 0; name = named (codes "t") }) ∷ [];
+  threads = (record { at = 0; name = fresh_name (codes "t") }) ∷ [];
 }
 
 -- a thread that sets a global to either value
 abbrev pub drawing_once : Tree
 drawing_once = record {
-  globals = named (codes "x") ∷ [];
+  globals = fresh_name (codes "x") ∷ [];
   procedures =
       (record {
-        name = named (codes "t");
+        name = fresh_name (codes "t");
         formals = [];
         locals = [];
-        body = one unmarked (assign (named (codes "x") ∷ []) (any ∷ [])) done;
+        body = one no_mark (assign (fresh_name (codes "x") ∷ []) (any ∷ [])) done;
       }) ∷ [];
-  threads = (record { at = 0; name = named (codes "t") }) ∷ [];
+  threads = (record { at = 0; name = fresh_name (codes "t") }) ∷ [];
 }
 
 -- names of the program with each construct
 abbrev pub x : Name
-x = named (codes "x")
+x = fresh_name (codes "x")
 
 abbrev pub y : Name
-y = named (codes "y")
+y = fresh_name (codes "y")
 
 abbrev pub v : Name
-v = named (codes "v")
+v = fresh_name (codes "v")
 
 abbrev pub l : Name
-l = named (codes "l")
+l = fresh_name (codes "l")
 
 -- Two threads of a procedure t that calls p: an assert, an assume, an `if`, a `while`, a label and its `goto`, a call,
 -- a return, assignments to globals and locals, by expressions and by `?`, and a local that hides a global.
@@ -61,26 +63,26 @@ each_construct = record {
   globals = x ∷ y ∷ [];
   procedures =
       (record {
-        name = named (codes "p");
+        name = fresh_name (codes "p");
         formals = v ∷ [];
         locals = y ∷ l ∷ [];
         body =
-            loop (record { label = Some (named (codes "L")); at = 0 }) (value (var x))
-            (one unmarked (assign (y ∷ x ∷ l ∷ []) (value (two equal (var x) (var v)) ∷ any ∷ any ∷ [])) done)
-            (choose unmarked (value (two implies (var y) (var l)))
-            (one unmarked (goto (named (codes "L"))) done)
-            (one unmarked (assert (value (negation (var x)))) done)
-            (one unmarked (assume any) done));
+            loop (record { label = Some (fresh_name (codes "L")); at = 0 }) (value (var x))
+            (one no_mark (assign (y ∷ x ∷ l ∷ []) (value (two equal (var x) (var v)) ∷ any ∷ any ∷ [])) done)
+            (choose no_mark (value (two implies (var y) (var l)))
+            (one no_mark (goto (fresh_name (codes "L"))) done)
+            (one no_mark (assert (value (negation (var x)))) done)
+            (one no_mark (assume any) done));
       }) ∷ (record {
-        name = named (codes "t");
+        name = fresh_name (codes "t");
         formals = [];
         locals = [];
         body =
-            one unmarked (call (named (codes "p")) (var y ∷ []))
-            (one unmarked (assign (x ∷ y ∷ []) (value (var y) ∷ value (two xor (var x) (const false)) ∷ []))
-            (one unmarked leave done));
+            one no_mark (call (fresh_name (codes "p")) (var y ∷ []))
+            (one no_mark (assign (x ∷ y ∷ []) (value (var y) ∷ value (two xor (var x) (const false)) ∷ []))
+            (one no_mark leave done));
       }) ∷ [];
-  threads = (record { at = 0; name = named (codes "t") }) ∷ (record { at = 0; name = named (codes "t") }) ∷ [];
+  threads = (record { at = 0; name = fresh_name (codes "t") }) ∷ (record { at = 0; name = fresh_name (codes "t") }) ∷ [];
 }
 
 -- A thread that calls a procedure for its value twice, for a global and for a local: `?`, and a label at the call whose
@@ -90,20 +92,20 @@ giving = record {
   globals = x ∷ y ∷ [];
   procedures =
       (record {
-        name = named (codes "p");
+        name = fresh_name (codes "p");
         formals = v ∷ [];
         locals = [];
-        body = one unmarked (leave_with (negation (var v))) done;
+        body = one no_mark (leave_with (negation (var v))) done;
       }) ∷ (record {
-        name = named (codes "t");
+        name = fresh_name (codes "t");
         formals = [];
         locals = l ∷ [];
         body =
-            one (record { label = Some (named (codes "L")); at = 0 }) (call_for x (named (codes "p")) (var y ∷ []))
-            (one unmarked (call_for l (named (codes "p")) (const false ∷ []))
-            (one unmarked (assign (y ∷ []) (any ∷ [])) done));
+            one (record { label = Some (fresh_name (codes "L")); at = 0 }) (call_for x (fresh_name (codes "p")) (var y ∷ []))
+            (one no_mark (call_for l (fresh_name (codes "p")) (const false ∷ []))
+            (one no_mark (assign (y ∷ []) (any ∷ [])) done));
       }) ∷ [];
-  threads = (record { at = 0; name = named (codes "t") }) ∷ [];
+  threads = (record { at = 0; name = fresh_name (codes "t") }) ∷ [];
 }
 
 -- the text of the first

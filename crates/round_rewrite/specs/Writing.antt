@@ -1,6 +1,6 @@
 -- What a writer stands for, and what it means to append statements to others.
 use Rattle.std.specs.Prelude.{◌≡◌, ◌≤◌, ◌+◌, ℕ, zero, suc, length, Bool, max, cond, true, List, [], ◌∷◌}
-use Rattle.std.specs.Prelude.{◌++◌, map, codes}
+use Rattle.std.specs.Prelude.{◌++◌, map, codes, Result, IfOk}
 use Rattle.language.specs.Tree as tree
 use Rattle.language.specs.Tree.{const, var, negation, two, and, xor, any, value, skip, assign, leave, Mark, Block, done, one, choose, loop}
 use Rattle.trees.specs.declared.tree.Stmt.{Stmt}
@@ -9,13 +9,13 @@ use Rattle.trees.specs.Parts.{head_of, first_inside, second_inside}
 use Rattle.language.specs.Rest.{join}
 use Rattle.language.specs.Resolve.{gives_value}
 use Rattle.round_rewrite.specs.declared.writer.Writer.{Writer}
-use Rattle.round_rewrite.specs.Table.{Naming, draws_of, temporaries, plain, side, prologue, statement, rewritten}
-use Rattle.round_rewrite.specs.Names.{named, bit_name, names}
+use Rattle.round_rewrite.specs.Table.{Naming, draws_of, temporaries, no_mark, side, prologue, statement, rewritten}
+use Rattle.round_rewrite.specs.Names.{fresh_name, bit_name, spelling}
 use Rattle.resolved.specs.Limits.{most_places}
 
 -- how the procedure's names are written
 abbrev pub naming_of : {N A : Type 0} → Writer N A → Naming tree.Name tree.Name tree.Name tree.Name
-naming_of writer = names (names_of writer.formals.now ++ names_of writer.locals.now)
+naming_of writer = spelling (names_of writer.formals.now ++ names_of writer.locals.now)
 
 -- a block of a text
 abbrev pub TextBlock : Type 0
@@ -25,6 +25,10 @@ TextBlock = Block tree.Name tree.Name tree.Name
 -- with the others.
 abbrev pub Lays : {A : Type 0} → List (Stmt A) → List (Stmt A) → (TextBlock → TextBlock) → Type 0
 Lays old new form = (rest : TextBlock) → all_before (items_of new) rest ≡ all_before (items_of old) (form rest)
+
+-- if the call succeeds, such statements have been appended
+abbrev pub Appends : {A T E : Type 0} → Result T E → List (Stmt A) → List (Stmt A) → (TextBlock → TextBlock) → Type 0
+Appends result old new form = IfOk result (λ success. Lays old new form)
 
 -- the names that thread lines have
 abbrev pub line_names : List tree.ThreadLine → List tree.Name
@@ -42,28 +46,28 @@ raised_bit (suc number) = two xor (var (bit_name (suc number))) (carried number)
 
 -- what tests whether to stop
 abbrev pub stop_testing : Deed
-stop_testing = branch (value (var (named (codes "stop__")))) (one plain leave done) (one plain skip done)
+stop_testing = branch (value (var (fresh_name (codes "stop__")))) (one no_mark leave done) (one no_mark skip done)
 
 -- what decides whether to stop
 abbrev pub stopping : Deed
 stopping =
-    branch any (one plain (assign (named (codes "stop__") ∷ []) (value (const true) ∷ [])) done) (one plain skip done)
+    branch any (one no_mark (assign (fresh_name (codes "stop__") ∷ []) (value (const true) ∷ [])) done) (one no_mark skip done)
 
 -- what an assert of this right side becomes
 abbrev pub failing : tree.RightSide tree.Name → Deed
 failing right_side =
-    branch right_side (one plain skip done)
-    (one plain (assign (named (codes "bad__") ∷ named (codes "stop__") ∷ []) (value (const true) ∷ value (const true) ∷ []))
-    (one plain leave done))
+    branch right_side (one no_mark skip done)
+    (one no_mark (assign (fresh_name (codes "bad__") ∷ fresh_name (codes "stop__") ∷ []) (value (const true) ∷ value (const true) ∷ []))
+    (one no_mark leave done))
 
 module _ (naming : Naming tree.Name tree.Name tree.Name tree.Name) (last : ℕ) where
   -- a statement rewritten, without its prologue, in front of others
   abbrev pub bare_form : Deed → TextBlock → TextBlock
   bare_form (simple s) rest = statement naming last s rest
   bare_form (branch right_side if_true if_false) rest =
-      choose plain (side naming last right_side) (rewritten naming last if_true) (rewritten naming last if_false) rest
+      choose no_mark (side naming last right_side) (rewritten naming last if_true) (rewritten naming last if_false) rest
   bare_form (repeat right_side body) rest =
-      loop plain (side naming last right_side) (join (rewritten naming last body) (prologue naming last plain done)) rest
+      loop no_mark (side naming last right_side) (join (rewritten naming last body) (prologue naming last no_mark done)) rest
 
   -- a statement rewritten, in front of others
   abbrev pub form : Item → TextBlock → TextBlock
@@ -81,7 +85,7 @@ deed_needs is_shared deed =
 
 -- how many temporaries a procedure needs
 abbrev pub procedure_needs : tree.Procedure → ℕ
-procedure_needs procedure = temporaries (names (procedure.formals ++ procedure.locals)).is_shared procedure.body
+procedure_needs procedure = temporaries (spelling (procedure.formals ++ procedure.locals)).is_shared procedure.body
 
 -- no procedure needs more temporaries than it may have places
 abbrev pub AreFew : List tree.Procedure → Type 0

@@ -3,19 +3,20 @@
 ghost use Rattle.std.specs.Prelude.{◌≡◌, suc, ◌+◌, ◌<◌, ◌≤◌, ◌^◌, ◌++◌, IfOk, map, length};
 ghost use Rattle.language.specs.Tree.{any, var};
 ghost use Rattle.trees.specs.Trees.{name_of, names_of, expr_of, rhs_of, rhss_of};
-ghost use Rattle.round_rewrite.specs.Table.{numbers, draws, targets, sides, written, expression};
+ghost use Rattle.round_rewrite.specs.Table.{numbers, draws, targets, sides, copy_value};
+ghost use Rattle.round_rewrite.specs.Table.{expression_form};
 ghost use Rattle.round_rewrite.specs.Table.{each};
 ghost use Rattle.round_rewrite.specs.Names.{copy_name, drawn_name};
 
 use crate::expression::temporary;
-use crate::names::{again, copy, drawn};
+use crate::names::{clone_name, copy, drawn};
 use crate::writer::Writer;
 use std::alloc::{AllocError, Allocator};
 use trees::{Expr, Name, Rhs};
 
 /// The temporaries up to a number.
-#[tactic(auto, using(crate::proofs::Pushed::pushed))]
-pub fn temporaries<A: Allocator + Copy>(
+#[tactic(auto, using(crate::proofs::PushLemmas::pushed))]
+pub(crate) fn temporaries<A: Allocator + Copy>(
     alloc: &A,
     names: Vec<Name<A>, A>,
     number: usize,
@@ -32,8 +33,8 @@ pub fn temporaries<A: Allocator + Copy>(
 }
 
 /// As many `?` as are asked for.
-#[tactic(auto, using(crate::proofs::Pushed::pushed))]
-pub fn any_values<A: Allocator + Copy>(
+#[tactic(auto, using(crate::proofs::PushLemmas::pushed))]
+pub(crate) fn any_values<A: Allocator + Copy>(
     alloc: &A,
     number: usize,
 ) -> Result<Vec<Rhs<A>, A>, AllocError>
@@ -51,7 +52,7 @@ impl<'a, N: Allocator, A: Allocator + Copy> Writer<'a, N, A> {
 
     /// How many `?` with a global target an assignment has: it draws that many temporaries. Each call has a target
     /// less; a checked program of at most 128 places has no more targets than places.
-    pub fn draws(&self, xs: &[Name<N>], rs: &[Rhs<N>]) -> usize
+    pub(crate) fn draws(&self, xs: &[Name<N>], rs: &[Rhs<N>]) -> usize
         ensures count { result
             ≡ draws (naming_of self.now).is_shared (names_of xs.now) (rhss_of rs.now) }
         ensures few { result ≤ length xs.now }
@@ -70,8 +71,8 @@ impl<'a, N: Allocator, A: Allocator + Copy> Writer<'a, N, A> {
     }
 
     /// Appends the copies of a global for each round to targets.
-    #[tactic(auto, using(crate::proofs::Pushed::pushed))]
-    pub fn copies(&self, x: &Name<N>, into: &mut Vec<Name<A>, A>) -> Result<(), AllocError>
+    #[tactic(auto, using(crate::proofs::PushLemmas::pushed))]
+    pub(crate) fn copies(&self, x: &Name<N>, into: &mut Vec<Name<A>, A>) -> Result<(), AllocError>
         ensures { IfOk result
             (λ _. names_of into.new.items
             ≡ names_of into.old.items ++ map (λ k. copy_name k (name_of x.now))
@@ -84,7 +85,7 @@ impl<'a, N: Allocator, A: Allocator + Copy> Writer<'a, N, A> {
     }
 
     /// Appends the targets of an assignment to others: all copies of a global, a local itself.
-    pub fn targets(
+    pub(crate) fn targets(
         &self,
         xs: &[Name<N>],
         rs: &[Rhs<N>],
@@ -105,14 +106,14 @@ impl<'a, N: Allocator, A: Allocator + Copy> Writer<'a, N, A> {
             self.copies(x, into)?;
             self.targets(more, others, into)
         } else {
-            into.push(again(*self.alloc, x)?)?;
+            into.push(clone_name(*self.alloc, x)?)?;
             self.targets(more, others, into)
         }
     }
 
     /// Appends what the copies of a global get, if the global gets a temporary, to right sides.
-    #[tactic(auto, using(crate::proofs::Pushed::pushed))]
-    pub fn drawn_sides(
+    #[tactic(auto, using(crate::proofs::PushLemmas::pushed))]
+    pub(crate) fn drawn_sides(
         &self,
         number: usize,
         x: &Name<N>,
@@ -121,18 +122,18 @@ impl<'a, N: Allocator, A: Allocator + Copy> Writer<'a, N, A> {
         requires { number < 2 ^ 63 }
         ensures { IfOk result (λ _. rhss_of into.new.items
             ≡ rhss_of into.old.items ++ map
-            (written (naming_of self.now) self.now.rounds.last (var (drawn_name number))
+            (copy_value (naming_of self.now) self.now.rounds.last (var (drawn_name number))
             (name_of x.now)) (numbers 0 (suc self.now.rounds.last))) }
     {
         for round in 0..self.rounds.count() {
             let value = temporary(self.alloc, number)?;
-            into.push(self.written(value, x, round)?)?;
+            into.push(self.copy_value(value, x, round)?)?;
         }
         Ok(())
     }
 
     /// Appends what the copies of a global get, if the global gets an expression, to right sides.
-    #[tactic(auto, using(crate::proofs::Pushed::pushed))]
+    #[tactic(auto, using(crate::proofs::PushLemmas::pushed))]
     fn value_sides(
         &self,
         e: &Expr<N>,
@@ -140,19 +141,20 @@ impl<'a, N: Allocator, A: Allocator + Copy> Writer<'a, N, A> {
         into: &mut Vec<Rhs<A>, A>,
     ) -> Result<(), AllocError>
         ensures { IfOk result (λ _. rhss_of into.new.items
-            ≡ rhss_of into.old.items ++ map (written (naming_of self.now) self.now.rounds.last
-            (expression (naming_of self.now) self.now.rounds.last (expr_of e.now)) (name_of x.now))
+            ≡ rhss_of into.old.items ++ map (copy_value (naming_of self.now) self.now.rounds.last
+            (expression_form (naming_of self.now) self.now.rounds.last (expr_of e.now))
+            (name_of x.now))
             (numbers 0 (suc self.now.rounds.last))) }
     {
         for round in 0..self.rounds.count() {
             let value = self.expression(e)?;
-            into.push(self.written(value, x, round)?)?;
+            into.push(self.copy_value(value, x, round)?)?;
         }
         Ok(())
     }
 
     /// Appends the right sides of an assignment to others; the first temporary that is free has this number.
-    pub fn sides(
+    pub(crate) fn sides(
         &self,
         number: usize,
         xs: &[Name<N>],

@@ -3,39 +3,43 @@
 ghost use Rattle.std.specs.Prelude.{◌≡◌, IfOk, option_map};
 ghost use Rattle.language.specs.Tree.{done};
 ghost use Rattle.trees.specs.Trees.{name_of, deed_of, block_of, marked_before};
-ghost use Rattle.round_rewrite.specs.Writing.{Lays};
-ghost use Rattle.round_rewrite.specs.Table.{plain};
+ghost use Rattle.round_rewrite.specs.Writing.{Appends};
+ghost use Rattle.round_rewrite.specs.Table.{no_mark};
 
 use std::alloc::{AllocError, Allocator};
 use trees::{Core, Name, Stmt};
 
 /// Appends a statement to others.
-#[tactic(auto, using(crate::proofs::Laying::lays_pushed))]
-pub fn push_marked<A: Allocator>(
+#[tactic(auto, using(crate::proofs::AppendLemmas::lays_pushed))]
+pub(crate) fn push_marked<A: Allocator>(
     label: Option<Name<A>>,
     at: u32,
     core: Core<A>,
     into: &mut Vec<Stmt<A>, A>,
 ) -> Result<(), AllocError>
-    ensures { IfOk result (λ _. Lays into.old.items into.new.items
-        (λ k.
-        marked_before (record { label = option_map name_of label; at = at }) (deed_of core) k)) }
+    ensures { Appends result into.old.items into.new.items
+        (marked_before (record { label = option_map name_of label; at = at }) (deed_of core)) }
 {
     into.push(Stmt { label, at, core })?;
     Ok(())
 }
 
 /// Appends a statement without a label to others.
-pub fn push<A: Allocator>(core: Core<A>, into: &mut Vec<Stmt<A>, A>) -> Result<(), AllocError>
-    ensures { IfOk result
-        (λ _. Lays into.old.items into.new.items (λ k. marked_before plain (deed_of core) k)) }
+pub(crate) fn push<A: Allocator>(
+    core: Core<A>,
+    into: &mut Vec<Stmt<A>, A>,
+) -> Result<(), AllocError>
+    ensures { Appends result into.old.items into.new.items (marked_before no_mark (deed_of core)) }
 {
     push_marked(None, 0, core, into)
 }
 
 /// The block of one statement.
-pub fn single<A: Allocator + Copy>(alloc: &A, core: Core<A>) -> Result<Vec<Stmt<A>, A>, AllocError>
-    ensures { IfOk result (λ v. block_of v.items ≡ marked_before plain (deed_of core) done) }
+pub(crate) fn single<A: Allocator + Copy>(
+    alloc: &A,
+    core: Core<A>,
+) -> Result<Vec<Stmt<A>, A>, AllocError>
+    ensures { IfOk result (λ v. block_of v.items ≡ marked_before no_mark (deed_of core) done) }
 {
     let mut block = Vec::new(*alloc);
     push(core, &mut block)?;

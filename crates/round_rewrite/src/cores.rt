@@ -4,7 +4,7 @@ ghost use Rattle.std.specs.Prelude.{◌≡◌, true, [], ◌∷◌, ◌++◌, If
 ghost use Rattle.language.specs.Tree.{const, any, negation, value, assign, assume};
 ghost use Rattle.trees.specs.Trees.{simple, repeat, names_of, expr_of, rhs_of, rhss_of, deed_of};
 ghost use Rattle.round_rewrite.specs.Table.{in_round, rise, raised};
-ghost use Rattle.round_rewrite.specs.Names.{named, bit_names};
+ghost use Rattle.round_rewrite.specs.Names.{fresh_name, bit_names};
 ghost use Rattle.round_rewrite.specs.Writing.{carried, raised_bit, stop_testing, stopping};
 ghost use Rattle.round_rewrite.specs.Writing.{failing};
 
@@ -16,19 +16,20 @@ use std::alloc::{AllocError, Allocator};
 use trees::{Core, Expr, Name, Op, Rhs};
 
 /// A constant as a right side.
-pub fn constant<A: Allocator>(bit: bool) -> Rhs<A>
+pub(crate) fn constant<A: Allocator>(bit: bool) -> Rhs<A>
     ensures { rhs_of result ≡ value (const bit) }
 {
     Rhs::Value(Expr::Const(bit))
 }
 
 /// Appends a name that occurs in no text to others.
-pub fn push_name<A: Allocator + Copy>(
+pub(crate) fn push_name<A: Allocator + Copy>(
     alloc: &A,
     text: &str,
     into: Vec<Name<A>, A>,
 ) -> Result<Vec<Name<A>, A>, AllocError>
-    ensures { IfOk result (λ v. names_of v.items ≡ names_of into.items ++ named text.now ∷ []) }
+    ensures { IfOk result
+        (λ v. names_of v.items ≡ names_of into.items ++ fresh_name text.now ∷ []) }
 {
     let mut list = into;
     list.push(fixed(*alloc, text)?)?;
@@ -47,7 +48,7 @@ fn push_side<A: Allocator>(side: Rhs<A>, into: Vec<Rhs<A>, A>) -> Result<Vec<Rhs
 /// The assignment of 1 to a variable.
 fn set<A: Allocator + Copy>(alloc: &A, text: &str) -> Result<Core<A>, AllocError>
     ensures { IfOk result
-        (λ c. deed_of c ≡ simple (assign (named text.now ∷ []) (value (const true) ∷ []))) }
+        (λ c. deed_of c ≡ simple (assign (fresh_name text.now ∷ []) (value (const true) ∷ []))) }
 {
     let targets = push_name(alloc, text, Vec::new(*alloc))?;
     let sides = push_side(constant(true), Vec::new(*alloc))?;
@@ -62,7 +63,7 @@ fn set_both<A: Allocator + Copy>(
 ) -> Result<Core<A>, AllocError>
     ensures { IfOk result (λ c. deed_of c
         ≡ simple
-        (assign (named first.now ∷ named second.now ∷ [])
+        (assign (fresh_name first.now ∷ fresh_name second.now ∷ [])
         (value (const true) ∷ value (const true) ∷ []))) }
 {
     let target = push_name(alloc, first, Vec::new(*alloc))?;
@@ -73,7 +74,7 @@ fn set_both<A: Allocator + Copy>(
 }
 
 /// The test of `stop__`: a thread that is stopped leaves.
-pub fn stop_test<A: Allocator + Copy>(alloc: &A) -> Result<Core<A>, AllocError>
+pub(crate) fn stop_test<A: Allocator + Copy>(alloc: &A) -> Result<Core<A>, AllocError>
     ensures { IfOk result (λ c. deed_of c ≡ stop_testing) }
 {
     let test = Rhs::Value(variable(alloc, "stop__")?);
@@ -83,7 +84,7 @@ pub fn stop_test<A: Allocator + Copy>(alloc: &A) -> Result<Core<A>, AllocError>
 }
 
 /// The choice to stop.
-pub fn stop_choice<A: Allocator + Copy>(alloc: &A) -> Result<Core<A>, AllocError>
+pub(crate) fn stop_choice<A: Allocator + Copy>(alloc: &A) -> Result<Core<A>, AllocError>
     ensures { IfOk result (λ c. deed_of c ≡ stopping) }
 {
     let yes = single(alloc, set(alloc, "stop__")?)?;
@@ -92,7 +93,7 @@ pub fn stop_choice<A: Allocator + Copy>(alloc: &A) -> Result<Core<A>, AllocError
 }
 
 /// What an assert becomes: if its right side is 0, `bad__` and `stop__` are raised, and the procedure is left.
-pub fn checked<A: Allocator + Copy>(alloc: &A, side: Rhs<A>) -> Result<Core<A>, AllocError>
+pub(crate) fn checked<A: Allocator + Copy>(alloc: &A, side: Rhs<A>) -> Result<Core<A>, AllocError>
     ensures { IfOk result (λ c. deed_of c ≡ failing (rhs_of side)) }
 {
     let yes = single(alloc, Core::Skip)?;
@@ -103,7 +104,7 @@ pub fn checked<A: Allocator + Copy>(alloc: &A, side: Rhs<A>) -> Result<Core<A>, 
 }
 
 /// Appends the `count` lowest variables of the round's number to others, the highest bit first.
-pub fn push_bits<A: Allocator + Copy>(
+pub(crate) fn push_bits<A: Allocator + Copy>(
     alloc: &A,
     count: u8,
     into: Vec<Name<A>, A>,
@@ -175,13 +176,13 @@ impl<'a, N: Allocator, A: Allocator + Copy> Writer<'a, N, A> {
             (λ c. deed_of c ≡ simple (assume (value (negation
             (in_round (naming_of self.now) self.now.rounds.last self.now.rounds.last))))) }
     {
-        let is_last = self.at(self.rounds.last)?;
+        let is_last = self.in_round(self.rounds.last)?;
         let other = not(self.alloc, is_last)?;
         Ok(Core::Assume(Rhs::Value(other)))
     }
 
     /// The loop of the prologue: on to the next round, any number of times, as long as there is one.
-    pub fn rising(&self) -> Result<Core<A>, AllocError>
+    pub(crate) fn rising(&self) -> Result<Core<A>, AllocError>
         ensures { IfOk result
             (λ c. deed_of c ≡ repeat any (rise (naming_of self.now) self.now.rounds.last)) }
     {

@@ -4,39 +4,39 @@ ghost use Rattle.std.specs.Prelude.{◌≡◌, ◌+◌, ◌<◌, ◌^◌, suc, I
 ghost use Rattle.language.specs.Resolve.{is_declared};
 ghost use Rattle.language.specs.Tree.{const, var, negation, two};
 ghost use Rattle.trees.specs.Trees.{name_of, operator_of, expr_of, exprs_of, rhs_of};
-ghost use Rattle.round_rewrite.specs.Table.{numbers, literal, has_value, in_round, joined};
-ghost use Rattle.round_rewrite.specs.Table.{read, expression, side, written};
-ghost use Rattle.round_rewrite.specs.Names.{named, bit_name, copy_name, drawn_name};
+ghost use Rattle.round_rewrite.specs.Table.{numbers, literal, has_value, in_round, read_by_round};
+ghost use Rattle.round_rewrite.specs.Table.{read, expression_form, side, copy_value};
+ghost use Rattle.round_rewrite.specs.Names.{fresh_name, bit_name, copy_name, drawn_name};
 ghost use Rattle.round_rewrite.specs.Limits.{most_rounds};
 
-use crate::names::{again, bit, copy, drawn, fixed};
+use crate::names::{bit, clone_name, copy, drawn, fixed};
 use crate::writer::Writer;
 use std::alloc::{AllocError, Allocator};
 use trees::{Expr, Name, Op, Rhs, declares};
 
 /// A read of a name.
-pub fn read_of<A: Allocator>(x: Name<A>) -> Expr<A>
+pub(crate) fn read_of<A: Allocator>(x: Name<A>) -> Expr<A>
     ensures { expr_of result ≡ var (name_of x) }
 {
     Expr::Var(x)
 }
 
 /// A variable.
-pub fn variable<A: Allocator + Copy>(alloc: &A, text: &str) -> Result<Expr<A>, AllocError>
-    ensures { IfOk result (λ e. expr_of e ≡ var (named text.now)) }
+pub(crate) fn variable<A: Allocator + Copy>(alloc: &A, text: &str) -> Result<Expr<A>, AllocError>
+    ensures { IfOk result (λ e. expr_of e ≡ var (fresh_name text.now)) }
 {
     Ok(Expr::Var(fixed(*alloc, text)?))
 }
 
 /// A read of a bit of the round's number, by its own number.
-pub fn bit_of<A: Allocator + Copy>(alloc: &A, number: u8) -> Result<Expr<A>, AllocError>
+pub(crate) fn bit_of<A: Allocator + Copy>(alloc: &A, number: u8) -> Result<Expr<A>, AllocError>
     ensures { IfOk result (λ e. expr_of e ≡ var (bit_name number)) }
 {
     Ok(Expr::Var(bit(*alloc, number)?))
 }
 
 /// A read of the copy of a global for a round.
-pub fn copy_of<N: Allocator, A: Allocator + Copy>(
+pub(crate) fn copy_of<N: Allocator, A: Allocator + Copy>(
     alloc: &A,
     round: u8,
     x: &Name<N>,
@@ -48,7 +48,10 @@ pub fn copy_of<N: Allocator, A: Allocator + Copy>(
 }
 
 /// A temporary, counted from 0.
-pub fn temporary<A: Allocator + Copy>(alloc: &A, number: usize) -> Result<Expr<A>, AllocError>
+pub(crate) fn temporary<A: Allocator + Copy>(
+    alloc: &A,
+    number: usize,
+) -> Result<Expr<A>, AllocError>
     requires { number < 2 ^ 63 }
     ensures { IfOk result (λ e. expr_of e ≡ var (drawn_name number)) }
 {
@@ -56,14 +59,14 @@ pub fn temporary<A: Allocator + Copy>(alloc: &A, number: usize) -> Result<Expr<A
 }
 
 /// The negation of an expression.
-pub fn not<A: Allocator + Copy>(alloc: &A, e: Expr<A>) -> Result<Expr<A>, AllocError>
+pub(crate) fn not<A: Allocator + Copy>(alloc: &A, e: Expr<A>) -> Result<Expr<A>, AllocError>
     ensures { IfOk result (λ r. expr_of r ≡ negation (expr_of e)) }
 {
     Ok(Expr::Not(Box::new(*alloc, e)?))
 }
 
 /// An operator between two expressions.
-pub fn operation<A: Allocator + Copy>(
+pub(crate) fn operation<A: Allocator + Copy>(
     alloc: &A,
     op: Op,
     left: Expr<A>,
@@ -111,7 +114,7 @@ impl<'a, N: Allocator, A: Allocator + Copy> Writer<'a, N, A> {
     ghost use Rattle.round_rewrite.specs.Writing.{naming_of};
 
     /// Whether a variable of the procedure is a global.
-    pub fn is_shared(&self, x: &Name<N>) -> bool
+    pub(crate) fn is_shared(&self, x: &Name<N>) -> bool
         ensures { result ≡ (naming_of self.now).is_shared (name_of x.now) }
     {
         let text = x.text.as_str();
@@ -119,7 +122,7 @@ impl<'a, N: Allocator, A: Allocator + Copy> Writer<'a, N, A> {
     }
 
     /// The test that the round is `round`.
-    pub fn at(&self, round: u8) -> Result<Expr<A>, AllocError>
+    pub(crate) fn in_round(&self, round: u8) -> Result<Expr<A>, AllocError>
         ensures { IfOk result
             (λ e. expr_of e ≡ in_round (naming_of self.now) self.now.rounds.last round) }
     {
@@ -132,7 +135,7 @@ impl<'a, N: Allocator, A: Allocator + Copy> Writer<'a, N, A> {
             (in_round (naming_of self.now) self.now.rounds.last round)
             (expr_of e)) }
     {
-        let is_round = self.at(round)?;
+        let is_round = self.in_round(round)?;
         operation(self.alloc, Op::And, is_round, e)
     }
 
@@ -148,9 +151,10 @@ impl<'a, N: Allocator, A: Allocator + Copy> Writer<'a, N, A> {
     }
 
     /// A read of a global: its copy for the round.
-    fn joined(&self, x: &Name<N>) -> Result<Expr<A>, AllocError>
+    fn read_by_round(&self, x: &Name<N>) -> Result<Expr<A>, AllocError>
         ensures { IfOk result
-            (λ e. expr_of e ≡ joined (naming_of self.now) self.now.rounds.last self.now.rounds.last
+            (λ e. expr_of e
+            ≡ read_by_round (naming_of self.now) self.now.rounds.last self.now.rounds.last
             (name_of x.now)) }
     {
         let mut join = self.active(0, x)?;
@@ -167,17 +171,17 @@ impl<'a, N: Allocator, A: Allocator + Copy> Writer<'a, N, A> {
             (λ e. expr_of e ≡ read (naming_of self.now) self.now.rounds.last (name_of x.now)) }
     {
         if self.is_shared(x) {
-            self.joined(x)
+            self.read_by_round(x)
         } else {
-            Ok(Expr::Var(again(*self.alloc, x)?))
+            Ok(Expr::Var(clone_name(*self.alloc, x)?))
         }
     }
 
     /// An expression, with each read of a global rewritten in this way.
-    pub fn expression(&self, e: &Expr<N>) -> Result<Expr<A>, AllocError>
+    pub(crate) fn expression(&self, e: &Expr<N>) -> Result<Expr<A>, AllocError>
         ensures { IfOk result
             (λ r. expr_of r
-            ≡ expression (naming_of self.now) self.now.rounds.last (expr_of e.now)) }
+            ≡ expression_form (naming_of self.now) self.now.rounds.last (expr_of e.now)) }
     {
         match e {
             Expr::Const(b) => Ok(Expr::Const(*b)),
@@ -195,7 +199,7 @@ impl<'a, N: Allocator, A: Allocator + Copy> Writer<'a, N, A> {
     }
 
     /// A right side, with each read of a global rewritten in this way.
-    pub fn side(&self, r: &Rhs<N>) -> Result<Rhs<A>, AllocError>
+    pub(crate) fn side(&self, r: &Rhs<N>) -> Result<Rhs<A>, AllocError>
         ensures { IfOk result
             (λ s. rhs_of s ≡ side (naming_of self.now) self.now.rounds.last (rhs_of r.now)) }
     {
@@ -206,9 +210,9 @@ impl<'a, N: Allocator, A: Allocator + Copy> Writer<'a, N, A> {
     }
 
     /// Arguments, with each read of a global rewritten in this way.
-    pub fn arguments(&self, es: &[Expr<N>]) -> Result<Vec<Expr<A>, A>, AllocError>
+    pub(crate) fn arguments(&self, es: &[Expr<N>]) -> Result<Vec<Expr<A>, A>, AllocError>
         ensures { IfOk result
-            (λ v. exprs_of v.items ≡ map (expression (naming_of self.now) self.now.rounds.last)
+            (λ v. exprs_of v.items ≡ map (expression_form (naming_of self.now) self.now.rounds.last)
             (exprs_of es.now)) }
     {
         let mut list = Vec::new(*self.alloc);
@@ -219,14 +223,14 @@ impl<'a, N: Allocator, A: Allocator + Copy> Writer<'a, N, A> {
     }
 
     /// The copy of a global for a round, if the round is another one.
-    fn kept(&self, x: &Name<N>, round: u8) -> Result<Expr<A>, AllocError>
+    fn unless_in_round(&self, x: &Name<N>, round: u8) -> Result<Expr<A>, AllocError>
         requires { round < most_rounds }
         ensures { IfOk result
             (λ e. expr_of e ≡ two Rattle.language.specs.Tree.and
             (negation (in_round (naming_of self.now) self.now.rounds.last round))
             (var (copy_name round (name_of x.now)))) }
     {
-        let is_round = self.at(round)?;
+        let is_round = self.in_round(round)?;
         let other = not(self.alloc, is_round)?;
         let copy = copy_of(self.alloc, round, x)?;
         operation(self.alloc, Op::And, other, copy)
@@ -234,14 +238,19 @@ impl<'a, N: Allocator, A: Allocator + Copy> Writer<'a, N, A> {
 
     /// What the copy of a global for a round gets if the global gets `value`: in that round the value, in every
     /// other its own.
-    pub fn written(&self, value: Expr<A>, x: &Name<N>, round: u8) -> Result<Rhs<A>, AllocError>
+    pub(crate) fn copy_value(
+        &self,
+        value: Expr<A>,
+        x: &Name<N>,
+        round: u8,
+    ) -> Result<Rhs<A>, AllocError>
         requires { round < most_rounds }
         ensures { IfOk result
-            (λ r. rhs_of r ≡ written (naming_of self.now) self.now.rounds.last (expr_of value)
+            (λ r. rhs_of r ≡ copy_value (naming_of self.now) self.now.rounds.last (expr_of value)
             (name_of x.now) round) }
     {
         let new = self.guarded(value, round)?;
-        let old = self.kept(x, round)?;
+        let old = self.unless_in_round(x, round)?;
         Ok(Rhs::Value(operation(self.alloc, Op::Or, new, old)?))
     }
 }

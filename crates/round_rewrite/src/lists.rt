@@ -4,17 +4,17 @@ ghost use Rattle.std.specs.Prelude.{◌≡◌, ◌++◌, ◌<◌, suc, decimal, 
 ghost use Rattle.language.specs.Tree.{any, const, var, value};
 ghost use Rattle.trees.specs.Trees.{names_of, rhss_of};
 ghost use Rattle.round_rewrite.specs.Table.{each};
-ghost use Rattle.round_rewrite.specs.Names.{named, copy_name, save_name};
+ghost use Rattle.round_rewrite.specs.Names.{fresh_name, copy_name, save_name};
 ghost use Rattle.round_rewrite.specs.Limits.{most_rounds};
 
 use crate::cores::constant;
 use crate::expression::copy_of;
-use crate::names::{again, numbered};
+use crate::names::{clone_name, numbered};
 use std::alloc::{AllocError, Allocator};
 use trees::{Name, Rhs};
 
 /// Appends copies of names to others.
-pub fn all_again<N: Allocator, A: Allocator + Copy>(
+pub(crate) fn clone_names<N: Allocator, A: Allocator + Copy>(
     alloc: &A,
     xs: &[Name<N>],
     into: Vec<Name<A>, A>,
@@ -23,7 +23,7 @@ pub fn all_again<N: Allocator, A: Allocator + Copy>(
 {
     let mut list = into;
     for x in xs {
-        list.push(again(*alloc, x)?)?;
+        list.push(clone_name(*alloc, x)?)?;
     }
     Ok(list)
 }
@@ -38,7 +38,7 @@ fn numbered_all<N: Allocator, A: Allocator + Copy>(
 ) -> Result<Vec<Name<A>, A>, AllocError>
     requires { round < most_rounds }
     ensures { IfOk result (λ v. names_of v.items
-        ≡ names_of into.items ++ map (λ x. named (x.text ++ (mark.now ++ decimal (suc round))))
+        ≡ names_of into.items ++ map (λ x. fresh_name (x.text ++ (mark.now ++ decimal (suc round))))
         (names_of xs.now)) }
 {
     let mut list = into;
@@ -49,7 +49,7 @@ fn numbered_all<N: Allocator, A: Allocator + Copy>(
 }
 
 /// Appends the copies of globals for a round to names.
-pub fn copies<N: Allocator, A: Allocator + Copy>(
+pub(crate) fn copies<N: Allocator, A: Allocator + Copy>(
     alloc: &A,
     round: u8,
     xs: &[Name<N>],
@@ -63,7 +63,7 @@ pub fn copies<N: Allocator, A: Allocator + Copy>(
 }
 
 /// Appends the guesses of globals that are saved for a round to names.
-pub fn saves<N: Allocator, A: Allocator + Copy>(
+pub(crate) fn saves<N: Allocator, A: Allocator + Copy>(
     alloc: &A,
     round: u8,
     xs: &[Name<N>],
@@ -77,7 +77,7 @@ pub fn saves<N: Allocator, A: Allocator + Copy>(
 }
 
 /// A `?` for each name.
-pub fn guessed<N: Allocator, A: Allocator>(
+pub(crate) fn guessed<N: Allocator, A: Allocator>(
     alloc: A,
     xs: &[Name<N>],
 ) -> Result<Vec<Rhs<A>, A>, AllocError>
@@ -91,7 +91,7 @@ pub fn guessed<N: Allocator, A: Allocator>(
 }
 
 /// A 0 for each name.
-pub fn zeros<N: Allocator, A: Allocator>(
+pub(crate) fn zeros<N: Allocator, A: Allocator>(
     alloc: A,
     xs: &[Name<N>],
 ) -> Result<Vec<Rhs<A>, A>, AllocError>
@@ -105,7 +105,7 @@ pub fn zeros<N: Allocator, A: Allocator>(
 }
 
 /// The copies of globals for a round, as right sides.
-pub fn reads<N: Allocator, A: Allocator + Copy>(
+pub(crate) fn reads<N: Allocator, A: Allocator + Copy>(
     alloc: &A,
     round: u8,
     xs: &[Name<N>],

@@ -5,15 +5,15 @@ ghost use Rattle.language.specs.Tree.{equal, var, value, two, const, assign, ass
 ghost use Rattle.trees.specs.Trees.{simple, name_of, names_of, threads_of, deed_of, block_of};
 ghost use Rattle.round_rewrite.specs.Table.{numbers, each, reset_targets, guess, guesses};
 ghost use Rattle.round_rewrite.specs.Table.{starts, check, checks, main};
-ghost use Rattle.round_rewrite.specs.Names.{names, copy_name, save_name};
-ghost use Rattle.round_rewrite.specs.Writing.{Lays, line_names};
+ghost use Rattle.round_rewrite.specs.Names.{spelling, copy_name, save_name};
+ghost use Rattle.round_rewrite.specs.Writing.{Appends, line_names};
 ghost use Rattle.round_rewrite.specs.Limits.{most_rounds};
 
 use crate::block::push;
 use crate::cores::{push_bits, push_name};
 use crate::expression::{copy_of, operation, read_of};
 use crate::lists::{copies, guessed, reads, saves, zeros};
-use crate::names::{again, save};
+use crate::names::{clone_name, save};
 use crate::rounds::Rounds;
 use std::alloc::{AllocError, Allocator};
 use trees::{Core, Name, Op, Rhs, Stmt, Thread};
@@ -27,9 +27,8 @@ fn guess<N: Allocator, A: Allocator + Copy>(
     into: &mut Vec<Stmt<A>, A>,
 ) -> Result<(), AllocError>
     requires { round < most_rounds }
-    ensures { IfOk result
-        (λ _.
-        Lays into.old.items into.new.items (λ k. guess (names []) last (names_of xs.now) round k)) }
+    ensures { Appends result into.old.items into.new.items
+        (guess (spelling []) last (names_of xs.now) round) }
 {
     let Some((_first, _)) = xs.split_first() else {
         return Ok(());
@@ -49,8 +48,8 @@ fn guesses<N: Allocator, A: Allocator + Copy>(
     xs: &[Name<N>],
     into: &mut Vec<Stmt<A>, A>,
 ) -> Result<(), AllocError>
-    ensures { IfOk result (λ _. Lays into.old.items into.new.items
-        (λ k. guesses (names []) rounds.last (names_of xs.now) (numbers 1 rounds.last) k)) }
+    ensures { Appends result into.old.items into.new.items
+        (guesses (spelling []) rounds.last (names_of xs.now) (numbers 1 rounds.last)) }
 {
     for before in 0..rounds.last {
         guess(alloc, rounds.last, before + 1, xs, into)?;
@@ -61,8 +60,8 @@ fn guesses<N: Allocator, A: Allocator + Copy>(
 /// The assignment of 0 to the round and `stop__`.
 fn reset<A: Allocator + Copy>(alloc: &A, rounds: Rounds) -> Result<Core<A>, AllocError>
     ensures { IfOk result (λ c. deed_of c
-        ≡ simple (assign (reset_targets (names []) rounds.last)
-        (each (value (const false)) (reset_targets (names []) rounds.last)))) }
+        ≡ simple (assign (reset_targets (spelling []) rounds.last)
+        (each (value (const false)) (reset_targets (spelling []) rounds.last)))) }
 {
     let bits = push_bits(alloc, rounds.bits(), Vec::new(*alloc))?;
     let targets = push_name(alloc, "stop__", bits)?;
@@ -77,12 +76,12 @@ fn starts<N: Allocator, A: Allocator + Copy>(
     threads: &[Thread<N>],
     into: &mut Vec<Stmt<A>, A>,
 ) -> Result<(), AllocError>
-    ensures { IfOk result (λ _. Lays into.old.items into.new.items
-        (λ k. starts (names []) rounds.last (line_names (threads_of threads.now)) k)) }
+    ensures { Appends result into.old.items into.new.items
+        (starts (spelling []) rounds.last (line_names (threads_of threads.now))) }
 {
     for thread in threads {
         push(reset(alloc, rounds)?, into)?;
-        let name = again(*alloc, &thread.name)?;
+        let name = clone_name(*alloc, &thread.name)?;
         push(Core::Call(name, Vec::new(*alloc)), into)?;
     }
     Ok(())
@@ -115,9 +114,8 @@ fn check<N: Allocator, A: Allocator + Copy>(
     into: &mut Vec<Stmt<A>, A>,
 ) -> Result<(), AllocError>
     requires { round + 1 < most_rounds }
-    ensures { IfOk result
-        (λ _.
-        Lays into.old.items into.new.items (λ k. check (names []) last (names_of xs.now) round k)) }
+    ensures { Appends result into.old.items into.new.items
+        (check (spelling []) last (names_of xs.now) round) }
 {
     for x in xs {
         push(agrees(alloc, round, x)?, into)?;
@@ -132,8 +130,8 @@ fn checks<N: Allocator, A: Allocator + Copy>(
     xs: &[Name<N>],
     into: &mut Vec<Stmt<A>, A>,
 ) -> Result<(), AllocError>
-    ensures { IfOk result (λ _. Lays into.old.items into.new.items
-        (λ k. checks (names []) rounds.last (names_of xs.now) (numbers 0 rounds.last) k)) }
+    ensures { Appends result into.old.items into.new.items
+        (checks (spelling []) rounds.last (names_of xs.now) (numbers 0 rounds.last)) }
 {
     for round in 0..rounds.last {
         check(alloc, rounds.last, round, xs, into)?;
@@ -142,14 +140,15 @@ fn checks<N: Allocator, A: Allocator + Copy>(
 }
 
 /// The body of the first procedure.
-pub fn main_body<N: Allocator, A: Allocator + Copy>(
+pub(crate) fn main_body<N: Allocator, A: Allocator + Copy>(
     alloc: &A,
     rounds: Rounds,
     xs: &[Name<N>],
     threads: &[Thread<N>],
 ) -> Result<Vec<Stmt<A>, A>, AllocError>
     ensures { IfOk result (λ v. block_of v.items
-        ≡ main (names []) rounds.last (names_of xs.now) (line_names (threads_of threads.now))) }
+        ≡ main (spelling []) rounds.last (names_of xs.now)
+        (line_names (threads_of threads.now))) }
 {
     let mut body = Vec::new(*alloc);
     guesses(alloc, rounds, xs, &mut body)?;

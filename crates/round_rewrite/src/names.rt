@@ -2,7 +2,7 @@
 
 ghost use Rattle.std.specs.Prelude.{◌≡◌, ◌<◌, ◌++◌, ◌^◌, suc, decimal, IfOk};
 ghost use Rattle.trees.specs.Trees.{name_of};
-ghost use Rattle.round_rewrite.specs.Names.{named, bit_name, copy_name, save_name};
+ghost use Rattle.round_rewrite.specs.Names.{fresh_name, bit_name, copy_name, save_name};
 ghost use Rattle.round_rewrite.specs.Names.{drawn_name};
 ghost use Rattle.round_rewrite.specs.Limits.{most_rounds};
 
@@ -10,15 +10,15 @@ use std::alloc::{AllocError, Allocator};
 use trees::Name;
 
 /// A name that occurs in no text.
-pub fn fixed<A: Allocator>(alloc: A, text: &str) -> Result<Name<A>, AllocError>
-    ensures { IfOk result (λ n. name_of n ≡ named text.now) }
+pub(crate) fn fixed<A: Allocator>(alloc: A, text: &str) -> Result<Name<A>, AllocError>
+    ensures { IfOk result (λ n. name_of n ≡ fresh_name text.now) }
 {
     let text = String::from_str(alloc, text)?;
     Ok(Name { text, at: 0 })
 }
 
 /// The name of a bit of the round's number, by its own number, where the low bit is 0.
-pub fn bit<A: Allocator>(alloc: A, number: u8) -> Result<Name<A>, AllocError>
+pub(crate) fn bit<A: Allocator>(alloc: A, number: u8) -> Result<Name<A>, AllocError>
     ensures { IfOk result (λ n. name_of n ≡ bit_name number) }
 {
     match number {
@@ -29,7 +29,10 @@ pub fn bit<A: Allocator>(alloc: A, number: u8) -> Result<Name<A>, AllocError>
 }
 
 /// A copy of the name.
-pub fn again<N: Allocator, A: Allocator>(alloc: A, x: &Name<N>) -> Result<Name<A>, AllocError>
+pub(crate) fn clone_name<N: Allocator, A: Allocator>(
+    alloc: A,
+    x: &Name<N>,
+) -> Result<Name<A>, AllocError>
     ensures { IfOk result (λ n. name_of n ≡ name_of x.now) }
 {
     let text = String::from_str(alloc, x.text.as_str())?;
@@ -37,7 +40,7 @@ pub fn again<N: Allocator, A: Allocator>(alloc: A, x: &Name<N>) -> Result<Name<A
 }
 
 /// The name of a global with a mark and a round's number after it; the round is counted from 0, the number from 1.
-pub fn numbered<N: Allocator, A: Allocator>(
+pub(crate) fn numbered<N: Allocator, A: Allocator>(
     alloc: A,
     x: &Name<N>,
     mark: &str,
@@ -45,7 +48,7 @@ pub fn numbered<N: Allocator, A: Allocator>(
 ) -> Result<Name<A>, AllocError>
     requires { round < most_rounds }
     ensures { IfOk result
-        (λ n. name_of n ≡ named ((name_of x.now).text ++ (mark.now ++ decimal (suc round)))) }
+        (λ n. name_of n ≡ fresh_name ((name_of x.now).text ++ (mark.now ++ decimal (suc round)))) }
 {
     let text = x.text.as_str();
     let number = round + 1;
@@ -54,7 +57,7 @@ pub fn numbered<N: Allocator, A: Allocator>(
 }
 
 /// The copy of a global for a round, counted from 0.
-pub fn copy<N: Allocator, A: Allocator>(
+pub(crate) fn copy<N: Allocator, A: Allocator>(
     alloc: A,
     round: u8,
     x: &Name<N>,
@@ -66,7 +69,7 @@ pub fn copy<N: Allocator, A: Allocator>(
 }
 
 /// The guess of a global that is saved for a round, counted from 0.
-pub fn save<N: Allocator, A: Allocator>(
+pub(crate) fn save<N: Allocator, A: Allocator>(
     alloc: A,
     round: u8,
     x: &Name<N>,
@@ -78,7 +81,7 @@ pub fn save<N: Allocator, A: Allocator>(
 }
 
 /// A temporary, counted from 0.
-pub fn drawn<A: Allocator>(alloc: A, number: usize) -> Result<Name<A>, AllocError>
+pub(crate) fn drawn<A: Allocator>(alloc: A, number: usize) -> Result<Name<A>, AllocError>
     requires { number < 2 ^ 63 }
     ensures { IfOk result (λ n. name_of n ≡ drawn_name number) }
 {

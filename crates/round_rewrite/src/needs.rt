@@ -3,7 +3,7 @@
 ghost use Rattle.std.specs.Prelude.{◌≡◌, max, option_map};
 ghost use Rattle.trees.specs.Trees.{name_of, deed_of, block_of};
 ghost use Rattle.trees.specs.Parts.{head_of};
-ghost use Rattle.round_rewrite.specs.Table.{takes, draws_of, temporaries};
+ghost use Rattle.round_rewrite.specs.Table.{receiver_draws, draws_of, temporaries};
 ghost use Rattle.round_rewrite.specs.Writing.{deed_needs};
 
 use crate::writer::Writer;
@@ -21,8 +21,8 @@ impl<'a, N: Allocator, A: Allocator + Copy> Writer<'a, N, A> {
     ghost use Rattle.round_rewrite.specs.Writing.{naming_of};
 
     /// How many temporaries the value of a call takes: one if a global gets it.
-    fn takes(&self, receiver: Option<&Name<N>>) -> usize
-        ensures { result ≡ takes (naming_of self.now).is_shared
+    fn receiver_draws(&self, receiver: Option<&Name<N>>) -> usize
+        ensures { result ≡ receiver_draws (naming_of self.now).is_shared
             (option_map (λ r. name_of r.now) receiver.entry) }
     {
         match receiver {
@@ -36,14 +36,14 @@ impl<'a, N: Allocator, A: Allocator + Copy> Writer<'a, N, A> {
         ensures { result ≡ draws_of (naming_of self.now).is_shared (head_of (deed_of core.now)) }
     {
         larger(
-            self.takes(core.receiver()),
+            self.receiver_draws(core.receiver()),
             self.draws(core.targets(), core.sides()),
         )
     }
 
     /// How many temporaries statements need: as many as the one that needs most.
     #[cycle(needs)]
-    pub fn needs(&self, stmts: &[Stmt<N>]) -> usize
+    pub(crate) fn needs(&self, stmts: &[Stmt<N>]) -> usize
         ensures { result ≡ temporaries (naming_of self.now).is_shared (block_of stmts.now) }
     {
         let mut number = 0;

@@ -8,9 +8,9 @@ ghost use Rattle.round_rewrite.specs.Writing.{procedure_needs, AreFew};
 ghost use Rattle.resolved.specs.Limits.{most_places};
 
 use crate::assignment::temporaries;
-use crate::lists::all_again;
+use crate::lists::clone_names;
 use crate::main_procedure::main_body;
-use crate::names::{again, fixed};
+use crate::names::{clone_name, fixed};
 use crate::rounds::Rounds;
 use crate::writer::Writer;
 use std::alloc::{AllocError, Allocator};
@@ -31,9 +31,9 @@ fn procedure<N: Allocator, A: Allocator + Copy>(
         formals: proc.formals.as_slice(),
         locals: proc.locals.as_slice(),
     };
-    let name = again(*alloc, &proc.name)?;
-    let formals = all_again(alloc, &proc.formals, Vec::new(*alloc))?;
-    let kept = all_again(alloc, &proc.locals, Vec::new(*alloc))?;
+    let name = clone_name(*alloc, &proc.name)?;
+    let formals = clone_names(alloc, &proc.formals, Vec::new(*alloc))?;
+    let kept = clone_names(alloc, &proc.locals, Vec::new(*alloc))?;
     let locals = temporaries(alloc, kept, writer.needs(&proc.body))?;
     let body = writer.rewritten(&proc.body)?;
     Ok(Proc {
@@ -65,7 +65,7 @@ fn first<N: Allocator, A: Allocator + Copy>(
 }
 
 /// The procedures, the first one first.
-pub fn procedures<N: Allocator, A: Allocator + Copy>(
+pub(crate) fn procedures<N: Allocator, A: Allocator + Copy>(
     alloc: &A,
     rounds: Rounds,
     program: &Program<N>,

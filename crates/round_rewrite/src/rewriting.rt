@@ -4,7 +4,7 @@ ghost use Rattle.std.specs.Prelude.{◌≡◌, [], ◌∷◌, IfOk, IfErr, codes
 ghost use Rattle.grammar.specs.InGrammar.{InGrammar};
 ghost use Rattle.trees.specs.Trees.{threads_of, tree_of};
 ghost use Rattle.round_rewrite.specs.Law.{KeepsTree};
-ghost use Rattle.round_rewrite.specs.Names.{named, rewritten_for};
+ghost use Rattle.round_rewrite.specs.Names.{fresh_name, rewritten_for};
 ghost use Rattle.round_rewrite.specs.Narrow.{IsNarrowFor};
 ghost use Rattle.round_rewrite.specs.Programs.{IsFaultOf, count_of};
 ghost use Rattle.resolved.specs.Programs.{sequential_tree};
@@ -24,7 +24,7 @@ use trees::{Program, Thread};
 /// The one thread line: that of the first procedure.
 fn threads<A: Allocator + Copy>(alloc: &A) -> Result<Vec<Thread<A>, A>, AllocError>
     ensures { IfOk result
-        (λ v. threads_of v.items ≡ record { at = 0; name = named (codes "main__") } ∷ []) }
+        (λ v. threads_of v.items ≡ record { at = 0; name = fresh_name (codes "main__") } ∷ []) }
 {
     let mut list = Vec::new(*alloc);
     let name = fixed(*alloc, "main__")?;
@@ -33,7 +33,7 @@ fn threads<A: Allocator + Copy>(alloc: &A) -> Result<Vec<Thread<A>, A>, AllocErr
 }
 
 /// The rewritten program of a program that is narrow enough.
-fn written<N: Allocator, A: Allocator + Copy>(
+fn narrow_rewritten<N: Allocator, A: Allocator + Copy>(
     alloc: &A,
     rounds: Rounds,
     program: &Program<N>,
@@ -74,6 +74,6 @@ pub fn rewrite<N: Allocator, A: Allocator + Copy>(
     if !is_narrow(alloc, rounds, source) {
         return Err(RewriteFault::TooWide);
     }
-    let program = written(alloc, rounds, source)?;
+    let program = narrow_rewritten(alloc, rounds, source)?;
     Ok(Sequential { program })
 }

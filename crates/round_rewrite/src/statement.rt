@@ -4,14 +4,14 @@ ghost use Rattle.std.specs.Prelude.{◌≡◌, ◌<◌, ◌^◌, [], IfOk, cond,
 ghost use Rattle.language.specs.Tree.{goto, assert, assume, assign, call, call_for, leave_with};
 ghost use Rattle.trees.specs.Trees.{simple, branch, repeat, name_of, names_of, rhs_of, rhss_of};
 ghost use Rattle.trees.specs.Trees.{expr_of, exprs_of, items_of, deed_of, block_of};
-ghost use Rattle.round_rewrite.specs.Table.{drawing, prologue, received, receiver, expression};
+ghost use Rattle.round_rewrite.specs.Table.{drawing, prologue, received, receiver, expression_form};
 ghost use Rattle.round_rewrite.specs.Table.{statement};
-ghost use Rattle.round_rewrite.specs.Writing.{Lays, bare_form, forms};
+ghost use Rattle.round_rewrite.specs.Writing.{Appends, Lays, bare_form, forms};
 
 use crate::assignment::{any_values, temporaries};
 use crate::block::{push, push_marked};
 use crate::cores::{checked, stop_choice, stop_test};
-use crate::names::{again, drawn};
+use crate::names::{clone_name, drawn};
 use crate::writer::Writer;
 use std::alloc::{AllocError, Allocator};
 use trees::{Core, Expr, Name, Rhs, Stmt};
@@ -26,9 +26,9 @@ impl<'a, N: Allocator, A: Allocator + Copy> Writer<'a, N, A> {
         at: u32,
         into: &mut Vec<Stmt<A>, A>,
     ) -> Result<(), AllocError>
-        ensures { IfOk result (λ _. Lays into.old.items into.new.items
-            (λ k. prologue (naming_of self.now) self.now.rounds.last
-            (record { label = option_map name_of label; at = at }) k)) }
+        ensures { Appends result into.old.items into.new.items
+            (prologue (naming_of self.now) self.now.rounds.last
+            (record { label = option_map name_of label; at = at })) }
     {
         push_marked(label, at, self.rising()?, into)?;
         push(stop_choice(self.alloc)?, into)?;
@@ -38,8 +38,8 @@ impl<'a, N: Allocator, A: Allocator + Copy> Writer<'a, N, A> {
     /// Appends the draw of a given number of temporaries, if any, to others.
     fn drawing(&self, number: usize, into: &mut Vec<Stmt<A>, A>) -> Result<(), AllocError>
         requires { number < 2 ^ 63 }
-        ensures { IfOk result (λ _. Lays into.old.items into.new.items
-            (λ k. drawing (naming_of self.now) self.now.rounds.last number k)) }
+        ensures { Appends result into.old.items into.new.items
+            (drawing (naming_of self.now) self.now.rounds.last number) }
     {
         if number == 0 {
             return Ok(());
@@ -56,10 +56,9 @@ impl<'a, N: Allocator, A: Allocator + Copy> Writer<'a, N, A> {
         rs: &[Rhs<N>],
         into: &mut Vec<Stmt<A>, A>,
     ) -> Result<(), AllocError>
-        ensures { IfOk result (λ _. Lays into.old.items into.new.items
-            (λ k.
-            statement (naming_of self.now) self.now.rounds.last
-            (assign (names_of xs.now) (rhss_of rs.now)) k)) }
+        ensures { Appends result into.old.items into.new.items
+            (statement (naming_of self.now) self.now.rounds.last
+            (assign (names_of xs.now) (rhss_of rs.now))) }
     {
         self.drawing(self.draws(xs, rs), into)?;
         let mut targets = Vec::new(*self.alloc);
@@ -76,12 +75,11 @@ impl<'a, N: Allocator, A: Allocator + Copy> Writer<'a, N, A> {
         es: &[Expr<N>],
         into: &mut Vec<Stmt<A>, A>,
     ) -> Result<(), AllocError>
-        ensures { IfOk result (λ _. Lays into.old.items into.new.items
-            (λ k.
-            statement (naming_of self.now) self.now.rounds.last
-            (call (name_of p.now) (exprs_of es.now)) k)) }
+        ensures { Appends result into.old.items into.new.items
+            (statement (naming_of self.now) self.now.rounds.last
+            (call (name_of p.now) (exprs_of es.now))) }
     {
-        let name = again(*self.alloc, p)?;
+        let name = clone_name(*self.alloc, p)?;
         let arguments = self.arguments(es)?;
         push(Core::Call(name, arguments), into)?;
         push(stop_test(self.alloc)?, into)
@@ -89,9 +87,8 @@ impl<'a, N: Allocator, A: Allocator + Copy> Writer<'a, N, A> {
 
     /// Appends the rewriting of a return of a value to others.
     fn given(&self, e: &Expr<N>, into: &mut Vec<Stmt<A>, A>) -> Result<(), AllocError>
-        ensures { IfOk result (λ _. Lays into.old.items into.new.items
-            (λ k.
-            statement (naming_of self.now) self.now.rounds.last (leave_with (expr_of e.now)) k)) }
+        ensures { Appends result into.old.items into.new.items
+            (statement (naming_of self.now) self.now.rounds.last (leave_with (expr_of e.now))) }
     {
         let value = self.expression(e)?;
         push(Core::Give(value), into)
@@ -105,14 +102,14 @@ impl<'a, N: Allocator, A: Allocator + Copy> Writer<'a, N, A> {
         if self.is_shared(x) {
             drawn(*self.alloc, 0)
         } else {
-            again(*self.alloc, x)
+            clone_name(*self.alloc, x)
         }
     }
 
     /// Appends what gives a global the value of a call, after a prologue of its own, to others.
     fn received(&self, x: &Name<N>, into: &mut Vec<Stmt<A>, A>) -> Result<(), AllocError>
-        ensures { IfOk result (λ _. Lays into.old.items into.new.items
-            (λ k. received (naming_of self.now) self.now.rounds.last (name_of x.now) k)) }
+        ensures { Appends result into.old.items into.new.items
+            (received (naming_of self.now) self.now.rounds.last (name_of x.now)) }
     {
         self.prologue(None, 0, into)?;
         let mut targets = Vec::new(*self.alloc);
@@ -124,10 +121,10 @@ impl<'a, N: Allocator, A: Allocator + Copy> Writer<'a, N, A> {
 
     /// Appends what comes after the call for a value, if a global gets it, to others.
     fn landing(&self, x: &Name<N>, into: &mut Vec<Stmt<A>, A>) -> Result<(), AllocError>
-        ensures { IfOk result (λ _. Lays into.old.items into.new.items
-            (λ k.
+        ensures { Appends result into.old.items into.new.items
+            (λ rest.
             cond ((naming_of self.now).is_shared (name_of x.now))
-            (received (naming_of self.now) self.now.rounds.last (name_of x.now) k) k)) }
+            (received (naming_of self.now) self.now.rounds.last (name_of x.now) rest) rest) }
     {
         if self.is_shared(x) {
             self.received(x, into)
@@ -142,10 +139,10 @@ impl<'a, N: Allocator, A: Allocator + Copy> Writer<'a, N, A> {
             (λ c. deed_of c
             ≡ simple (call_for
             (receiver (naming_of self.now) self.now.rounds.last (name_of x.now)) (name_of p.now)
-            (map (expression (naming_of self.now) self.now.rounds.last) (exprs_of es.now)))) }
+            (map (expression_form (naming_of self.now) self.now.rounds.last) (exprs_of es.now)))) }
     {
         let target = self.receiver(x)?;
-        let name = again(*self.alloc, p)?;
+        let name = clone_name(*self.alloc, p)?;
         let arguments = self.arguments(es)?;
         Ok(Core::CallTo(target, name, arguments))
     }
@@ -158,10 +155,9 @@ impl<'a, N: Allocator, A: Allocator + Copy> Writer<'a, N, A> {
         es: &[Expr<N>],
         into: &mut Vec<Stmt<A>, A>,
     ) -> Result<(), AllocError>
-        ensures { IfOk result (λ _. Lays into.old.items into.new.items
-            (λ k.
-            statement (naming_of self.now) self.now.rounds.last
-            (call_for (name_of x.now) (name_of p.now) (exprs_of es.now)) k)) }
+        ensures { Appends result into.old.items into.new.items
+            (statement (naming_of self.now) self.now.rounds.last
+            (call_for (name_of x.now) (name_of p.now) (exprs_of es.now))) }
     {
         push(self.called(x, p, es)?, into)?;
         push(stop_test(self.alloc)?, into)?;
@@ -173,7 +169,7 @@ impl<'a, N: Allocator, A: Allocator + Copy> Writer<'a, N, A> {
         ensures { IfOk result (λ l. option_map name_of l ≡ option_map name_of label.now) }
     {
         match label {
-            Some(name) => Ok(Some(again(*self.alloc, name)?)),
+            Some(name) => Ok(Some(clone_name(*self.alloc, name)?)),
             None => Ok(None),
         }
     }
@@ -181,8 +177,8 @@ impl<'a, N: Allocator, A: Allocator + Copy> Writer<'a, N, A> {
     /// Appends the rewriting of statements to others.
     #[cycle(rewriting)]
     fn block(&self, stmts: &[Stmt<N>], into: &mut Vec<Stmt<A>, A>) -> Result<(), AllocError>
-        ensures { IfOk result (λ _. Lays into.old.items into.new.items
-            (λ k. forms (naming_of self.now) self.now.rounds.last (items_of stmts.now) k)) }
+        ensures { Appends result into.old.items into.new.items
+            (forms (naming_of self.now) self.now.rounds.last (items_of stmts.now)) }
     {
         for stmt in stmts {
             let label = self.label(&stmt.label)?;
@@ -194,7 +190,7 @@ impl<'a, N: Allocator, A: Allocator + Copy> Writer<'a, N, A> {
 
     /// What statements are rewritten to.
     #[cycle(rewriting)]
-    pub fn rewritten(&self, stmts: &[Stmt<N>]) -> Result<Vec<Stmt<A>, A>, AllocError>
+    pub(crate) fn rewritten(&self, stmts: &[Stmt<N>]) -> Result<Vec<Stmt<A>, A>, AllocError>
         ensures { IfOk result (λ v. Lays [] v.items
             (λ k. forms (naming_of self.now) self.now.rounds.last (items_of stmts.now) k)) }
     {
@@ -205,17 +201,17 @@ impl<'a, N: Allocator, A: Allocator + Copy> Writer<'a, N, A> {
 
     /// Appends a `goto` to others.
     fn jump(&self, l: &Name<N>, into: &mut Vec<Stmt<A>, A>) -> Result<(), AllocError>
-        ensures { IfOk result (λ _. Lays into.old.items into.new.items
-            (λ k. statement (naming_of self.now) self.now.rounds.last (goto (name_of l.now)) k)) }
+        ensures { Appends result into.old.items into.new.items
+            (statement (naming_of self.now) self.now.rounds.last (goto (name_of l.now))) }
     {
-        let label = again(*self.alloc, l)?;
+        let label = clone_name(*self.alloc, l)?;
         push(Core::Goto(label), into)
     }
 
     /// Appends the rewriting of an assert to others.
     fn asserted(&self, r: &Rhs<N>, into: &mut Vec<Stmt<A>, A>) -> Result<(), AllocError>
-        ensures { IfOk result (λ _. Lays into.old.items into.new.items
-            (λ k. statement (naming_of self.now) self.now.rounds.last (assert (rhs_of r.now)) k)) }
+        ensures { Appends result into.old.items into.new.items
+            (statement (naming_of self.now) self.now.rounds.last (assert (rhs_of r.now))) }
     {
         let core = checked(self.alloc, self.side(r)?)?;
         push(core, into)
@@ -223,8 +219,8 @@ impl<'a, N: Allocator, A: Allocator + Copy> Writer<'a, N, A> {
 
     /// Appends the rewriting of an assume to others.
     fn assumed(&self, r: &Rhs<N>, into: &mut Vec<Stmt<A>, A>) -> Result<(), AllocError>
-        ensures { IfOk result (λ _. Lays into.old.items into.new.items
-            (λ k. statement (naming_of self.now) self.now.rounds.last (assume (rhs_of r.now)) k)) }
+        ensures { Appends result into.old.items into.new.items
+            (statement (naming_of self.now) self.now.rounds.last (assume (rhs_of r.now))) }
     {
         let test = self.side(r)?;
         push(Core::Assume(test), into)
@@ -239,9 +235,9 @@ impl<'a, N: Allocator, A: Allocator + Copy> Writer<'a, N, A> {
         b: &[Stmt<N>],
         into: &mut Vec<Stmt<A>, A>,
     ) -> Result<(), AllocError>
-        ensures { IfOk result (λ _. Lays into.old.items into.new.items
-            (λ k. bare_form (naming_of self.now) self.now.rounds.last
-            (branch (rhs_of r.now) (block_of a.now) (block_of b.now)) k)) }
+        ensures { Appends result into.old.items into.new.items
+            (bare_form (naming_of self.now) self.now.rounds.last
+            (branch (rhs_of r.now) (block_of a.now) (block_of b.now))) }
     {
         let test = self.side(r)?;
         let yes = self.rewritten(a)?;
@@ -257,10 +253,9 @@ impl<'a, N: Allocator, A: Allocator + Copy> Writer<'a, N, A> {
         a: &[Stmt<N>],
         into: &mut Vec<Stmt<A>, A>,
     ) -> Result<(), AllocError>
-        ensures { IfOk result (λ _. Lays into.old.items into.new.items
-            (λ k.
-            bare_form (naming_of self.now) self.now.rounds.last
-            (repeat (rhs_of r.now) (block_of a.now)) k)) }
+        ensures { Appends result into.old.items into.new.items
+            (bare_form (naming_of self.now) self.now.rounds.last
+            (repeat (rhs_of r.now) (block_of a.now))) }
     {
         let test = self.side(r)?;
         let mut body = self.rewritten(a)?;
@@ -271,8 +266,8 @@ impl<'a, N: Allocator, A: Allocator + Copy> Writer<'a, N, A> {
     /// Appends the rewriting of one statement, without its prologue, to others.
     #[cycle(rewriting)]
     fn core(&self, core: &Core<N>, into: &mut Vec<Stmt<A>, A>) -> Result<(), AllocError>
-        ensures { IfOk result (λ _. Lays into.old.items into.new.items
-            (λ k. bare_form (naming_of self.now) self.now.rounds.last (deed_of core.now) k)) }
+        ensures { Appends result into.old.items into.new.items
+            (bare_form (naming_of self.now) self.now.rounds.last (deed_of core.now)) }
     {
         match core {
             Core::Skip => push(Core::Skip, into),

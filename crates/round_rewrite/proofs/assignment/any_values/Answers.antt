@@ -3,7 +3,7 @@ use Rattle.language.specs.Tree.{any}
 use Rattle.trees.specs.Trees.{rhs_of, rhss_of}
 use Rattle.trees.specs.declared.tree.Rhs.TheVariants as rhs
 use Rattle.round_rewrite.specs.Table.{numbers, each}
-use Rattle.round_rewrite.proofs.Pushed.{pushed}
+use Rattle.round_rewrite.proofs.PushLemmas.{pushed}
 use Rattle.round_rewrite.proofs.assignment.any_values.Goals as goal
 
 pub loop-preserved : goal.loop-preserved

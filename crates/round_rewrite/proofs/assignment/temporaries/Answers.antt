@@ -2,7 +2,7 @@ use Rattle.std.proofs.Common.{◌≡◌, ◌∙◌, ap, ◌++◌, map, arith}
 use Rattle.trees.specs.Trees.{name_of, names_of}
 use Rattle.round_rewrite.specs.Table.{numbers}
 use Rattle.round_rewrite.specs.Names.{drawn_name}
-use Rattle.round_rewrite.proofs.Pushed.{pushed}
+use Rattle.round_rewrite.proofs.PushLemmas.{pushed}
 use Rattle.round_rewrite.proofs.assignment.temporaries.Goals as goal
 
 pub loop-k-preserved : goal.loop-k-preserved

@@ -1,4 +1,4 @@
-use Rattle.round_rewrite.proofs.Laying.{lays_pushed}
+use Rattle.round_rewrite.proofs.AppendLemmas.{lays_pushed}
 use Rattle.round_rewrite.proofs.block.push_marked.Goals as goal
 
 pub returns : goal.returns

@@ -3,7 +3,7 @@ use Rattle.language.specs.Tree.{value}
 use Rattle.language.specs.Sequential.{numbers}
 use Rattle.trees.specs.Trees.{rhs_of, rhss_of}
 use Rattle.round_rewrite.specs.Writing.{raised_bit}
-use Rattle.round_rewrite.proofs.Raised.{raised_bits, pushed_down}
+use Rattle.round_rewrite.proofs.RisingBitLemmas.{raised_bits, pushed_down}
 use Rattle.round_rewrite.proofs.cores.next_bits.Goals as goal
 
 pub loop-number-preserved : goal.loop-number-preserved

@@ -1,7 +1,7 @@
 use Rattle.std.proofs.Common.{◌≡◌, suc, ◌-◌, ◌∙◌, ap, ◌++◌, reverse, arith}
 use Rattle.trees.specs.Trees.{name_of, names_of}
 use Rattle.round_rewrite.specs.Names.{bit_name, bit_names}
-use Rattle.round_rewrite.proofs.Raised.{pushed_down}
+use Rattle.round_rewrite.proofs.RisingBitLemmas.{pushed_down}
 use Rattle.round_rewrite.proofs.cores.push_bits.Goals as goal
 
 pub loop-number-preserved : goal.loop-number-preserved

@@ -1,12 +1,12 @@
 use Rattle.std.proofs.Common.{◌∙◌, ap}
 use Rattle.language.specs.Tree.{any, done}
 use Rattle.trees.specs.Trees.{branch, marked_before}
-use Rattle.round_rewrite.specs.Table.{plain}
+use Rattle.round_rewrite.specs.Table.{no_mark}
 use Rattle.trees.proofs.Folds.{deed_of-Skip, deed_of-If}
 use Rattle.round_rewrite.proofs.cores.stop_choice.Goals as goal
 
 pub returns : goal.returns
 returns g c =
-    let yes = c.in_ok-yes.ensures ∙ ap (λ d. marked_before plain d done) c.in_ok-set.ensures in
-    let no = c.in_ok-no.ensures ∙ ap (λ d. marked_before plain d done) (deed_of-Skip g.row.A.Denot) in
+    let yes = c.in_ok-yes.ensures ∙ ap (λ d. marked_before no_mark d done) c.in_ok-set.ensures in
+    let no = c.in_ok-no.ensures ∙ ap (λ d. marked_before no_mark d done) (deed_of-Skip g.row.A.Denot) in
     deed_of-If _ _ _ ∙ (λ i. branch any (yes i) (no i))

@@ -2,7 +2,7 @@ use Rattle.std.proofs.Common.{◌∙◌, ap, ◌++◌, ◌+◌, map, drop}
 use Rattle.language.specs.Tree.{var, value}
 use Rattle.trees.specs.Trees.{name_of, names_of, rhs_of, rhss_of}
 use Rattle.round_rewrite.specs.Names.{copy_name}
-use Rattle.round_rewrite.proofs.Pushed.{one_through, all_through}
+use Rattle.round_rewrite.proofs.PushLemmas.{one_through, all_through}
 use Rattle.round_rewrite.proofs.lists.reads.Goals as goal
 
 pub loop-x-preserved : goal.loop-x-preserved

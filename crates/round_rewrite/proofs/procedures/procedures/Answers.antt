@@ -4,7 +4,7 @@ use Rattle.std.proofs.lemmas.List.{drop_more, drop_all}
 use Rattle.trees.specs.Trees.{proc_of, procs_of, tree_of}
 use Rattle.round_rewrite.specs.Names.{main_procedure, rewritten_procedure}
 use Rattle.round_rewrite.specs.Writing.{AreFew}
-use Rattle.round_rewrite.proofs.Pushed.{one_through}
+use Rattle.round_rewrite.proofs.PushLemmas.{one_through}
 use Rattle.round_rewrite.proofs.procedures.procedures.Goals as goal
 
 pub procedure-requires : goal.procedure-requires

@@ -7,9 +7,9 @@ use Rattle.resolved.specs.Resolves.{Resolves}
 use Rattle.checked.proofs.Rewriting.{checked_rewritable}
 use Rattle.resolved.specs.Narrow.{AllNarrow}
 use Rattle.round_rewrite.proofs.Widths.{few_procedures, count_rewritten}
-use Rattle.round_rewrite.proofs.Working.{rewritten_resolves}
+use Rattle.round_rewrite.proofs.WorkLemmas.{rewritten_resolves}
 use Rattle.round_rewrite.proofs.Readable.{rewritten_in_grammar}
-use Rattle.round_rewrite.proofs.Meaning.{keeps_tree}
+use Rattle.round_rewrite.proofs.MeaningLemmas.{keeps_tree}
 use Rattle.round_rewrite.proofs.rewriting.rewrite.Goals as goal
 
 pub returns-clause-keeps : goal.returns-clause-keeps

@@ -1,5 +1,5 @@
 use Rattle.std.proofs.Common.{suc, cond, ◌∙◌, refl, ap, arith, length}
-use Rattle.round_rewrite.proofs.Assigning.{empty, counted, one_at_most}
+use Rattle.round_rewrite.proofs.TargetLemmas.{empty, counted, one_at_most}
 use Rattle.round_rewrite.proofs.writer.Writer.+draws.Goals as goal
 
 pub returns-in_default-clause-count : goal.returns-in_default-clause-count

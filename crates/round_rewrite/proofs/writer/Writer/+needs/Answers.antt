@@ -2,7 +2,7 @@ use Rattle.std.proofs.Common.{max, ◌∙◌, ap, arith}
 use Rattle.round_rewrite.specs.Table.{temporaries}
 use Rattle.round_rewrite.specs.Writing.{naming_of}
 use Rattle.trees.proofs.Held.{smaller}
-use Rattle.round_rewrite.proofs.Needing.{one_more, no_more}
+use Rattle.round_rewrite.proofs.NeedLemmas.{one_more, no_more}
 use Rattle.round_rewrite.proofs.writer.Writer.+needs.Goals as goal
 
 pub needs-needs_of-requires : goal.needs-needs_of-requires

@@ -3,10 +3,10 @@ use Rattle.std.proofs.lemmas.Result.{IfOk-weaker}
 use Rattle.language.specs.Tree.{skip, leave, assign, call, call_for, done}
 use Rattle.language.specs.Sequential.{statements}
 use Rattle.trees.specs.Trees.{simple, branch, repeat, name_of, names_of, rhs_of, rhss_of, exprs_of, deed_of, block_of, items_of, all_before}
-use Rattle.round_rewrite.specs.Table.{plain, prologue}
+use Rattle.round_rewrite.specs.Table.{no_mark, prologue}
 use Rattle.round_rewrite.specs.Writing.{naming_of, forms}
 use Rattle.trees.proofs.Held.{held, smaller}
-use Rattle.round_rewrite.proofs.Laying.{laid}
+use Rattle.round_rewrite.proofs.AppendLemmas.{laid}
 use Rattle.round_rewrite.proofs.Forms.{by_core, core_is, one_more, no_more, block_whole, block_done}
 use Rattle.trees.proofs.Folds.{deed_of-Skip, deed_of-Return, deed_of-Goto, deed_of-Assert, deed_of-Assume, deed_of-Assign, deed_of-Call}
 use Rattle.trees.proofs.Folds.{deed_of-CallTo, deed_of-Give, deed_of-If, deed_of-While}
@@ -54,7 +54,7 @@ branch-returns g t c =
     let yes = block_done w last [] c.in_ok-yes.yes.items c.args.a.now c.args.a.now refl refl c.in_ok-yes.ensures in
     let no = block_done w last [] c.in_ok-no.no.items c.args.b.now c.args.b.now refl refl c.in_ok-no.ensures in
     IfOk-weaker c.push.result _ _
-    (λ _ l. laid _ _ plain _ _ l (deed_of-If _ _ _ ∙ (λ i. branch (c.in_ok-test.ensures i) (yes i) (no i))))
+    (λ _ l. laid _ _ no_mark _ _ l (deed_of-If _ _ _ ∙ (λ i. branch (c.in_ok-test.ensures i) (yes i) (no i))))
     c.push.ensures
 
 pub repeat-rewritten-requires : goal.repeat-rewritten-requires
@@ -67,9 +67,9 @@ repeat-returns g t c =
     let w = naming_of c.args.self.now in
     let last = c.args.self.now.rounds.last in
     let body = block_whole w last [] c.in_ok-body.body.items c.args.a.now c.args.a.now refl refl c.in_ok-body.ensures in
-    let whole = c.in_ok-prologue.ensures done ∙ body (prologue w last plain done) in
+    let whole = c.in_ok-prologue.ensures done ∙ body (prologue w last no_mark done) in
     IfOk-weaker c.push.result _ _
-    (λ _ l. laid _ _ plain _ _ l (deed_of-While _ _ ∙ (λ i. repeat (c.in_ok-test.ensures i) (whole i))))
+    (λ _ l. laid _ _ no_mark _ _ l (deed_of-While _ _ ∙ (λ i. repeat (c.in_ok-test.ensures i) (whole i))))
     c.push.ensures
 
 pub rewritten-block-requires : goal.rewritten-block-requires
@@ -107,7 +107,7 @@ core-returns-in-Skip g t c =
     (λ _ l. by_core (naming_of c.args.self.now) c.args.self.now.rounds.last c.args.into.now.items _ c.args.core.now
     (simple skip)
     (ap deed_of c.in-Skip.is ∙ deed_of-Skip _)
-    (laid _ _ plain _ _ l (deed_of-Skip _)))
+    (laid _ _ no_mark _ _ l (deed_of-Skip _)))
     c.push.ensures
 
 pub core-returns-in-Return : goal.core-returns-in-Return
@@ -116,7 +116,7 @@ core-returns-in-Return g t c =
     (λ _ l. by_core (naming_of c.args.self.now) c.args.self.now.rounds.last c.args.into.now.items _ c.args.core.now
     (simple leave)
     (ap deed_of c.in-Return.is ∙ deed_of-Return _)
-    (laid _ _ plain _ _ l (deed_of-Return _)))
+    (laid _ _ no_mark _ _ l (deed_of-Return _)))
     c.push-in-Return.ensures
 
 pub core-returns-in-Goto : goal.core-returns-in-Goto

@@ -4,7 +4,7 @@ use Rattle.std.proofs.lemmas.Result.{IfOk-weaker}
 use Rattle.trees.specs.Trees.{name_of, names_of, expr_of, rhs_of, rhss_of}
 use Rattle.round_rewrite.specs.Writing.{naming_of}
 use Rattle.round_rewrite.specs.Table.{sides}
-use Rattle.round_rewrite.proofs.Assigning.{empty, sides_kept, sides_drawn, sides_value}
+use Rattle.round_rewrite.proofs.TargetLemmas.{empty, sides_kept, sides_drawn, sides_value}
 use Rattle.round_rewrite.proofs.writer.Writer.+sides.Goals as goal
 
 pub returns-then-not-is_shared : goal.returns-then-not-is_shared

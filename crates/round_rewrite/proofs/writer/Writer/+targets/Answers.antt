@@ -3,7 +3,7 @@ use Rattle.std.proofs.lemmas.List.{map-append}
 use Rattle.std.proofs.lemmas.Result.{IfOk-weaker}
 use Rattle.trees.specs.Trees.{name_of, names_of, rhs_of, rhss_of}
 use Rattle.round_rewrite.specs.Writing.{naming_of}
-use Rattle.round_rewrite.proofs.Assigning.{empty, targets_shared, targets_kept}
+use Rattle.round_rewrite.proofs.TargetLemmas.{empty, targets_shared, targets_kept}
 use Rattle.round_rewrite.proofs.writer.Writer.+targets.Goals as goal
 
 pub returns-in_ok-copies : goal.returns-in_ok-copies
@@ -27,7 +27,7 @@ returns-in_ok-push g t c =
     (ap names_of c.in-Some.ensures.cases.0) (ap rhss_of c.in-Some-split_first.ensures.cases.0)
     (sym c.is_shared.ensures ∙ c.if-is_shared.false)
     (ap names_of c.in_ok-push.ensures.items ∙ (map-append name_of c.args.into.now.items _ ∙ ap
-    (λ n. names_of c.args.into.now.items ++ n ∷ []) c.in_ok-again.ensures))
+    (λ n. names_of c.args.into.now.items ++ n ∷ []) c.in_ok-clone_name.ensures))
     l)
     c.targets-else-is_shared.ensures
 

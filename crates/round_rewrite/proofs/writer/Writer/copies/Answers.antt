@@ -1,6 +1,6 @@
 use Rattle.trees.specs.Trees.{name_of, names_of}
 use Rattle.round_rewrite.specs.Names.{copy_name}
-use Rattle.round_rewrite.proofs.Pushed.{over_rounds}
+use Rattle.round_rewrite.proofs.PushLemmas.{over_rounds}
 use Rattle.round_rewrite.proofs.writer.Writer.copies.Goals as goal
 
 pub returns : goal.returns

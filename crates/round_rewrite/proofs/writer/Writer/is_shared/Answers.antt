@@ -1,7 +1,7 @@
 use Rattle.std.proofs.Common.{sym, ◌∙◌, ap, not, ◌++◌}
 use Rattle.language.specs.Resolve.{is_declared}
 use Rattle.trees.specs.Trees.{names_of}
-use Rattle.round_rewrite.proofs.Numbering.{number_left, number_right}
+use Rattle.round_rewrite.proofs.NumberingLemmas.{number_left, number_right}
 use Rattle.round_rewrite.proofs.writer.Writer.is_shared.Goals as goal
 
 -- src/expression.rt:55:5

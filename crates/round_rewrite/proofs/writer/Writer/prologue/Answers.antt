@@ -1,6 +1,6 @@
 use Rattle.std.proofs.Common.{◌∙◌}
 use Rattle.std.proofs.lemmas.Result.{IfOk-weaker}
-use Rattle.round_rewrite.proofs.Laying.{laid}
+use Rattle.round_rewrite.proofs.AppendLemmas.{laid}
 use Rattle.round_rewrite.proofs.writer.Writer.prologue.Goals as goal
 
 pub returns : goal.returns

@@ -1,18 +1,18 @@
 use Rattle.trees.specs.Trees.{name_of, rhs_of, expr_of, rhss_of}
-use Rattle.round_rewrite.specs.Table.{written, expression}
+use Rattle.round_rewrite.specs.Table.{copy_value, expression_form}
 use Rattle.round_rewrite.specs.Writing.{naming_of}
-use Rattle.round_rewrite.proofs.Pushed.{pushed_as, over_rounds}
+use Rattle.round_rewrite.proofs.PushLemmas.{pushed_as, over_rounds}
 use Rattle.round_rewrite.proofs.writer.Writer.value_sides.Goals as goal
 
 pub returns : goal.returns
 returns g c =
-    over_rounds (written (naming_of c.args.self.now) c.args.self.now.rounds.last
-    (expression (naming_of c.args.self.now) c.args.self.now.rounds.last (expr_of c.args.e.now)) (name_of c.args.x.now))
+    over_rounds (copy_value (naming_of c.args.self.now) c.args.self.now.rounds.last
+    (expression_form (naming_of c.args.self.now) c.args.self.now.rounds.last (expr_of c.args.e.now)) (name_of c.args.x.now))
     (rhss_of c.args.into.now.items) (rhss_of c.loop-round.into.items) c.loop-round.round c.count-round-end.result
     c.args.self.now.rounds.last
     c.loop-round.invariant c.loop-round-test.false c.loop-round.auto.round-end c.count-round-end.ensures.count
 
 pub loop-round-preserved : goal.loop-round-preserved
 loop-round-preserved g c =
-    pushed_as rhs_of (λ d. written (naming_of c.args.self.now) c.args.self.now.rounds.last d (name_of c.args.x.now)) _ _ _ _ _ _ _
-    c.loop-round.invariant c.in_ok-push.ensures.items c.in_ok-written.ensures c.in_ok-value.ensures
+    pushed_as rhs_of (λ d. copy_value (naming_of c.args.self.now) c.args.self.now.rounds.last d (name_of c.args.x.now)) _ _ _ _ _ _ _
+    c.loop-round.invariant c.in_ok-push.ensures.items c.in_ok-copy_value.ensures c.in_ok-value.ensures
