@@ -42,7 +42,7 @@ enum Step {
 
 enum Formula {
     Table(Table),
-    Picks([u8; 3], Vec<Table>),
+    Cases([u8; 3], Vec<Table>),
     Code(Vec<Step>),
 }
 
@@ -50,7 +50,7 @@ impl Formula {
     fn value(&self, values: u64) -> bool {
         match self {
             Formula::Table(table) => table.value(values),
-            Formula::Picks(bits, cases) => cases[row(bits, values)].value(values),
+            Formula::Cases(bits, cases) => cases[row(bits, values)].value(values),
             Formula::Code(steps) => {
                 let mut stack = 0u64;
                 for step in steps {
@@ -170,13 +170,13 @@ fn main() {
         let inputs = [7, 8, 9, 10, 11, 12, 13, 14];
         if row.count_ones() % 2 == 0 { Table::new(&inputs, even) } else { Table::new(&inputs, odd) }
     });
-    let eleven = Flow::Test(Side::Value(Formula::Picks([4, 5, 6], halves.collect())), 11, 12);
+    let eleven = Flow::Test(Side::Value(Formula::Cases([4, 5, 6], halves.collect())), 11, 12);
     // The picked bits are a number with the high bit first, and a row with the low bit first.
     let copies = (0..8u8).map(|row| {
         let copy = (row & 1) << 2 | row & 2 | row >> 2;
         Table::new(&[7 + copy], |b| b[0])
     });
-    let eight = Flow::Test(Side::Value(Formula::Picks([4, 5, 6], copies.collect())), 11, 12);
+    let eight = Flow::Test(Side::Value(Formula::Cases([4, 5, 6], copies.collect())), 11, 12);
     let others = [Flow::Assume(Side::Any, 0), Flow::Return];
     black_box(&others);
     for (name, flow) in [

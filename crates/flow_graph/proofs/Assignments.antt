@@ -20,7 +20,7 @@ use Rattle.language.proofs.Names.{number_less, place_declared, place_other}
 use Rattle.trees.specs.Trees.{name_of, names_of, rhs_of, rhss_of}
 use Rattle.trees.specs.declared.tree.Name as syntax
 use Rattle.trees.specs.declared.tree.Rhs.{Rhs}
-use Rattle.flow_graph.specs.Assignments.{masked, choice_left, written, any_of, anys, is_among, lasting}
+use Rattle.flow_graph.specs.Assignments.{masked, choice_left, after_writes, any_of, anys, is_among, lasting}
 use Rattle.flow_graph.specs.Assigning.{Assigns}
 use Rattle.flow_graph.specs.Flows.{code}
 use Rattle.flow_graph.specs.Bits.{bit_of, worth_of, coded}
@@ -28,8 +28,8 @@ use Rattle.flow_graph.specs.Formulas.{SaysSide, side_value}
 use Rattle.flow_graph.specs.Located.{bit_of_place, bit_of_name}
 use Rattle.flow_graph.specs.declared.assignment.Assignment.{Assignment}
 use Rattle.flow_graph.specs.declared.assignment.Write.{Write}
-use Rattle.flow_graph.specs.declared.side.Side.{Side}
-use Rattle.flow_graph.specs.declared.side.Side.TheVariants as side
+use Rattle.flow_graph.specs.declared.side.CompiledSide.{CompiledSide}
+use Rattle.flow_graph.specs.declared.side.CompiledSide.TheVariants as side
 use Rattle.flow_graph.proofs.Rows.{bits_or, bits_xor, first_bit}
 use Rattle.flow_graph.proofs.Stacks.{worth_small, bit_worth}
 use Rattle.flow_graph.proofs.Worths.{coded_bit}
@@ -118,7 +118,7 @@ Compiled s [] (k ∷ ks) = ⊥
 Compiled s (w ∷ ws) [] = ⊥
 Compiled s (w ∷ ws) (k ∷ ks) = ((w.mask ≡ 2 ^ k.0) × SaysSide w.side s k.1) × Compiled s ws ks
 
-any_same : {A : Type 0} (s : Scope) (sd : Side A) (r : RightSide Name) → SaysSide sd s r → any_of sd ≡ any_in r
+any_same : {A : Type 0} (s : Scope) (sd : CompiledSide A) (r : RightSide Name) → SaysSide sd s r → any_of sd ≡ any_in r
 any_same s side.Any any h = refl
 any_same s side.Any (value e) h = absurd h
 any_same s (side.Value f) any h = absurd h
@@ -132,22 +132,22 @@ anys_same s (w ∷ ws) [] h = absurd h
 anys_same s (w ∷ ws) (k ∷ ks) h = ap (λ n. n + anys ws) (any_same s w.side k.1 h.0.1)
     ∙ ap (λ n. any_in k.1 + n) (anys_same s ws ks h.1)
 
-left_same : {A : Type 0} (s : Scope) (sd : Side A) (r : RightSide Name) (i : ℕ) → SaysSide sd s r → choice_left sd i ≡ left_of r i
+left_same : {A : Type 0} (s : Scope) (sd : CompiledSide A) (r : RightSide Name) (i : ℕ) → SaysSide sd s r → choice_left sd i ≡ left_of r i
 left_same s side.Any any i h = refl
 left_same s side.Any (value e) i h = absurd h
 left_same s (side.Value f) any i h = absurd h
 left_same s (side.Value f) (value e) i h = refl
 
--- ---- values written to bits
+-- ---- values after_writes to bits
 
--- the values written one after the other, to bits
+-- the values after_writes one after the other, to bits
 abbrev pub put : List (Option ℕ) → List Bool → List Bool → List Bool
 put [] vs bs = bs
 put (t ∷ ts) [] bs = bs
 put (None ∷ ts) (v ∷ vs) bs = put ts vs bs
 put (Some b ∷ ts) (v ∷ vs) bs = put ts vs (with_bit bs b v)
 
--- the bits that are still to be written may differ
+-- the bits that are still to be after_writes may differ
 abbrev pub Agree : List (Option ℕ) → ℕ → List Bool → Type 0
 Agree ts m bs = (k : ℕ) → is_among k ts ≡ false → bit_of m k ≡ bit bs k
 
@@ -208,7 +208,7 @@ module _ (s : Scope) (gs ls : List Bool) where
   run [] i m = m
   run (k ∷ ks) i m = run ks (left_of k.1 i) (masked m (2 ^ k.0) (value_at k.1 i))
 
-  pub got_same : {A : Type 0} (sd : Side A) (r : RightSide Name) (i : ℕ) → length gs ≡ length s.globals → SaysSide sd s r
+  pub got_same : {A : Type 0} (sd : CompiledSide A) (r : RightSide Name) (i : ℕ) → length gs ≡ length s.globals → SaysSide sd s r
       → side_value sd (coded (gs ++ ls)) i ≡ value_at r i
   got_same side.Any any i e h = refl
   got_same side.Any (value x) i e h = absurd h
@@ -216,7 +216,7 @@ module _ (s : Scope) (gs ls : List Bool) where
   got_same (side.Value f) (value x) i e h = h gs ls e
 
   run_same : {A : Type 0} (ws : List (Write A)) (ks : List (ℕ × RightSide Name)) (i m : ℕ) → length gs ≡ length s.globals
-      → Compiled s ws ks → written ws (coded (gs ++ ls)) i m ≡ run ks i m
+      → Compiled s ws ks → after_writes ws (coded (gs ++ ls)) i m ≡ run ks i m
   run_same [] [] i m e h = refl
   run_same [] (k ∷ ks) i m e h = absurd h
   run_same (w ∷ ws) [] i m e h = absurd h
@@ -486,7 +486,7 @@ bits_same : (s : Scope) (xs : List Name) → map (bit_of_place (length s.globals
 bits_same s [] = refl
 bits_same s (x ∷ xs) = ap (λ l. bit_of_name s x ∷ l) (bits_same s xs)
 
--- what is written to places is written to their bits
+-- what is after_writes to places is after_writes to their bits
 pub written_bits : (n : ℕ) (ps : List Place) (vs gs ls : List Bool) → length gs ≡ n
     → written_globals ps vs gs ++ written_locals ps vs ls ≡ put (map (bit_of_place n) ps) vs (gs ++ ls)
 written_bits n [] vs gs ls e = refl
@@ -521,7 +521,7 @@ module _ {A : Type 0} (a : Assignment A) (s : Scope) (xs : List Name) (rs : List
 
   ended : (gs ls vs : List Bool) (i : ℕ) → Compiled s a.writes.items (kept targets rs) → length gs ≡ length s.globals
       → length s.locals ≤ length ls → Fits s gs ls targets rs vs i
-      → written a.writes.items (coded (gs ++ ls)) i (coded (gs ++ ls))
+      → after_writes a.writes.items (coded (gs ++ ls)) i (coded (gs ++ ls))
       ≡ coded (written_globals (map (place_of s) xs) vs gs ++ written_locals (map (place_of s) xs) vs ls)
   ended gs ls vs i compiled g l fits =
       run_same s gs ls a.writes.items (kept targets rs) i (coded (gs ++ ls)) g compiled

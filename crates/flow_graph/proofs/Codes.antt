@@ -9,8 +9,8 @@ use Rattle.trees.specs.Trees.{operator_of}
 use Rattle.trees.specs.declared.tree.Op.{Op}
 use Rattle.flow_graph.specs.Located.{worth, read_of}
 use Rattle.flow_graph.specs.Postfix.{after_steps, top, IsShallow, need, Evaluates, PutsSteps}
-use Rattle.flow_graph.specs.declared.postfix.Step.{Step}
-use Rattle.flow_graph.specs.declared.postfix.Step.TheVariants.{Read, Constant, Not, Apply, ApplySwapped}
+use Rattle.flow_graph.specs.declared.postfix.Instruction.{Instruction}
+use Rattle.flow_graph.specs.declared.postfix.Instruction.TheVariants.{Read, Constant, Not, Apply, ApplySwapped}
 use Rattle.resolved.specs.Limits.{most_places}
 
 -- what two operands need together
@@ -44,26 +44,26 @@ together n m = go (n == m) refl
             omega (arith, same)
 
 -- steps appended to steps, and one more
-joined : (x y rest : List Step) (last : Step) → (x ++ (y ++ (last ∷ []))) ++ rest ≡ x ++ (y ++ (last ∷ rest))
+joined : (x y rest : List Instruction) (last : Instruction) → (x ++ (y ++ (last ∷ []))) ++ rest ≡ x ++ (y ++ (last ∷ rest))
 joined x y rest last = append_assoc x (y ++ (last ∷ [])) rest ∙ ap (λ l. x ++ l) (append_assoc y (last ∷ []) rest)
 
-behind : (old left right new x y : List Step) (last : Step) → left ≡ old ++ x → right ≡ left ++ y → new ≡ right ++ (last ∷ [])
+behind : (old left right new x y : List Instruction) (last : Instruction) → left ≡ old ++ x → right ≡ left ++ y → new ≡ right ++ (last ∷ [])
     → new ≡ old ++ (x ++ (y ++ (last ∷ [])))
 behind old left right new x y last e f h =
     h ∙ ap (λ l. l ++ (last ∷ [])) (f ∙ ap (λ l. l ++ y) e) ∙ append_assoc (old ++ x) y (last ∷ []) ∙ append_assoc old x (y ++ (last ∷ []))
 
-length_joined : (x y : List Step) (last : Step) → length (x ++ (y ++ (last ∷ []))) ≡ length x + (length y + 1)
+length_joined : (x y : List Instruction) (last : Instruction) → length (x ++ (y ++ (last ∷ []))) ≡ length x + (length y + 1)
 length_joined x y last = length-append x (y ++ (last ∷ [])) ∙ ap (λ n. length x + n) (length-append y (last ∷ []))
 
 -- After two operands, the second on top, the step leaves the value of the whole, and the whole needs what they need.
-record Joins (first second whole : Expression ℕ) (last : Step) : Type 0 where
-  pub gives : (f : ℕ → Bool) (rest : List Step) (stack : List Bool) →
+record Joins (first second whole : Expression ℕ) (last : Instruction) : Type 0 where
+  pub gives : (f : ℕ → Bool) (rest : List Instruction) (stack : List Bool) →
       after_steps f (last ∷ rest) (worth f second ∷ worth f first ∷ stack) ≡ after_steps f rest (worth f whole ∷ stack)
-  pub takes : (depth : ℕ) (rest : List Step) → IsShallow (suc depth) rest → IsShallow (suc (suc depth)) (last ∷ rest)
+  pub takes : (depth : ℕ) (rest : List Instruction) → IsShallow (suc depth) rest → IsShallow (suc (suc depth)) (last ∷ rest)
   pub fits : need whole ≤ 64 → (need first ≤ need whole) × (need second + 1 ≤ need whole)
   pub long : 2 ^ need whole ≤ 2 ^ need first + 2 ^ need second
 
-both_put : (first second whole : Expression ℕ) (last : Step) (old left right new : List Step) →
+both_put : (first second whole : Expression ℕ) (last : Instruction) (old left right new : List Instruction) →
     Joins first second whole last → PutsSteps old left first → PutsSteps left right second → new ≡ right ++ (last ∷ []) →
     PutsSteps old new whole
 both_put first second whole last old left right new joins (x, is_x, p) (y, is_y, q) e = (
@@ -85,12 +85,12 @@ both_put first second whole last old left right new joins (x, is_x, p) (y, is_y,
 )
 
 -- an operator takes two values and leaves one
-taken : (depth : ℕ) (rest : List Step) → IsShallow (suc depth) rest →
+taken : (depth : ℕ) (rest : List Instruction) → IsShallow (suc depth) rest →
     (2 ≤ suc (suc depth)) × IsShallow (suc (suc depth) - 1) rest
 taken depth rest deep =
     (omega arith, subst (λ d. IsShallow d rest) (let same : suc depth ≡ suc (suc depth) - 1 = omega arith in same) deep)
 
-module _ (a b : Expression ℕ) (op : Op) (old left right new : List Step) where
+module _ (a b : Expression ℕ) (op : Op) (old left right new : List Instruction) where
   abbrev needed : Together (need a) (need b) (need (two (operator_of op) a b))
   needed = together (need a) (need b)
 
@@ -115,7 +115,7 @@ module _ (a b : Expression ℕ) (op : Op) (old left right new : List Step) where
   }
 
 -- The steps of an expression alone are shallow: a need above 64 would take more than 2^64 of them.
-pub shallow_alone : (e : Expression ℕ) (old new : List Step) → PutsSteps old new e → old ≡ [] → length new < 2 ^ 64 → IsShallow 0 new
+pub shallow_alone : (e : Expression ℕ) (old new : List Instruction) → PutsSteps old new e → old ≡ [] → length new < 2 ^ 64 → IsShallow 0 new
 shallow_alone e old new p none short =
     let same : new ≡ p.0 ++ [] = p.1 ∙ ap (λ l. l ++ p.0) none ∙ sym (append-nil p.0) in
     subst (IsShallow 0) (sym same)
@@ -131,7 +131,7 @@ shallow_alone e old new p none short =
         go true is = absurd (h (ltb-true 64 n is))
         go false is = let least = ltb-false 64 n is in omega (arith, least)
 
-pub worth_alone : (f : ℕ → Bool) (e : Expression ℕ) (old new : List Step) → PutsSteps old new e → old ≡ []
+pub worth_alone : (f : ℕ → Bool) (e : Expression ℕ) (old new : List Instruction) → PutsSteps old new e → old ≡ []
     → top (after_steps f new []) ≡ worth f e
 worth_alone f e old new p none =
     let same : new ≡ p.0 ++ [] = p.1 ∙ ap (λ l. l ++ p.0) none ∙ sym (append-nil p.0) in
@@ -174,11 +174,11 @@ constant_read b = record {
 }
 
 -- one step after others, and the step that negates the top
-pub one_put : (e : Expression ℕ) (old new : List Step) (step : Step) → Evaluates e (step ∷ []) → new ≡ old ++ (step ∷ []) →
+pub one_put : (e : Expression ℕ) (old new : List Instruction) (step : Instruction) → Evaluates e (step ∷ []) → new ≡ old ++ (step ∷ []) →
     PutsSteps old new e
 one_put e old new step evaluates is = (step ∷ [], is, evaluates)
 
-pub turned : (e : Expression ℕ) (old mid new : List Step) → PutsSteps old mid e → new ≡ mid ++ (Not ∷ []) →
+pub turned : (e : Expression ℕ) (old mid new : List Instruction) → PutsSteps old mid e → new ≡ mid ++ (Not ∷ []) →
     PutsSteps old new (negation e)
 turned e old mid new (x, is_x, p) is = (
   x ++ (Not ∷ []),

@@ -19,9 +19,9 @@ use Rattle.flow_graph.specs.Graphs.{AreGraphs, IsInTextOrder}
 use Rattle.flow_graph.specs.Numbers.{NumberedMessage, numbered_entry, by_numbers, Leaves}
 use Rattle.flow_graph.specs.Numbers.{IsNumberOf, AreNumbersOf, IsNumberOfEntry, AreNumbersOfEdge, AreNumbersOfPair, Sends}
 use Rattle.flow_graph.specs.declared.graph.Graph.{Graph}
-use Rattle.flow_graph.specs.declared.left.Left.{Left}
-use Rattle.flow_graph.proofs.Reaching.{valuation_told, message_told, rest_in_order_told, entry_of, entry_is}
-use Rattle.flow_graph.proofs.Taking.{taken_due, edges_taken}
+use Rattle.flow_graph.specs.declared.exit.Exit.{Exit}
+use Rattle.flow_graph.proofs.StepLemmas.{valuation_told, message_told, rest_in_order_told, entry_of, entry_is}
+use Rattle.flow_graph.proofs.DueLemmas.{taken_due, edges_taken}
 use Rattle.flow_graph.proofs.Worths.{coded_bit}
 
 -- the numbers of a path edge, by its rest or by its point
@@ -77,7 +77,7 @@ module _ {A : Type 0} (p : Program) (graphs : List (Graph A)) (T : ℕ → Numbe
     (opening : T 0 (numbered_entry starter 0))
     (sent : (q s : ℕ) (graph : Graph A) (k : NumberedMessage) → slice_get graphs q ≡ Some graph → Sends graph q (T q) s k → T s k)
     (due : (q : ℕ) (k : NumberedMessage) → T q k → IsNumberOf (IsDue p q) k) where
-  pub pairs_left : IsInTextOrder p → (q : ℕ) (graph : Graph A) → slice_get graphs q ≡ Some graph → (a : ℕ) (b : Left)
+  pub pairs_left : IsInTextOrder p → (q : ℕ) (graph : Graph A) → slice_get graphs q ≡ Some graph → (a : ℕ) (b : Exit)
       → Leaves graph (T q) a b ↔ AreNumbersOfPair p q a b
   pairs_left order q graph here a b = (there, back)
     where
@@ -106,7 +106,7 @@ module _ {A : Type 0} (p : Program) (graphs : List (Graph A)) (T : ℕ → Numbe
 
   -- some pair of the first procedure has `bad` if its graph is left with that bit
   pub bad_left : IsInTextOrder p → (graph : Graph A) → slice_get graphs 0 ≡ Some graph → (bad : ℕ)
-      → SomeBad p bad ↔ ((a : ℕ) × (b : Left) × Leaves graph (T 0) a b × (bit_of b.globals bad ≡ true))
+      → SomeBad p bad ↔ ((a : ℕ) × (b : Exit) × Leaves graph (T 0) a b × (bit_of b.globals bad ≡ true))
   bad_left order graph here bad = (
     λ h. (
       code h.0,
@@ -117,10 +117,10 @@ module _ {A : Type 0} (p : Program) (graphs : List (Graph A)) (T : ℕ → Numbe
     back,
   )
     where
-      back : (a : ℕ) × (b : Left) × Leaves graph (T 0) a b × (bit_of b.globals bad ≡ true) → SomeBad p bad
+      back : (a : ℕ) × (b : Exit) × Leaves graph (T 0) a b × (bit_of b.globals bad ≡ true) → SomeBad p bad
       back (a, b, leaves, is) =
           let (x, g, pair, ea, eb) = (pairs_left order 0 graph here a b).0 leaves in
-          (x, g, pair, sym (coded_bit g.globals bad) ∙ ap (λ (n : Left). bit_of n.globals bad) (sym eb) ∙ is)
+          (x, g, pair, sym (coded_bit g.globals bad) ∙ ap (λ (n : Exit). bit_of n.globals bad) (sym eb) ∙ is)
 
   -- the entries taken are those with which procedures are entered
   pub entries_taken : (q a : ℕ) → ((from : Caller) × T q (numbered_entry from a)) ↔ IsNumberOfEntry p q a

@@ -16,7 +16,7 @@ use Rattle.flow_graph.specs.Flows.{code, exit_code}
 use Rattle.flow_graph.specs.Located.{bit_of_place, mask_of, target_mask, given_mask}
 use Rattle.flow_graph.specs.Returns.{HasTarget}
 use Rattle.flow_graph.proofs.Assignments.{put, agree_kept, written_bits, same_bits}
-use Rattle.flow_graph.proofs.Coding.{resumed_coded}
+use Rattle.flow_graph.proofs.NumberLemmas.{resumed_coded}
 use Rattle.flow_graph.proofs.Stacks.{bit_worth}
 use Rattle.flow_graph.proofs.Worths.{coded_bit}
 

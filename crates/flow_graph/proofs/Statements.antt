@@ -19,9 +19,9 @@ use Rattle.flow_graph.specs.Lowering.{lowering_scope, lowered_routine, lowered_w
 use Rattle.flow_graph.specs.Lowering.{DoesIn, DoesFirst, LoweredFirst, LoweredIn}
 use Rattle.flow_graph.specs.declared.flow.Flow.{Flow}
 use Rattle.flow_graph.specs.declared.lowering.Lowering.{Lowering}
-use Rattle.flow_graph.proofs.Counted.{alone_counts}
-use Rattle.flow_graph.proofs.Lowered.{node_simple, node_branch, node_repeat}
-use Rattle.flow_graph.proofs.Lowered.{nodes_simple, nodes_branch, nodes_repeat, lowered_then, lowered_one}
+use Rattle.flow_graph.proofs.CountLemmas.{alone_counts}
+use Rattle.flow_graph.proofs.LoweringLemmas.{node_simple, node_branch, node_repeat}
+use Rattle.flow_graph.proofs.LoweringLemmas.{nodes_simple, nodes_branch, nodes_repeat, lowered_then, lowered_one}
 
 -- statements, and their number, by other names
 pub moved : {N : Type 0} (xs ys : List (Stmt N)) (i j after to : ℕ) → xs ≡ ys → i ≡ j → BeginAt xs i after to →

@@ -28,17 +28,19 @@ abbrev pub HasPlaces : Scope → Valuation → Type 0
 HasPlaces scope valuation = (length valuation.globals ≡ length scope.globals) × (length scope.locals ≤ length valuation.places)
 
 -- the next valuation of number i, after this one, has this number
-abbrev pub NextBy : {A : Type 0} → Assignment A → ℕ → Valuation → ℕ → Type 0
+abbrev pub NextBy : {Alloc : Type 0} → Assignment Alloc → ℕ → Valuation → ℕ → Type 0
 NextBy assignment i valuation number = (i ≤ assignment.last) × (assigned assignment (code valuation) i ≡ number)
 
 -- The numbers up to the last give each next valuation of the simultaneous assignment, no other, and each once.
-pub record Assigns {A : Type 0} (assignment : Assignment A) (scope : Scope) (xs : List Name) (rs : List (RightSide Name)) :
+pub record Assigns {Alloc : Type 0} (assignment : Assignment Alloc) (scope : Scope) (xs : List Name) (rs : List (RightSide Name)) :
     Type 0 where
-  pub leads : (v : Valuation) (w : ℕ) → HasPlaces scope v → ((i : ℕ) × NextBy assignment i v w) ↔ AssignedTo scope xs rs v w
-  pub once : (v : Valuation) (i j w : ℕ) → HasPlaces scope v → NextBy assignment i v w → NextBy assignment j v w → i ≡ j
+  pub leads : (before : Valuation) (number : ℕ) → HasPlaces scope before
+      → ((choice : ℕ) × NextBy assignment choice before number) ↔ AssignedTo scope xs rs before number
+  pub once : (before : Valuation) (choice other_choice number : ℕ) → HasPlaces scope before → NextBy assignment choice before number
+      → NextBy assignment other_choice before number → choice ≡ other_choice
 
 -- the assignment makes one write, of the expression to the bits of the mask
-abbrev pub WritesOne : {A : Type 0} → Assignment A → ℕ → Scope → Expression Name → Type 0
-WritesOne {A} assignment mask scope expression =
-    (write : Write A) × (assignment.writes.items ≡ write ∷ []) × (assignment.last ≡ 0) × (write.mask ≡ mask)
+abbrev pub WritesOne : {Alloc : Type 0} → Assignment Alloc → ℕ → Scope → Expression Name → Type 0
+WritesOne {Alloc} assignment mask scope expression =
+    (write : Write Alloc) × (assignment.writes.items ≡ write ∷ []) × (assignment.last ≡ 0) × (write.mask ≡ mask)
     × SaysSide write.side scope (value expression)

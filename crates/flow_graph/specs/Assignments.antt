@@ -5,8 +5,8 @@ use Rattle.language.specs.Tree.{Name}
 use Rattle.language.specs.Resolve.{Scope}
 use Rattle.flow_graph.specs.Located.{bit_of_name}
 use Rattle.flow_graph.specs.Formulas.{side_value}
-use Rattle.flow_graph.specs.declared.side.Side.{Side}
-use Rattle.flow_graph.specs.declared.side.Side.TheVariants as side
+use Rattle.flow_graph.specs.declared.side.CompiledSide.{CompiledSide}
+use Rattle.flow_graph.specs.declared.side.CompiledSide.TheVariants as side
 use Rattle.flow_graph.specs.declared.assignment.Write.{Write}
 use Rattle.flow_graph.specs.declared.assignment.Assignment.{Assignment}
 
@@ -16,27 +16,27 @@ masked values mask true = bit_or values mask
 masked values mask false = bit_xor (bit_or values mask) mask
 
 -- the choice for the right sides after this one
-abbrev pub choice_left : {A : Type 0} → Side A → ℕ → ℕ
+abbrev pub choice_left : {Alloc : Type 0} → CompiledSide Alloc → ℕ → ℕ
 choice_left side.Any choice = choice / 2
 choice_left (side.Value formula) choice = choice
 
 -- the valuation after the writes, whose right sides are computed over `values`
-abbrev pub written : {A : Type 0} → List (Write A) → ℕ → ℕ → ℕ → ℕ
-written [] values choice next = next
-written (write ∷ writes) values choice next =
-    written writes values (choice_left write.side choice) (masked next write.mask (side_value write.side values choice))
+abbrev pub after_writes : {Alloc : Type 0} → List (Write Alloc) → ℕ → ℕ → ℕ → ℕ
+after_writes [] values choice next = next
+after_writes (write ∷ writes) values choice next =
+    after_writes writes values (choice_left write.side choice) (masked next write.mask (side_value write.side values choice))
 
 -- the next valuation by this choice for the `?`
-abbrev pub assigned : {A : Type 0} → Assignment A → ℕ → ℕ → ℕ
-assigned assignment values choice = written assignment.writes.items values choice values
+abbrev pub assigned : {Alloc : Type 0} → Assignment Alloc → ℕ → ℕ → ℕ
+assigned assignment values choice = after_writes assignment.writes.items values choice values
 
 -- 1 for `?`
-abbrev pub any_of : {A : Type 0} → Side A → ℕ
+abbrev pub any_of : {Alloc : Type 0} → CompiledSide Alloc → ℕ
 any_of side.Any = 1
 any_of (side.Value formula) = 0
 
 -- how many right sides are `?`
-abbrev pub anys : {A : Type 0} → List (Write A) → ℕ
+abbrev pub anys : {Alloc : Type 0} → List (Write Alloc) → ℕ
 anys [] = 0
 anys (write ∷ writes) = any_of write.side + anys writes
 

@@ -15,22 +15,22 @@ use Rattle.resolved.specs.Narrow.{width}
 use Rattle.flow_graph.specs.Drawn.{flows_of, start_of, globals_of, result_mask}
 
 -- the procedure's valuations fit a word, and there are at most 32 procedures
-abbrev pub ScopeHasRoom : {N : Type 0} → Program N → Proc N → Type 0
+abbrev pub ScopeHasRoom : {TreeAlloc : Type 0} → Program TreeAlloc → Proc TreeAlloc → Type 0
 ScopeHasRoom program procedure =
     (width (tree_of program) (proc_of procedure) ≤ most_places) × (length program.procs.items ≤ 32)
 
 -- the names in the procedure's scope
-abbrev pub names_in : {N : Type 0} → Program N → Proc N → Scope
+abbrev pub names_in : {TreeAlloc : Type 0} → Program TreeAlloc → Proc TreeAlloc → Scope
 names_in program procedure = scope_of (tree_of program) (proc_of procedure)
 
 -- the procedure by places, its statements marked with their numbers in text order, from 1
-abbrev pub drawn_routine : {N : Type 0} → Program N → Proc N → Routine
+abbrev pub drawn_routine : {TreeAlloc : Type 0} → Program TreeAlloc → Proc TreeAlloc → Routine
 drawn_routine program procedure = numbered_routine (routine_of (tree_of program) (proc_of procedure))
 
 -- The graph of the procedure: it begins where the body does, its flows do what happens at the points of the body, the
 -- exit first, and its mask is that of the result.
-abbrev pub Draws : {N A : Type 0} → Program N → Proc N → Graph A → Type 0
-Draws program procedure graph =
+abbrev pub IsGraphOf : {TreeAlloc Alloc : Type 0} → Program TreeAlloc → Proc TreeAlloc → Graph Alloc → Type 0
+IsGraphOf program procedure graph =
     let routine = drawn_routine program procedure in
     (globals_of graph ≡ length (names_in program procedure).globals) × (start_of graph ≡ point_at routine.body)
     × AllDo (flows_of graph) (nodes_of routine) (widths_of (names_in program procedure) routine.gives)

@@ -3,16 +3,16 @@ use Rattle.std.specs.Prelude.{◌≡◌, ◌↔◌, ◌≤◌, ◌<◌, ℕ, ◌
 use Rattle.std.specs.Prelude.{List, [], ◌∷◌, ◌++◌, length}
 use Rattle.language.specs.Value.{Place}
 use Rattle.language.specs.Resolve.{Scope}
-use Rattle.language.specs.Sequential.{Valuation, Exit, resumed_with}
+use Rattle.language.specs.Sequential.{Valuation, Exit as ExitValues, resumed_with}
 use Rattle.flow_graph.specs.Bits.{coded}
 use Rattle.flow_graph.specs.Formulas.{side_value}
 use Rattle.flow_graph.specs.Assignments.{assigned}
-use Rattle.flow_graph.specs.Calls.{entry_of, resumed}
+use Rattle.flow_graph.specs.Calls.{call_entry, resumed}
 use Rattle.flow_graph.specs.Nodes.{Node, target_in, Leads, NodeCalls}
-use Rattle.flow_graph.specs.declared.side.Side.TheVariants as side
+use Rattle.flow_graph.specs.declared.side.CompiledSide.TheVariants as side
 use Rattle.flow_graph.specs.declared.flow.Flow.{Flow}
 use Rattle.flow_graph.specs.declared.flow.Flow.TheVariants.{Assign, Test, Assume, Call, Return}
-use Rattle.flow_graph.specs.declared.left.Left.{Left}
+use Rattle.flow_graph.specs.declared.exit.Exit.{Exit}
 use Rattle.resolved.specs.Limits.{most_places}
 
 -- a valuation as a number: the globals from bit 0, then the places
@@ -20,11 +20,11 @@ abbrev pub code : Valuation → ℕ
 code valuation = coded (valuation.globals ++ valuation.places)
 
 -- what is left by numbers: that of the globals, from bit 0, and the result
-abbrev pub exit_code : Exit → Left
+abbrev pub exit_code : ExitValues → Exit
 exit_code exit = record { globals = coded exit.globals; result = exit.result }
 
 -- the last choice
-abbrev pub last_of : {A : Type 0} → Flow A → ℕ
+abbrev pub last_of : {Alloc : Type 0} → Flow Alloc → ℕ
 last_of (Assign assignment to) = assignment.last
 last_of (Test side.Any if_true if_false) = 1
 last_of (Test (side.Value formula) if_true if_false) = 0
@@ -33,7 +33,7 @@ last_of (Call call) = 0
 last_of Return = 0
 
 -- the point and the valuation that a flow leads to for a choice, inside the call
-abbrev pub next_of : {A : Type 0} → Flow A → ℕ → ℕ → Option (ℕ × ℕ)
+abbrev pub next_of : {Alloc : Type 0} → Flow Alloc → ℕ → ℕ → Option (ℕ × ℕ)
 next_of (Assign assignment to) values choice = Some (to, assigned assignment values choice)
 next_of (Test test if_true if_false) values choice = Some (cond (side_value test values choice) if_true if_false, values)
 next_of (Assume test to) values choice = cond (side_value test values 1) (Some (to, values)) None
@@ -41,29 +41,34 @@ next_of (Call call) values choice = None
 next_of Return values choice = None
 
 -- the procedure that a flow enters, with which valuation, and the point after the return
-abbrev pub entered_by : {A : Type 0} → Flow A → ℕ → Option (ℕ × ℕ × ℕ)
-entered_by (Call call) values = Some (call.callee, entry_of call.globals call.arguments.items values, call.back)
+abbrev pub entered_by : {Alloc : Type 0} → Flow Alloc → ℕ → Option (ℕ × ℕ × ℕ)
+entered_by (Call call) values = Some (call.callee, call_entry call.globals call.arguments.items values, call.back)
 entered_by _ values = None
 
 -- the valuation with which the caller continues from its own after a flow that calls, if the call has left this
-abbrev pub resumed_by : {A : Type 0} → Flow A → ℕ → Left → ℕ
+abbrev pub resumed_by : {Alloc : Type 0} → Flow Alloc → ℕ → Exit → ℕ
 resumed_by (Call call) values left = resumed call.globals call.target values left
 resumed_by _ values left = values
 
 -- by choice i the flow leads from the valuation to the point and the valuation with this number
-abbrev pub LeadsBy : {A : Type 0} → Flow A → ℕ → Valuation → ℕ → ℕ → Type 0
+abbrev pub LeadsBy : {Alloc : Type 0} → Flow Alloc → ℕ → Valuation → ℕ → ℕ → Type 0
 LeadsBy flow i valuation point number = (i ≤ last_of flow) × (next_of flow (code valuation) i ≡ Some (point, number))
 
 -- Behaviour of a flow, for the valuations for which W holds: it leads exactly where L says, to a point and the number
 -- of a valuation, by one choice each; it enters exactly what E says, a procedure, the number of a valuation, and the
 -- point after the return; and after what it enters the caller continues as one that called for the target.
-pub record Behaves {A : Type 0} (flow : Flow A) (W : Valuation → Type 0) (L : Valuation → ℕ → ℕ → Type 0)
+pub record Behaves {Alloc : Type 0} (flow : Flow Alloc) (W : Valuation → Type 0) (L : Valuation → ℕ → ℕ → Type 0)
     (E : Valuation → ℕ → ℕ → ℕ → Type 0) (target : Option Place) : Type 0 where
-  pub leads : (v : Valuation) (n w : ℕ) → W v → ((i : ℕ) × LeadsBy flow i v n w) ↔ L v n w
-  pub once : (v : Valuation) (i j n w : ℕ) → W v → LeadsBy flow i v n w → LeadsBy flow j v n w → i ≡ j
-  pub enters : (v : Valuation) (s e n : ℕ) → W v → (entered_by flow (code v) ≡ Some (s, e, n)) ↔ E v s e n
-  pub resumes : (v : Valuation) (x : Exit) (s e n : ℕ) → W v → length x.globals ≡ length v.globals →
-      entered_by flow (code v) ≡ Some (s, e, n) → resumed_by flow (code v) (exit_code x) ≡ code (resumed_with target v x)
+  pub leads : (valuation : Valuation) (point number : ℕ) → W valuation
+      → ((choice : ℕ) × LeadsBy flow choice valuation point number) ↔ L valuation point number
+  pub once : (valuation : Valuation) (choice other_choice point number : ℕ) → W valuation → LeadsBy flow choice valuation point number
+      → LeadsBy flow other_choice valuation point number → choice ≡ other_choice
+  pub enters : (valuation : Valuation) (callee entered point : ℕ) → W valuation
+      → (entered_by flow (code valuation) ≡ Some (callee, entered, point)) ↔ E valuation callee entered point
+  pub resumes : (valuation : Valuation) (left : ExitValues) (callee entered point : ℕ) → W valuation
+      → length left.globals ≡ length valuation.globals →
+      entered_by flow (code valuation) ≡ Some (callee, entered, point)
+      → resumed_by flow (code valuation) (exit_code left) ≡ code (resumed_with target valuation left)
 
 -- How many globals and how many values of a frame a procedure's valuations have, and how many procedures there are.
 pub record Widths : Type 0 where
@@ -85,7 +90,7 @@ HasWidths widths valuation = (length valuation.globals ≡ widths.globals) × (l
 
 -- the node leads to the point and the valuation with this number
 abbrev pub LeadsTo : Node → Valuation → ℕ → ℕ → Type 0
-LeadsTo node valuation point number = (v' : Valuation) × Leads node valuation point v' × (number ≡ code v')
+LeadsTo node valuation point number = (after : Valuation) × Leads node valuation point after × (number ≡ code after)
 
 -- The node calls a procedure, one of a given number, with the globals and the arguments, which are `entered` as a
 -- number and no more than there are places; and this is the point after the call.
@@ -96,16 +101,16 @@ NodeEnters node procedures valuation callee entered point =
 
 -- The flow does what happens at the node, for valuations of these widths: it leads where the node leads, enters what
 -- the node calls, and continues after the call as one that called for the node's target.
-abbrev pub Does : {A : Type 0} → Flow A → Node → Widths → Type 0
+abbrev pub Does : {Alloc : Type 0} → Flow Alloc → Node → Widths → Type 0
 Does flow node widths = Behaves flow (HasWidths widths) (LeadsTo node) (NodeEnters node widths.procedures) (target_in node)
 
 -- each flow does what happens at its node
-abbrev pub AllDo : {A : Type 0} → List (Flow A) → List Node → Widths → Type 0
+abbrev pub AllDo : {Alloc : Type 0} → List (Flow Alloc) → List Node → Widths → Type 0
 AllDo [] [] widths = Unit {0}
 AllDo [] (n ∷ ns) widths = ⊥
 AllDo (f ∷ fs) [] widths = ⊥
 AllDo (f ∷ fs) (n ∷ ns) widths = Does f n widths × AllDo fs ns widths
 
 -- flows that do these nodes have been appended to others
-abbrev pub Lowered : {A : Type 0} → List (Flow A) → List (Flow A) → List Node → Widths → Type 0
-Lowered {A} old new nodes widths = (flows : List (Flow A)) × (new ≡ old ++ flows) × AllDo flows nodes widths
+abbrev pub Lowered : {Alloc : Type 0} → List (Flow Alloc) → List (Flow Alloc) → List Node → Widths → Type 0
+Lowered {Alloc} old new nodes widths = (flows : List (Flow Alloc)) × (new ≡ old ++ flows) × AllDo flows nodes widths

@@ -64,8 +64,8 @@ abbrev pub Leads : Node → Valuation → ℕ → Valuation → Type 0
 Leads (assigns xs rs target) before point after =
     (vs : List Bool) × AreValues before.globals before.places rs vs
     × (point ≡ target) × (after ≡ record { globals = written_globals xs vs before.globals; places = written_locals xs vs before.places })
-Leads (tests side if_true if_false) before point after = (b : Bool) × IsValue before.globals before.places side b
-    × (point ≡ cond b if_true if_false) × (after ≡ before)
+Leads (tests side if_true if_false) before point after = (truth : Bool) × IsValue before.globals before.places side truth
+    × (point ≡ cond truth if_true if_false) × (after ≡ before)
 Leads (assumes side target) before point after = IsValue before.globals before.places side true × (point ≡ target) × (after ≡ before)
 Leads (calls target callee es back) before point after = ⊥
 Leads returns before point after = ⊥

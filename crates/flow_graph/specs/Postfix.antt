@@ -8,13 +8,13 @@ use Rattle.language.specs.Value.{operate}
 use Rattle.trees.specs.Trees.{operator_of}
 use Rattle.flow_graph.specs.Bits.{bit_of, coded}
 use Rattle.flow_graph.specs.Located.{worth}
-use Rattle.flow_graph.specs.declared.postfix.Step.{Step}
-use Rattle.flow_graph.specs.declared.postfix.Step.TheVariants.{Read, Constant, Not, Apply, ApplySwapped}
+use Rattle.flow_graph.specs.declared.postfix.Instruction.{Instruction}
+use Rattle.flow_graph.specs.declared.postfix.Instruction.TheVariants.{Read, Constant, Not, Apply, ApplySwapped}
 use Rattle.resolved.specs.Limits.{most_places}
 
 -- what a step makes of the stack, its top first: a bit or a constant is put on it, `Not` negates the top, and an
 -- operator takes two values, the right one from the top, or the left one if the operands came in the other order
-abbrev pub after_step : (ℕ → Bool) → Step → List Bool → List Bool
+abbrev pub after_step : (ℕ → Bool) → Instruction → List Bool → List Bool
 after_step f (Read bit) stack = f bit ∷ stack
 after_step f (Constant truth) stack = truth ∷ stack
 after_step f Not [] = []
@@ -27,7 +27,7 @@ after_step f (ApplySwapped operator) (a ∷ []) = a ∷ []
 after_step f (ApplySwapped operator) (a ∷ b ∷ stack) = operate (operator_of operator) a b ∷ stack
 
 -- what the steps make of the stack, one after the other
-abbrev pub after_steps : (ℕ → Bool) → List Step → List Bool → List Bool
+abbrev pub after_steps : (ℕ → Bool) → List Instruction → List Bool → List Bool
 after_steps f [] stack = stack
 after_steps f (s ∷ ss) stack = after_steps f ss (after_step f s stack)
 
@@ -37,7 +37,7 @@ top [] = false
 top (b ∷ bs) = b
 
 -- from a stack with a given number of values, each step finds what it takes, and none leaves more than 64
-abbrev pub IsShallow : ℕ → List Step → Type 0
+abbrev pub IsShallow : ℕ → List Instruction → Type 0
 IsShallow depth [] = Unit {0}
 IsShallow depth (Read bit ∷ ss) = (depth < 64) × ((bit < most_places) × IsShallow (suc depth) ss)
 IsShallow depth (Constant truth ∷ ss) = (depth < 64) × IsShallow (suc depth) ss
@@ -46,14 +46,14 @@ IsShallow depth (Apply operator ∷ ss) = (2 ≤ depth) × IsShallow (depth - 1)
 IsShallow depth (ApplySwapped operator ∷ ss) = (2 ≤ depth) × IsShallow (depth - 1) ss
 
 -- an inequality of numbers has at most one proof
-less_prop : (i n : ℕ) → IsProp (i < n)
-less_prop i n = le_prop
+less_prop : (left_number right_number : ℕ) → IsProp (left_number < right_number)
+less_prop left_number right_number = le_prop
 
-pub few_prop : (i n : ℕ) → IsProp (i ≤ n)
-few_prop i n = le_prop
+pub few_prop : (left_number right_number : ℕ) → IsProp (left_number ≤ right_number)
+few_prop left_number right_number = le_prop
 
 -- this has at most one proof, so a type may carry it
-pub IsShallow-prop : (depth : ℕ) (steps : List Step) → IsProp (IsShallow depth steps)
+pub IsShallow-prop : (depth : ℕ) (steps : List Instruction) → IsProp (IsShallow depth steps)
 IsShallow-prop depth [] = Unit-prop
 IsShallow-prop depth (Read bit ∷ ss) =
     ×_prop (less_prop depth 64) (×_prop (less_prop bit most_places) (IsShallow-prop (suc depth) ss))
@@ -64,9 +64,9 @@ IsShallow-prop depth (ApplySwapped operator ∷ ss) = ×_prop (few_prop 2 depth)
 
 -- For each stack that has the number old, which is deep enough for the step and not full, new is the number of the
 -- stack after the step.
-abbrev pub IsStepped : Step → ℕ → ℕ → ℕ → Type 0
+abbrev pub IsStepped : Instruction → ℕ → ℕ → ℕ → Type 0
 IsStepped step values old new =
-    (s : List Bool) → old ≡ coded s → IsShallow (length s) (step ∷ []) → new ≡ coded (after_step (bit_of values) step s)
+    (stack : List Bool) → old ≡ coded stack → IsShallow (length stack) (step ∷ []) → new ≡ coded (after_step (bit_of values) step stack)
 
 -- how many values a stack holds at most while an expression is evaluated, the operand that needs more first
 -- (Ershov's number; more than 2^32 - 1 are not told apart)
@@ -78,17 +78,17 @@ need (two operator left right) = cond (need left == need right) (min (need left 
 
 -- The steps evaluate the expression: they put its value on the stack, within the expression's need; and a need
 -- above 64 would take more of them than memory has room for.
-pub record Evaluates (expression : Expression ℕ) (steps : List Step) : Type 0 where
-  pub puts : (f : ℕ → Bool) (rest : List Step) (stack : List Bool) →
-      after_steps f (steps ++ rest) stack ≡ after_steps f rest (worth f expression ∷ stack)
-  pub shallow : (depth : ℕ) (rest : List Step) → depth + need expression ≤ 64 → IsShallow (suc depth) rest →
+pub record Evaluates (expression : Expression ℕ) (steps : List Instruction) : Type 0 where
+  pub puts : (reading : ℕ → Bool) (rest : List Instruction) (stack : List Bool) →
+      after_steps reading (steps ++ rest) stack ≡ after_steps reading rest (worth reading expression ∷ stack)
+  pub shallow : (depth : ℕ) (rest : List Instruction) → depth + need expression ≤ 64 → IsShallow (suc depth) rest →
       IsShallow depth (steps ++ rest)
   pub long : 2 ^ need expression ≤ 2 * length steps
 
 -- from an empty stack, the steps end with the value of the expression on top, whatever values the bits have
-abbrev pub AreCodeOf : List Step → Expression ℕ → Type 0
-AreCodeOf steps expression = (f : ℕ → Bool) → top (after_steps f steps []) ≡ worth f expression
+abbrev pub AreCodeOf : List Instruction → Expression ℕ → Type 0
+AreCodeOf steps expression = (reading : ℕ → Bool) → top (after_steps reading steps []) ≡ worth reading expression
 
 -- such steps have been appended to others
-abbrev pub PutsSteps : List Step → List Step → Expression ℕ → Type 0
-PutsSteps old new expression = (steps : List Step) × (new ≡ old ++ steps) × Evaluates expression steps
+abbrev pub PutsSteps : List Instruction → List Instruction → Expression ℕ → Type 0
+PutsSteps old new expression = (steps : List Instruction) × (new ≡ old ++ steps) × Evaluates expression steps

@@ -22,7 +22,7 @@ known_bit bits row bit = cond (is_input bit bits) (Some (bit_of row (slot bit bi
 
 -- by these values the bits have this row: each has the value of its slot's bit
 abbrev pub HaveRow : List ℕ → ℕ → (ℕ → Bool) → Type 0
-HaveRow bits row f = (b : ℕ) → is_input b bits ≡ true → f b ≡ bit_of row (slot b bits)
+HaveRow bits row f = (place : ℕ) → is_input place bits ≡ true → f place ≡ bit_of row (slot place bits)
 
 -- how many inputs a table has at most
 abbrev pub most_inputs : ℕ
@@ -42,12 +42,14 @@ output words row = bit_of (get_or words (row / word_rows) 0) (row % word_rows)
 
 -- output j is the value of the bit, by all values by which the inputs have row j
 abbrev pub ReadsBit : List ℕ → List ℕ → ℕ → Type 0
-ReadsBit inputs words bit = (f : ℕ → Bool) (j : ℕ) → j < most_rows → HaveRow inputs j f → output words j ≡ f bit
+ReadsBit inputs words bit = (reading : ℕ → Bool) (input_row : ℕ) → input_row < most_rows → HaveRow inputs input_row reading
+    → output words input_row ≡ reading bit
 
 -- output j is the value of the expression, by all values by which the known bits have their row and the inputs row j
 abbrev pub Tabulates : List ℕ → ℕ → List ℕ → List ℕ → Expression ℕ → Type 0
 Tabulates known row inputs words expression =
-    (f : ℕ → Bool) (j : ℕ) → j < most_rows → HaveRow known row f → HaveRow inputs j f → output words j ≡ worth f expression
+    (reading : ℕ → Bool) (input_row : ℕ) → input_row < most_rows → HaveRow known row reading → HaveRow inputs input_row reading
+    → output words input_row ≡ worth reading expression
 
 -- the output in the row of these values
 abbrev pub table_says : List ℕ → List ℕ → ℕ → Bool

@@ -9,17 +9,17 @@ use Rattle.flow_graph.specs.declared.scope.Scope.{Scope}
 use Rattle.resolved.specs.Limits.{most_places}
 
 -- the scope
-abbrev pub scope_seen : {N : Type 0} → Scope N → resolve.Scope
+abbrev pub scope_seen : {TreeAlloc : Type 0} → Scope TreeAlloc → resolve.Scope
 scope_seen scope = record {
   globals = names_of scope.globals.now;
   locals = names_of scope.formals.now ++ names_of scope.locals.now;
-  procedures = map (λ (p : Procedure). p.name) (procs_of scope.procedures.now);
+  procedures = map (λ (program : Procedure). program.name) (procs_of scope.procedures.now);
 }
 
 -- an expression over the bits of the variables
-abbrev pub over_bits : {N : Type 0} → Scope N → Expr N → Expression ℕ
+abbrev pub over_bits : {TreeAlloc : Type 0} → Scope TreeAlloc → Expr TreeAlloc → Expression ℕ
 over_bits scope expression = located (scope_seen scope) (expr_of expression)
 
 -- the variables are no more than the places
-abbrev pub IsSmall : {N : Type 0} → Scope N → Type 0
+abbrev pub IsSmall : {TreeAlloc : Type 0} → Scope TreeAlloc → Type 0
 IsSmall scope = length scope.globals.now + (length scope.formals.now + length scope.locals.now) ≤ most_places

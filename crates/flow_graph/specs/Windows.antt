@@ -17,12 +17,12 @@ abbrev pub seen : List Window → List ℕ
 seen [] = []
 seen (w ∷ ws) = span w.first w.count ++ seen ws
 
--- The window lies in one half of a valuation. If that half is rotated to the right by the turn, its bits come after as
--- many others as are in front of it in the row, and the mask is 1 for them alone.
+-- The window lies in one half of a valuation. If that half is rotated to the right by the rotation, its bits come after
+-- as many others as are in front of it in the row, and the mask is 1 for them alone.
 abbrev pub IsWindow : ℕ → Window → Type 0
 IsWindow front w =
     (w.first % 64 + w.count ≤ 64) × ((w.first + w.count ≤ word_bits)
-    × ((w.turn ≡ (w.first % 64 + 64 - front) % 64) × (w.mask ≡ 2 ^ (w.count + front) - 2 ^ front)))
+    × ((w.rotation ≡ (w.first % 64 + 64 - front) % 64) × (w.mask ≡ 2 ^ (w.count + front) - 2 ^ front)))
 
 -- windows of a row, each after the bits of those in front of it; they have at most as many bits as a table has inputs
 abbrev pub AreWindows : ℕ → List Window → Type 0

@@ -11,7 +11,7 @@ ghost use Rattle.resolved.specs.Limits.{most_places};
 
 use crate::put::put;
 use crate::scope::Scope;
-use crate::side::Side;
+use crate::side::CompiledSide;
 use language::Word;
 use std::alloc::{AllocError, Allocator};
 use trees::{Expr, Name, Rhs};
@@ -21,7 +21,7 @@ use trees::{Expr, Name, Rhs};
 pub(crate) struct Write<A: Allocator> {
     /// The bit, alone.
     pub(crate) mask: Word,
-    pub(crate) side: Side<A>,
+    pub(crate) side: CompiledSide<A>,
 }
 
 /// The valuation with this value for the bits of a mask.
@@ -32,14 +32,14 @@ pub(crate) fn masked(values: Word, mask: Word, value: bool) -> Word
     if value { set } else { set ^ mask }
 }
 
-impl<A: Allocator> Side<A> {
+impl<A: Allocator> CompiledSide<A> {
     /// The choice for the right sides after this one.
     fn choice_left(&self, choice: Word) -> Word
         ensures { result ≡ choice_left self.now choice }
     {
         match self {
-            Side::Any => choice / 2,
-            Side::Value(_) => choice,
+            CompiledSide::Any => choice / 2,
+            CompiledSide::Value(_) => choice,
         }
     }
 }
@@ -52,8 +52,8 @@ fn last_choice<A: Allocator>(writes: &[Write<A>]) -> Word
     let mut last: Word = 0;
     for write in writes {
         last = match &write.side {
-            Side::Any => last * 2 + 1,
-            Side::Value(_) => last,
+            CompiledSide::Any => last * 2 + 1,
+            CompiledSide::Value(_) => last,
         };
     }
     last
@@ -144,7 +144,7 @@ impl<'a, N: Allocator> Scope<'a, N> {
         ensures { IfOk result
             (λ w. (w.mask ≡ mask) × SaysSide w.side (scope_seen self.now) (value (expr_of e.now))) }
     {
-        let side = Side::Value(self.formula(alloc, e)?);
+        let side = CompiledSide::Value(self.formula(alloc, e)?);
         Ok(Write { mask, side })
     }
 

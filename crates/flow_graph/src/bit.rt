@@ -12,7 +12,8 @@ pub(crate) const HALF: u8 = 64;
 /// The half of a valuation that contains a bit: a shift of 128 bits takes several steps.
 #[inline(always)]
 pub(crate) fn half(values: Word, at: u8) -> u64
-    ensures { (i : ℕ) → i < word_bits → i / 64 ≡ at / 64 → bit_at result (i % 64) ≡ bit_at values i }
+    ensures { (i : ℕ) → i < word_bits → i / 64 ≡ at / 64
+        → bit_at result (i % 64) ≡ bit_at values i }
 {
     if at < HALF {
         (values % (1 << HALF)) as u64

@@ -4,8 +4,8 @@ ghost use Rattle.std.specs.Prelude.{◌≡◌, ◌≤◌, ◌^◌, ◌%◌, ◌+
 ghost use Rattle.resolved.specs.Limits.{most_places};
 
 use crate::assignment::masked;
+use crate::exit::Exit;
 use crate::formula::Formula;
-use crate::left::Left;
 use language::{Point, WORD_BITS, Word};
 use std::alloc::Allocator;
 
@@ -33,12 +33,12 @@ pub struct Call<A: Allocator> {
 }
 
 impl<A: Allocator> Call<A> {
-    ghost use Rattle.flow_graph.specs.Drawn.{back_of, callee_of, entered_from, resumed_from};
+    ghost use Rattle.flow_graph.specs.Drawn.{back_of, called_procedure, entered_from, resumed_from};
     ghost use Rattle.flow_graph.specs.Returns.{IsResumed};
 
     /// The number of the procedure that is called.
     pub fn callee(&self) -> u8
-        ensures { result ≡ callee_of self.now }
+        ensures { result ≡ called_procedure self.now }
     {
         self.callee
     }
@@ -66,7 +66,7 @@ impl<A: Allocator> Call<A> {
 
     /// The valuation with which the caller continues from its own after a call that left this: the globals are
     /// those left, the places are the caller's, and the variable that it called for, if any, gets the result.
-    pub fn resumed(&self, values: Word, left: Left) -> Word
+    pub fn resumed(&self, values: Word, left: Exit) -> Word
         ensures number { result ≡ resumed_from self.now values left }
         ensures valuation { IsResumed self.now values left result }
     {

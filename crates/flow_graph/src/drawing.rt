@@ -4,14 +4,14 @@ ghost use Rattle.std.specs.Prelude.{◌≡◌, length, IfOk, codes};
 ghost use Rattle.language.specs.Resolve.{number_of};
 ghost use Rattle.language.specs.Sequential.{sequential_of};
 ghost use Rattle.resolved.specs.Programs.{sequential_tree};
-ghost use Rattle.flow_graph.specs.Drawing.{names_in, drawn_routine, Draws, ScopeHasRoom};
+ghost use Rattle.flow_graph.specs.Drawing.{names_in, drawn_routine, IsGraphOf, ScopeHasRoom};
 ghost use Rattle.flow_graph.specs.Drawn.{bad_of, graphs_of};
 ghost use Rattle.flow_graph.specs.Graphs.{AreDrawnFrom};
 ghost use Rattle.flow_graph.specs.Located.{given_mask};
 
 use crate::flow::Flow;
 use crate::graph::{Graph, Graphs};
-use crate::lowering::{Lowering, begin};
+use crate::lowering::{Lowering, first_point};
 use crate::put::{push, put};
 use crate::scope::Scope;
 use language::{EXIT, Word};
@@ -40,7 +40,7 @@ fn graph<N: Allocator, A: Allocator + Clone>(
     proc: &Proc<N>,
 ) -> Result<Graph<A>, AllocError>
     requires { ScopeHasRoom program.now proc.now }
-    ensures { IfOk result (λ g. Draws program.now proc.now g) }
+    ensures { IfOk result (λ g. IsGraphOf program.now proc.now g) }
 {
     let body = proc.body.as_slice();
     let result = mask_of_result(program, proc);
@@ -60,7 +60,7 @@ fn graph<N: Allocator, A: Allocator + Clone>(
     lowering.block(body, EXIT, &mut flows)?;
     Ok(Graph {
         flows,
-        start: begin(body, 1, EXIT),
+        start: first_point(body, 1, EXIT),
         globals: program.globals.len() as u8,
         result,
     })

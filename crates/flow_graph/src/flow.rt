@@ -6,7 +6,7 @@ ghost use Rattle.flow_graph.specs.Flows.{last_of, next_of};
 
 use crate::assignment::Assignment;
 use crate::call::Call;
-use crate::side::Side;
+use crate::side::CompiledSide;
 use language::{Point, Word};
 use std::alloc::Allocator;
 
@@ -16,9 +16,9 @@ pub enum Flow<A: Allocator> {
     /// Values are written, perhaps none, and the run continues at the point.
     Assign(Assignment<A>, Point),
     /// The run continues at the first point if the right side is 1, and at the second if it is 0.
-    Test(Side<A>, Point, Point),
+    Test(CompiledSide<A>, Point, Point),
     /// The run continues at the point if 1 is a value.
-    Assume(Side<A>, Point),
+    Assume(CompiledSide<A>, Point),
     /// A procedure is called.
     Call(Call<A>),
     /// The procedure is left.
@@ -32,7 +32,7 @@ impl<A: Allocator> Flow<A> {
     {
         match self {
             Flow::Assign(assignment, _) => assignment.last(),
-            Flow::Test(Side::Any, _, _) => 1,
+            Flow::Test(CompiledSide::Any, _, _) => 1,
             _ => 0,
         }
     }
@@ -57,11 +57,11 @@ impl<A: Allocator> Flow<A> {
                 let next = assignment.next(values, choice);
                 (Some((*to, next)), choice < assignment.last())
             }
-            Flow::Test(Side::Any, yes, no) => {
+            Flow::Test(CompiledSide::Any, yes, no) => {
                 let to = if choice % 2 == 1 { *yes } else { *no };
                 (Some((to, values)), choice < 1)
             }
-            Flow::Test(Side::Value(formula), yes, no) => {
+            Flow::Test(CompiledSide::Value(formula), yes, no) => {
                 let to = if formula.value(values) { *yes } else { *no };
                 (Some((to, values)), false)
             }

@@ -5,11 +5,11 @@ ghost use Rattle.trees.specs.Trees.{expr_of};
 ghost use Rattle.flow_graph.specs.Formulas.{says, FormulaSays};
 ghost use Rattle.flow_graph.specs.Views.{scope_seen, IsSmall};
 
-use crate::picks::Picks;
+use crate::case_tables::CaseTables;
 use crate::postfix::Postfix;
-use crate::row::Known;
+use crate::row::KnownBits;
 use crate::scope::Scope;
-use crate::table::Table;
+use crate::table::TruthTable;
 use language::Word;
 use std::alloc::{AllocError, Allocator};
 use trees::Expr;
@@ -18,8 +18,8 @@ use trees::Expr;
 /// each row of the three that it reads most often, if ten others are enough for each; else postfix code.
 #[derive(Drop)]
 pub enum Formula<A: Allocator> {
-    Table(Table<A>),
-    Picks(Picks<A>),
+    Table(TruthTable<A>),
+    Cases(CaseTables<A>),
     Code(Postfix<A>),
 }
 
@@ -32,7 +32,7 @@ impl<A: Allocator> Formula<A> {
     {
         match self {
             Formula::Table(table) => table.value(values),
-            Formula::Picks(picks) => picks.value(values),
+            Formula::Cases(cases) => cases.value(values),
             Formula::Code(code) => code.value(values),
         }
     }
@@ -48,11 +48,11 @@ impl<'a, N: Allocator> Scope<'a, N> {
         requires { IsSmall self.now }
         ensures { IfOk result (λ f. FormulaSays f (scope_seen self.now) (expr_of e.now)) }
     {
-        if let Some(table) = self.table(alloc, e, &Known { bits: &[], row: 0 })? {
+        if let Some(table) = self.table(alloc, e, &KnownBits { bits: &[], row: 0 })? {
             return Ok(Formula::Table(table));
         }
-        match self.picks(alloc, e)? {
-            Some(picks) => Ok(Formula::Picks(picks)),
+        match self.case_tables(alloc, e)? {
+            Some(cases) => Ok(Formula::Cases(cases)),
             None => Ok(Formula::Code(self.postfix(alloc.clone()?, e)?)),
         }
     }

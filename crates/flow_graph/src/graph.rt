@@ -4,8 +4,8 @@ ghost use Rattle.std.specs.Prelude.{◌≡◌, ◌≤◌, ◌<◌, length, slice
 ghost use Rattle.flow_graph.specs.Bits.{has_any};
 
 use crate::call::low_bits;
+use crate::exit::Exit;
 use crate::flow::Flow;
-use crate::left::Left;
 use language::{Point, Word};
 use std::alloc::Allocator;
 
@@ -55,11 +55,11 @@ impl<A: Allocator> Graph<A> {
     }
 
     /// What a call leaves that ends with this valuation: its globals, and the result.
-    pub fn left(&self, values: Word) -> Left
+    pub fn left(&self, values: Word) -> Exit
         ensures number { result ≡ left_by self.now values }
         ensures globals { AreGlobalsOf (globals_of self.now) values result.globals }
     {
-        Left {
+        Exit {
             globals: low_bits(values, self.globals),
             result: has_any(values, self.result),
         }

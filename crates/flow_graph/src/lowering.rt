@@ -15,9 +15,9 @@ use crate::labels::find;
 use crate::outputs::Outputs;
 use crate::put::put;
 use crate::scope::Scope;
-use crate::side::Side;
+use crate::side::CompiledSide;
 use crate::sizes::{size, size_of};
-use crate::table::Table;
+use crate::table::TruthTable;
 use crate::windows::Windows;
 use language::{EXIT, Point, Word};
 use resolved::MOST_PLACES;
@@ -25,7 +25,7 @@ use std::alloc::{AllocError, Allocator};
 use trees::{Core, Expr, Name, Rhs, Stmt, number_of_procedure};
 
 /// The point at which statements begin, the first of which has this number, if the run then continues at `after`.
-pub(crate) fn begin<N: Allocator>(stmts: &[Stmt<N>], first: Point, after: Point) -> Point
+pub(crate) fn first_point<N: Allocator>(stmts: &[Stmt<N>], first: Point, after: Point) -> Point
     ensures { BeginAt stmts.now first after result }
 {
     if stmts.is_empty() { after } else { first }
@@ -35,11 +35,11 @@ pub(crate) fn begin<N: Allocator>(stmts: &[Stmt<N>], first: Point, after: Point)
 fn nowhere<A: Allocator>() -> Flow<A>
     ensures { (widths : Widths) → Does result stops widths }
 {
-    let always_0 = Table {
+    let always_0 = TruthTable {
         inputs: Windows::new(&[]),
         outputs: Outputs::One(0),
     };
-    Flow::Assume(Side::Value(Formula::Table(always_0)), EXIT)
+    Flow::Assume(CompiledSide::Value(Formula::Table(always_0)), EXIT)
 }
 
 /// What the statements of one procedure are lowered with: where it allocates, the names in scope, the procedure's
@@ -54,7 +54,7 @@ pub(crate) struct Lowering<'a, N: Allocator, A: Allocator + Clone> {
 
 impl<'a, N: Allocator, A: Allocator + Clone> Lowering<'a, N, A> {
     /// The flow that continues at a point.
-    fn going(&self, to: Point) -> Result<Flow<A>, AllocError>
+    fn jump_to(&self, to: Point) -> Result<Flow<A>, AllocError>
         requires { IsLowerable self.now }
         ensures { IfOk result (λ f. DoesIn self.now f (goes to)) }
     {
@@ -67,7 +67,7 @@ impl<'a, N: Allocator, A: Allocator + Clone> Lowering<'a, N, A> {
         ensures { IfOk result (λ f. DoesJump self.now f label.now) }
     {
         match find(label.text.as_str(), self.body, 1) {
-            Some(to) => self.going(to),
+            Some(to) => self.jump_to(to),
             None => Ok(nowhere()),
         }
     }
@@ -78,7 +78,7 @@ impl<'a, N: Allocator, A: Allocator + Clone> Lowering<'a, N, A> {
         ensures { IfOk result (λ f. DoesIn self.now f (tests (side_in self.now r.now) yes no)) }
     {
         if yes == no {
-            return self.going(yes);
+            return self.jump_to(yes);
         }
         Ok(Flow::Test(self.scope.side(self.alloc, r)?, yes, no))
     }
@@ -148,19 +148,21 @@ impl<'a, N: Allocator, A: Allocator + Clone> Lowering<'a, N, A> {
         ensures { IfOk result (λ f. DoesFirst self.now f stmt.now number after) }
     {
         match &stmt.core {
-            Core::Skip => self.going(after),
+            Core::Skip => self.jump_to(after),
             Core::Assign(xs, rs) => self.assignment(xs, rs, after),
             Core::If(r, a, b) => {
                 let inside = number.saturating_add(1);
-                let yes = begin(a, inside, after);
-                let no = begin(b, inside.saturating_add(size(a)), after);
+                let yes = first_point(a, inside, after);
+                let no = first_point(b, inside.saturating_add(size(a)), after);
                 self.test(r, yes, no)
             }
-            Core::While(r, a) => { self.test(r, begin(a, number.saturating_add(1), number), after) }
+            Core::While(r, a) => {
+                self.test(r, first_point(a, number.saturating_add(1), number), after)
+            }
             Core::Assert(r) => self.assumption(r, after),
             Core::Assume(r) => self.assumption(r, after),
             Core::Goto(label) => self.jump(label),
-            Core::Return => self.going(EXIT),
+            Core::Return => self.jump_to(EXIT),
             Core::Call(p, es) => self.call(0, p, es, after),
             Core::CallTo(x, p, es) => self.call(self.scope.mask(x), p, es, after),
             Core::Give(e) => self.returned(e),
@@ -182,7 +184,7 @@ impl<'a, N: Allocator, A: Allocator + Clone> Lowering<'a, N, A> {
         let mut rest = stmts;
         while let Some((stmt, more)) = rest.split_first() {
             let behind = flows.len().saturating_add(size_of(stmt));
-            self.statement(stmt, begin(more, behind, after), flows)?;
+            self.statement(stmt, first_point(more, behind, after), flows)?;
             rest = more;
         }
         Ok(())

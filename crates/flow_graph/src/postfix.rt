@@ -18,7 +18,7 @@ use trees::{Expr, Name, Op};
 
 /// One step of postfix code, over a stack of values.
 #[derive(Clone, Copy)]
-pub enum Step {
+pub(crate) enum Instruction {
     /// Puts the value of a bit on the stack.
     Read(u8),
     /// Puts a value on the stack.
@@ -35,18 +35,18 @@ pub enum Step {
 const HALF: u64 = 9_223_372_036_854_775_808;
 
 /// The stack after a step; the stack is a number whose lowest bit is the top.
-fn stepped(step: Step, values: Word, stack: u64) -> u64
+fn stepped(step: Instruction, values: Word, stack: u64) -> u64
     ensures { IsStepped step values stack result }
 {
     match step {
-        Step::Read(b) => stack % HALF * 2 + bit(values, b % WORD_BITS),
-        Step::Constant(b) => stack % HALF * 2 + b as u64,
-        Step::Not => stack / 2 * 2 + (1 - stack % 2),
-        Step::Apply(op) => {
+        Instruction::Read(b) => stack % HALF * 2 + bit(values, b % WORD_BITS),
+        Instruction::Constant(b) => stack % HALF * 2 + b as u64,
+        Instruction::Not => stack / 2 * 2 + (1 - stack % 2),
+        Instruction::Apply(op) => {
             let value = op.apply(stack / 2 % 2 == 1, stack % 2 == 1);
             stack / 4 * 2 + value as u64
         }
-        Step::ApplySwapped(op) => {
+        Instruction::ApplySwapped(op) => {
             let value = op.apply(stack % 2 == 1, stack / 2 % 2 == 1);
             stack / 4 * 2 + value as u64
         }
@@ -56,7 +56,7 @@ fn stepped(step: Step, values: Word, stack: u64) -> u64
 /// An expression as postfix code, which never needs a stack of more than 64 values.
 #[derive(Drop)]
 pub struct Postfix<A: Allocator> {
-    pub(crate) steps: Vec<Step, A>,
+    pub(crate) steps: Vec<Instruction, A>,
     pub(crate) ghost shallow: { IsShallow 0 steps.items } by { IsShallow-prop 0 steps.items },
 }
 
@@ -95,38 +95,42 @@ impl<'a, N: Allocator> Scope<'a, N> {
     }
 
     /// The step that reads a variable: 0 if it is declared nowhere.
-    fn reading(&self, x: &Name<N>) -> Step
+    fn reading(&self, x: &Name<N>) -> Instruction
         requires { IsSmall self.now }
         ensures { Evaluates (located (scope_seen self.now) (var (name_of x.now))) (result ∷ []) }
     {
         match self.bit(x) {
-            Some(bit) => Step::Read(bit),
-            None => Step::Constant(false),
+            Some(bit) => Instruction::Read(bit),
+            None => Instruction::Constant(false),
         }
     }
 
     /// Appends the steps of an expression to others.
-    fn put<A: Allocator>(&self, e: &Expr<N>, steps: &mut Vec<Step, A>) -> Result<(), AllocError>
+    fn put<A: Allocator>(
+        &self,
+        e: &Expr<N>,
+        steps: &mut Vec<Instruction, A>,
+    ) -> Result<(), AllocError>
         requires { IsSmall self.now }
         ensures { IfOk result
             (λ _. PutsSteps steps.old.items steps.new.items (over_bits self.now e.now)) }
     {
         match e {
-            Expr::Const(b) => push(Step::Constant(*b), steps),
+            Expr::Const(b) => push(Instruction::Constant(*b), steps),
             Expr::Var(x) => push(self.reading(x), steps),
             Expr::Not(a) => {
                 self.put(a, steps)?;
-                push(Step::Not, steps)
+                push(Instruction::Not, steps)
             }
             Expr::Two(op, a, b) => {
                 if self.need(a) < self.need(b) {
                     self.put(b, steps)?;
                     self.put(a, steps)?;
-                    push(Step::ApplySwapped(*op), steps)
+                    push(Instruction::ApplySwapped(*op), steps)
                 } else {
                     self.put(a, steps)?;
                     self.put(b, steps)?;
-                    push(Step::Apply(*op), steps)
+                    push(Instruction::Apply(*op), steps)
                 }
             }
         }

@@ -19,12 +19,12 @@ pub(crate) fn slot_of(bits: &[u8], bit: u8) -> usize
 
 /// Bits whose values are known: those of a row.
 #[derive(Drop)]
-pub(crate) struct Known<'b> {
+pub(crate) struct KnownBits<'b> {
     pub(crate) bits: &'b [u8],
     pub(crate) row: u64,
 }
 
-impl<'b> Known<'b> {
+impl<'b> KnownBits<'b> {
     /// The value of a bit; `None` if it is not known.
     pub(crate) fn value(&self, bit: u8) -> Option<bool>
         requires { length self.now.bits.now ≤ most_inputs }

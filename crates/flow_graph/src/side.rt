@@ -13,22 +13,22 @@ use trees::Rhs;
 
 /// A right side, compiled.
 #[derive(Drop)]
-pub enum Side<A: Allocator> {
+pub enum CompiledSide<A: Allocator> {
     /// `?`, which has both values.
     Any,
     /// An expression, which has one.
     Value(Formula<A>),
 }
 
-impl<A: Allocator> Side<A> {
+impl<A: Allocator> CompiledSide<A> {
     /// The value of the right side for a valuation: for `?` it is the lowest bit of the choice.
     #[inline(always)]
     pub(crate) fn value(&self, values: Word, choice: Word) -> bool
         ensures { result ≡ side_value self.now values choice }
     {
         match self {
-            Side::Any => choice % 2 == 1,
-            Side::Value(formula) => formula.value(values),
+            CompiledSide::Any => choice % 2 == 1,
+            CompiledSide::Value(formula) => formula.value(values),
         }
     }
 }
@@ -39,13 +39,13 @@ impl<'a, N: Allocator> Scope<'a, N> {
         &self,
         alloc: &A,
         r: &Rhs<N>,
-    ) -> Result<Side<A>, AllocError>
+    ) -> Result<CompiledSide<A>, AllocError>
         requires { IsSmall self.now }
         ensures { IfOk result (λ side. SaysSide side (scope_seen self.now) (rhs_of r.now)) }
     {
         match r {
-            Rhs::Any => Ok(Side::Any),
-            Rhs::Value(e) => Ok(Side::Value(self.formula(alloc, e)?)),
+            Rhs::Any => Ok(CompiledSide::Any),
+            Rhs::Value(e) => Ok(CompiledSide::Value(self.formula(alloc, e)?)),
         }
     }
 }

@@ -10,27 +10,24 @@ use crate::outputs::{
     ALL, Outputs, WORD_ROWS, WORDS, combined, decided, first_words, outputs_of_constant,
     outputs_of_slot, words_for,
 };
-use crate::row::{Known, slot_of};
+use crate::row::{KnownBits, slot_of};
 use crate::scope::Scope;
-use crate::windows::Windows;
+use crate::windows::{MOST_INPUTS, Windows};
 use arrayvec::ArrayVec;
 use language::Word;
 use resolved::MOST_PLACES;
 use std::alloc::{AllocError, Allocator};
 use trees::{Expr, Op};
 
-/// The most inputs that a table may have.
-const MOST: usize = 10;
-
 /// An expression as a truth table: if input i has the value of bit i of j for each i, the expression has the value of
 /// output j.
 #[derive(Drop)]
-pub struct Table<A: Allocator> {
+pub struct TruthTable<A: Allocator> {
     pub(crate) inputs: Windows,
     pub(crate) outputs: Outputs<A>,
 }
 
-impl<A: Allocator> Table<A> {
+impl<A: Allocator> TruthTable<A> {
     ghost use Rattle.flow_graph.specs.Formulas.{table_worth};
 
     /// The value of the expression for these values.
@@ -44,7 +41,7 @@ impl<A: Allocator> Table<A> {
 }
 
 /// The outputs of a bit, which becomes an input if it was not one; `None` if there are ten others.
-fn read(inputs: &mut ArrayVec<u8, MOST>, bit: u8) -> Option<[u64; WORDS]>
+fn read(inputs: &mut ArrayVec<u8, MOST_INPUTS>, bit: u8) -> Option<[u64; WORDS]>
     ensures widens { Widens inputs.old.items inputs.new.items }
     ensures bits { bit < most_places → AreBits inputs.old.items → AreBits inputs.new.items }
     ensures few { length inputs.old.items ≤ most_inputs → length inputs.new.items ≤ most_inputs }
@@ -61,12 +58,12 @@ fn read(inputs: &mut ArrayVec<u8, MOST>, bit: u8) -> Option<[u64; WORDS]>
 }
 
 /// These bits in order, so that neighbours are read together. The order makes no difference to the value of a table.
-fn in_order(bits: &[u8]) -> ArrayVec<u8, MOST>
+fn in_order(bits: &[u8]) -> ArrayVec<u8, MOST_INPUTS>
     ensures { AreBits result.items }
 {
     let mut sorted = ArrayVec::new();
     for bit in 0..MOST_PLACES {
-        if slot_of(bits, bit as u8) < bits.len() && sorted.len() < MOST {
+        if slot_of(bits, bit as u8) < bits.len() && sorted.len() < MOST_INPUTS {
             sorted.push(bit as u8);
         }
     }
@@ -81,8 +78,8 @@ impl<'a, N: Allocator> Scope<'a, N> {
     fn outputs(
         &self,
         e: &Expr<N>,
-        known: &Known<'_>,
-        inputs: &mut ArrayVec<u8, MOST>,
+        known: &KnownBits<'_>,
+        inputs: &mut ArrayVec<u8, MOST_INPUTS>,
     ) -> Option<[u64; WORDS]>
         requires small { IsSmall self.now }
         requires known { length known.now.bits.now ≤ most_inputs }
@@ -124,8 +121,8 @@ impl<'a, N: Allocator> Scope<'a, N> {
         &self,
         alloc: &A,
         e: &Expr<N>,
-        known: &Known<'_>,
-    ) -> Result<Option<Table<A>>, AllocError>
+        known: &KnownBits<'_>,
+    ) -> Result<Option<TruthTable<A>>, AllocError>
         requires small { IsSmall self.now }
         requires known { length known.now.bits.now ≤ most_inputs }
         ensures { IfOk result
@@ -142,6 +139,6 @@ impl<'a, N: Allocator> Scope<'a, N> {
         };
         let outputs = first_words(alloc, &all, words_for(inputs.len()))?;
         let inputs = Windows::new(inputs.as_slice());
-        Ok(Some(Table { inputs, outputs }))
+        Ok(Some(TruthTable { inputs, outputs }))
     }
 }

@@ -10,8 +10,8 @@ use crate::bit::{HALF, half};
 use arrayvec::ArrayVec;
 use language::Word;
 
-/// The most windows: one for each input of a table.
-const MOST: usize = 10;
+/// The most inputs of a table, and so the most windows: one for each; `specs/Tables.antt` has the number for contracts.
+pub(crate) const MOST_INPUTS: usize = 10;
 
 /// Neighbouring bits in one half of a valuation.
 #[derive(Clone, Copy, Default, Drop)]
@@ -19,7 +19,7 @@ pub(crate) struct Window {
     pub(crate) first: u8,
     pub(crate) count: u8,
     /// By how much the half is rotated to the right, so that the bits are at their places in the row.
-    pub(crate) turn: u8,
+    pub(crate) rotation: u8,
     /// 1 at these places, 0 elsewhere.
     pub(crate) mask: u16,
 }
@@ -27,7 +27,7 @@ pub(crate) struct Window {
 /// The bits of a row, the lowest first.
 #[derive(Drop)]
 pub(crate) struct Windows {
-    pub(crate) items: ArrayVec<Window, MOST>,
+    pub(crate) items: ArrayVec<Window, MOST_INPUTS>,
     pub(crate) ghost laid: { AreWindows 0 items.items } by { AreWindows-prop 0 items.items },
 }
 
@@ -42,14 +42,14 @@ impl Window {
         Window {
             first: bit,
             count: 1,
-            turn: (bit % HALF + HALF - front as u8) % HALF,
+            rotation: (bit % HALF + HALF - front as u8) % HALF,
             mask: 1 << front,
         }
     }
 }
 
 /// Adds a bit to a row: to the last window if it is the next of its half.
-fn add(items: &mut ArrayVec<Window, MOST>, bit: u8, front: usize)
+fn add(items: &mut ArrayVec<Window, MOST_INPUTS>, bit: u8, front: usize)
     requires laid { AreWindows 0 items.old.items }
     requires front { front ≡ length (seen items.old.items) }
     requires room { front < most_inputs }
@@ -96,7 +96,7 @@ impl Windows {
     {
         let mut row: u64 = 0;
         for window in self.items.as_slice() {
-            let half = half(values, window.first).rotate_right(window.turn as u32);
+            let half = half(values, window.first).rotate_right(window.rotation as u32);
             row += half & window.mask as u64;
         }
         row

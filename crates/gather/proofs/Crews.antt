@@ -24,15 +24,15 @@ use Rattle.procedure_worker.specs.declared.outcome.End.TheVariants.{Closed, Abor
 use Rattle.procedure_worker.specs.declared.outcome.Outcome.{Outcome}
 use Rattle.procedure_worker.specs.Works.{Start, begun, IsPassOf, IsFresh, EndsSo}
 use Rattle.procedure_worker.proofs.Works.{new_fresh}
-use Rattle.procedure_worker.specs.declared.room.NoRoom.{NoRoom}
+use Rattle.procedure_worker.specs.declared.memory.OutOfMemory.{OutOfMemory}
 use Rattle.gather.specs.declared.finding.Finding.{Finding}
 use Rattle.gather.specs.declared.finding.Finding.TheVariants as finding
 use Rattle.gather.specs.Findings.{end_of, IsLeftOf}
 use Rattle.gather.specs.declared.lane.Lane.{Lane}
 use Rattle.gather.specs.Ends.{LaneEnds, HaveEnded, HaveLeft, HasWorked, WasDeclined, HaveReturned, IsCrew}
-use Rattle.jobs.specs.declared.jobs.Came.{Came}
-use Rattle.jobs.specs.declared.jobs.Came.TheVariants.{Run, Declined}
-use Rattle.jobs.specs.Jobs.{first_of, second_of, CameOf, HaveCome}
+use Rattle.jobs.specs.declared.jobs.JobResult.{JobResult}
+use Rattle.jobs.specs.declared.jobs.JobResult.TheVariants.{Run, Declined}
+use Rattle.jobs.specs.Jobs.{first_of, second_of, IsResultOf, AreResults}
 use Rattle.gather.specs.Lanes.{start_of, MayWork, RunsSo, DeclinesSo, AreOwn, AreLanes}
 use Rattle.gather.proofs.Full.{got_map}
 
@@ -108,14 +108,14 @@ module _ {R G A S B K P : Type 0} (identity : B → TableId) (sight : P → Sigh
 
   -- each lane has returned what the lane of its procedure returns
   pub all_returned : (members : S → List Triple) (lanes : List (Lane R P G A B S K))
-      (cames : List (Came (P × Finding A))) → AreLanes identity sight graphs limit board lanes
-      → HaveCome (RunsSo identity sight members) (DeclinesSo identity sight members) lanes cames
-      → HaveReturned members sight graphs limit board cames
-  all_returned members lanes cames are come = record {
+      (results : List (JobResult (P × Finding A))) → AreLanes identity sight graphs limit board lanes
+      → AreResults (RunsSo identity sight members) (DeclinesSo identity sight members) lanes results
+      → HaveReturned members sight graphs limit board results
+  all_returned members lanes results are come = record {
     all = come.all ∙ are.all;
     each = λ q c here.
-        let (l, lane) = element_at lanes q (subst (λ n. q < n) come.all (slice_get_within cames q c here)) in
-        subst (λ b. CameOf (HasWorked members sight b) (WasDeclined members sight b) q c) (are.own q l lane).0
+        let (l, lane) = element_at lanes q (subst (λ n. q < n) come.all (slice_get_within results q c here)) in
+        subst (λ b. IsResultOf (HasWorked members sight b) (WasDeclined members sight b) q c) (are.own q l lane).0
         (come.each q l c lane here);
     behind = come.behind;
   }
@@ -140,48 +140,48 @@ partners R (x ∷ xs) has =
     (y ∷ ys, ap suc all, pair_at R x y xs ys first each)
 
 -- the evidence with which a lane failed
-abbrev lack_in : {A : Type 0} → Finding A → Option NoRoom
+abbrev lack_in : {A : Type 0} → Finding A → Option OutOfMemory
 lack_in (finding.Closed s) = None
 lack_in (finding.Unread error) = None
 lack_in finding.Aborted = None
-lack_in (finding.Failed c lack) = lack
+lack_in (finding.Failed c out_of_memory) = out_of_memory
 
 module _ {G A S P : Type 0} (members : S → List Triple) (sight : P → Sight Due (Graphs G)) (graphs : Graphs G)
     (limit : EdgeLimit) (board : TableId) where
   -- what a lane has returned is left of an outcome with which it has ended
-  came_end : (b : Start G) (n : ℕ) (c : Came (P × Finding A))
-      → CameOf (HasWorked members sight b) (WasDeclined members sight b) n c
+  came_end : (b : Start G) (n : ℕ) (c : JobResult (P × Finding A))
+      → IsResultOf (HasWorked members sight b) (WasDeclined members sight b) n c
       → (o : Outcome G A S) × (LaneEnds members b (sight (first_of c)) o × IsLeftOf o (second_of c))
   came_end b n (Run r) come = (come.0, (inl come.1, come.2))
   came_end b n (Declined r none) come = (
-    record { table = None; end = end_of r.1; lack = lack_in r.1 },
+    record { table = None; end = end_of r.1; out_of_memory = lack_in r.1 },
     (
       inr come.0,
-      record { ended = refl; lack = λ c l is. ap lack_in is; found = λ t s there is. absurd (none-some t there) },
+      record { ended = refl; out_of_memory = λ c l is. ap lack_in is; found = λ t s there is. absurd (none-some t there) },
     ),
   )
 
   -- if each lane has returned, all have ended, and this is what they left
-  pub all_left : (cames : List (Came (P × Finding A))) → HaveReturned members sight graphs limit board cames
-      → HaveLeft members graphs limit board (map (λ (c : Came (P × Finding A)). sight (first_of c)) cames)
-      (map (second_of {P = P} {O = Finding A}) cames)
-  all_left cames returned =
-      let (outcomes, all, each) = partners (λ q (c : Came (P × Finding A)) (o : Outcome G A S).
-      LaneEnds members (begun graphs q limit board) (sight (first_of c)) o × IsLeftOf o (second_of c)) cames
+  pub all_left : (results : List (JobResult (P × Finding A))) → HaveReturned members sight graphs limit board results
+      → HaveLeft members graphs limit board (map (λ (c : JobResult (P × Finding A)). sight (first_of c)) results)
+      (map (second_of {P = P} {O = Finding A}) results)
+  all_left results returned =
+      let (outcomes, all, each) = partners (λ q (c : JobResult (P × Finding A)) (o : Outcome G A S).
+      LaneEnds members (begun graphs q limit board) (sight (first_of c)) o × IsLeftOf o (second_of c)) results
       (λ q c here. came_end (begun graphs q limit board) q c (returned.each q c here)) in
       record {
         outcomes = outcomes;
         ended = record {
-          each_pass = length-map cames (λ (c : Came (P × Finding A)). sight (first_of c)) ∙ returned.all;
+          each_pass = length-map results (λ (c : JobResult (P × Finding A)). sight (first_of c)) ∙ returned.all;
           each_outcome = all ∙ returned.all;
           ends = λ q s o at there.
-              let (c, here, pass) = got_map (λ (c : Came (P × Finding A)). sight (first_of c)) cames q s at in
+              let (c, here, pass) = got_map (λ (c : JobResult (P × Finding A)). sight (first_of c)) results q s at in
               subst (λ z. LaneEnds members (begun graphs q limit board) z o) pass (each q c o here there).0;
         };
         left = record {
-          all = length-map cames (second_of {P = P} {O = Finding A}) ∙ sym all;
+          all = length-map results (second_of {P = P} {O = Finding A}) ∙ sym all;
           each = λ q o f there at.
-              let (c, here, is) = got_map (second_of {P = P} {O = Finding A}) cames q f at in
+              let (c, here, is) = got_map (second_of {P = P} {O = Finding A}) results q f at in
               subst (IsLeftOf o) is (each q c o here there).1;
         };
       }

@@ -1,8 +1,8 @@
 pub mod Lists
 pub mod Posts
 pub mod Full
-pub mod Found
+pub mod PostedLemmas
 pub mod Causes
 pub mod Crews
-pub mod Reporting
-pub mod Readings
+pub mod ReportLemmas
+pub mod ReadingLemmas

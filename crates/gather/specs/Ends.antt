@@ -19,79 +19,79 @@ use Rattle.procedure_worker.specs.declared.outcome.End.{End}
 use Rattle.procedure_worker.specs.declared.outcome.End.TheVariants.{Failed}
 use Rattle.procedure_worker.specs.declared.outcome.Outcome.{Outcome}
 use Rattle.procedure_worker.specs.Works.{Start, begun, IsPassOf, IsFresh, HasEnded}
-use Rattle.jobs.specs.declared.jobs.Came.{Came}
-use Rattle.jobs.specs.Jobs.{CameOf, IsDeclined}
+use Rattle.jobs.specs.declared.jobs.JobResult.{JobResult}
+use Rattle.jobs.specs.Jobs.{IsResultOf, IsDeclined}
 use Rattle.gather.specs.declared.finding.Finding.{Finding}
 use Rattle.gather.specs.Findings.{end_of, IsLeftOf, AreLeftOf}
 
 -- The lane had no thread, and ended so: its pass made no event, and aborted the board for that cause, unless another
 -- pass aborted it before.
-pub record HadNoThread {G : Type 0} (b : Start G) (s : Sight Due (Graphs G)) (e : End) : Type 0 where
-  pub pass : IsPassOf b s
-  pub made : s.made ≡ true
+pub record HadNoThread {GraphAlloc : Type 0} (begun : Start GraphAlloc) (sight : Sight Due (Graphs GraphAlloc)) (ending : End) : Type 0 where
+  pub pass : IsPassOf begun sight
+  pub made : sight.made ≡ true
   pub abort : Abort
-  pub kept : s.seen.aborted ≡ Some abort
-  pub first : (abort ≡ record { by = b.number; cause = NoWorker }) ⊎ (abort.by ≢ b.number)
-  pub none : own b.number s.seen.order ≡ []
-  pub named : e ≡ Failed NoWorker
+  pub kept : sight.seen.aborted ≡ Some abort
+  pub first : (abort ≡ record { by = begun.number; cause = NoWorker }) ⊎ (abort.by ≢ begun.number)
+  pub none : own begun.number sight.seen.order ≡ []
+  pub named : ending ≡ Failed NoWorker
 
-module _ {G A S : Type 0} (members : S → List Triple) where
+module _ {GraphAlloc Alloc S : Type 0} (members : S → List Triple) where
   -- the lane's worker has ended, or it had no thread
-  abbrev pub LaneEnds : Start G → Sight Due (Graphs G) → Outcome G A S → Type 0
+  abbrev pub LaneEnds : Start GraphAlloc → Sight Due (Graphs GraphAlloc) → Outcome GraphAlloc Alloc S → Type 0
   LaneEnds b s o = HasEnded b members s o ⊎ HadNoThread b s o.end
 
   -- each lane for which there is a pass and an outcome has ended
-  abbrev pub AllEnd : Graphs G → EdgeLimit → TableId → List (Sight Due (Graphs G)) → List (Outcome G A S) → Type 0
+  abbrev pub AllEnd : Graphs GraphAlloc → EdgeLimit → TableId → List (Sight Due (Graphs GraphAlloc)) → List (Outcome GraphAlloc Alloc S) → Type 0
   AllEnd graphs limit board passes outcomes =
-      (q : ℕ) (s : Sight Due (Graphs G)) (o : Outcome G A S) → slice_get passes q ≡ Some s
-      → slice_get outcomes q ≡ Some o → LaneEnds (begun graphs q limit board) s o
+      (procedure : ℕ) (sight : Sight Due (Graphs GraphAlloc)) (outcome : Outcome GraphAlloc Alloc S) → slice_get passes procedure ≡ Some sight
+      → slice_get outcomes procedure ≡ Some outcome → LaneEnds (begun graphs procedure limit board) sight outcome
 
   -- The lanes of all procedures have ended, by number, each with at most `limit` path edges, on one board.
-  pub record HaveEnded (graphs : Graphs G) (limit : EdgeLimit) (board : TableId) (passes : List (Sight Due (Graphs G)))
-      (outcomes : List (Outcome G A S)) : Type 0 where
+  pub record HaveEnded (graphs : Graphs GraphAlloc) (limit : EdgeLimit) (board : TableId) (passes : List (Sight Due (Graphs GraphAlloc)))
+      (outcomes : List (Outcome GraphAlloc Alloc S)) : Type 0 where
     pub each_pass : length passes ≡ length (graphs_of graphs)
     pub each_outcome : length outcomes ≡ length (graphs_of graphs)
     pub ends : AllEnd graphs limit board passes outcomes
 
   -- The lanes of all procedures have ended, by number, and the findings are what they left.
-  pub record HaveLeft (graphs : Graphs G) (limit : EdgeLimit) (board : TableId) (passes : List (Sight Due (Graphs G)))
-      (findings : List (Finding A)) : Type 0 where
-    pub outcomes : List (Outcome G A S)
+  pub record HaveLeft (graphs : Graphs GraphAlloc) (limit : EdgeLimit) (board : TableId) (passes : List (Sight Due (Graphs GraphAlloc)))
+      (findings : List (Finding Alloc)) : Type 0 where
+    pub outcomes : List (Outcome GraphAlloc Alloc S)
     pub ended : HaveEnded graphs limit board passes outcomes
     pub left : AreLeftOf outcomes findings
 
   -- The findings are those of the lanes of one board, which has left these histories.
-  pub record AreOfBoard (graphs : Graphs G) (histories : List (List (Event Due))) (closed : Bool)
-      (findings : List (Finding A)) : Type 0 where
+  pub record AreOfBoard (graphs : Graphs GraphAlloc) (histories : List (List (Event Due))) (closed : Bool)
+      (findings : List (Finding Alloc)) : Type 0 where
     pub limit : EdgeLimit
     pub board : TableId
-    pub passes : List (Sight Due (Graphs G))
+    pub passes : List (Sight Due (Graphs GraphAlloc))
     pub lanes : HaveLeft graphs limit board passes findings
     pub settled : Settles FitsIn (length (graphs_of graphs)) passes histories closed
 
-module _ {G A S P : Type 0} (members : S → List Triple) (sight : P → Sight Due (Graphs G)) where
+module _ {GraphAlloc Alloc S P : Type 0} (members : S → List Triple) (sight : P → Sight Due (Graphs GraphAlloc)) where
   -- a lane that ran returned its pass and what is left of the outcome of its worker, which has ended
-  abbrev pub HasWorked : Start G → P × Finding A → Type 0
-  HasWorked b r = (o : Outcome G A S) × HasEnded b members (sight r.0) o × IsLeftOf o r.1
+  abbrev pub HasWorked : Start GraphAlloc → P × Finding Alloc → Type 0
+  HasWorked b r = (outcome : Outcome GraphAlloc Alloc S) × HasEnded b members (sight r.0) outcome × IsLeftOf outcome r.1
 
   -- a lane that was declined returned its pass, and that it had no thread
-  abbrev pub WasDeclined : Start G → P × Finding A → Type 0
+  abbrev pub WasDeclined : Start GraphAlloc → P × Finding Alloc → Type 0
   WasDeclined b r = HadNoThread b (sight r.0) (end_of r.1)
 
   -- What the lanes of all procedures returned, by number. A lane that ran has worked. For a lane that was declined
   -- there is evidence that its start was refused, or that of a lane before it; after such a lane all were declined.
-  pub record HaveReturned (graphs : Graphs G) (limit : EdgeLimit) (board : TableId)
-      (cames : List (Came (P × Finding A))) : Type 0 where
-    pub all : length cames ≡ length (graphs_of graphs)
-    pub each : (q : ℕ) (c : Came (P × Finding A)) → slice_get cames q ≡ Some c
-        → CameOf (HasWorked (begun graphs q limit board)) (WasDeclined (begun graphs q limit board)) q c
-    pub behind : (i k : ℕ) (c d : Came (P × Finding A)) → i ≤ k → slice_get cames i ≡ Some c → slice_get cames k ≡ Some d
-        → IsDeclined c → IsDeclined d
+  pub record HaveReturned (graphs : Graphs GraphAlloc) (limit : EdgeLimit) (board : TableId)
+      (results : List (JobResult (P × Finding Alloc))) : Type 0 where
+    pub all : length results ≡ length (graphs_of graphs)
+    pub each : (procedure : ℕ) (result : JobResult (P × Finding Alloc)) → slice_get results procedure ≡ Some result
+        → IsResultOf (HasWorked (begun graphs procedure limit board)) (WasDeclined (begun graphs procedure limit board)) procedure result
+    pub behind : (index later : ℕ) (result later_result : JobResult (P × Finding Alloc)) → index ≤ later → slice_get results index ≡ Some result → slice_get results later ≡ Some later_result
+        → IsDeclined result → IsDeclined later_result
 
 -- The graphs are some program's, and the passes are those of all its procedures, by number, as given by a board that
 -- the starter's message opened.
-pub record IsCrew {G : Type 0} (graphs : Graphs G) (limit : EdgeLimit) (board : TableId)
-    (passes : List (Sight Due (Graphs G))) : Type 0 where
-  pub drawn : (p : Program) × AreDrawnFrom p (graphs_of graphs)
+pub record IsCrew {GraphAlloc : Type 0} (graphs : Graphs GraphAlloc) (limit : EdgeLimit) (board : TableId)
+    (passes : List (Sight Due (Graphs GraphAlloc))) : Type 0 where
+  pub drawn : (program : Program) × AreDrawnFrom program (graphs_of graphs)
   pub all : length passes ≡ length (graphs_of graphs)
-  pub fresh : (q : ℕ) (s : Sight Due (Graphs G)) → slice_get passes q ≡ Some s → IsFresh (begun graphs q limit board) s
+  pub fresh : (procedure : ℕ) (sight : Sight Due (Graphs GraphAlloc)) → slice_get passes procedure ≡ Some sight → IsFresh (begun graphs procedure limit board) sight

@@ -45,18 +45,18 @@ verdict_of failure = verdict_for failure.procedure failure.cause
 -- The worker of the procedure with this number has failed for this cause, and none has for one of a lesser rank.
 pub record IsLeastFailure (ends : List End) (failure : Failure) : Type 0 where
   pub named : slice_get ends failure.procedure ≡ Some (Failed failure.cause)
-  pub least : (c : Cause) → Member (Failed c) ends → rank_of failure.cause ≤ rank_of c
+  pub least : (cause_now : Cause) → Member (Failed cause_now) ends → rank_of failure.cause ≤ rank_of cause_now
 
 -- no end names a cause
 abbrev pub NoneFailed : List End → Type 0
-NoneFailed ends = (c : Cause) → Member (Failed c) ends → ⊥
+NoneFailed ends = (cause_now : Cause) → Member (Failed cause_now) ends → ⊥
 
 -- every worker has ended at the close
 abbrev pub AllClosed : List End → Type 0
-AllClosed ends = (e : End) → Member e ends → e ≡ Closed
+AllClosed ends = (ending : End) → Member ending ends → ending ≡ Closed
 
 -- these were read off the tables of all lanes, in their order, if every worker has ended at the close
-abbrev pub AreRead : {A : Type 0} → List (Finding A) → List Effect → Type 0
+abbrev pub AreRead : {Alloc : Type 0} → List (Finding Alloc) → List Effect → Type 0
 AreRead findings ss = AllClosed (ends_in findings) → findings ≡ map closed_with ss
 
 -- the failure is the least, if a worker has failed
@@ -73,12 +73,12 @@ pub record IsLesser (one : Option Failure) (other failure : Failure) : Type 0 wh
 
 -- The summaries are those of the programs that the graphs are drawn from, if no procedure has more path edges than
 -- the limit, the board is closed, and every worker has ended at the close.
-pub record IsGathered {G : Type 0} (graphs : Graphs G) (most : ℕ) (closed : Bool) (ends : List End) (s : Effects) : Type 0 where
+pub record IsGathered {GraphAlloc : Type 0} (graphs : Graphs GraphAlloc) (most : ℕ) (closed : Bool) (ends : List End) (effects : Effects) : Type 0 where
   pub shut : closed ≡ true
   pub ended : AllClosed ends
-  pub summaries : (p : Program) → AreDrawnFrom p (graphs_of graphs) → AreSummaries p s
-  pub bad : (p : Program) → AreDrawnFrom p (graphs_of graphs) → SomePairBad s ↔ SomeBad p (bad_of graphs)
-  pub few : (p : Program) → AreDrawnFrom p (graphs_of graphs) → (q : ℕ) → HasMoreEdges p q most → ⊥
+  pub summaries : (program : Program) → AreDrawnFrom program (graphs_of graphs) → AreSummaries program effects
+  pub bad : (program : Program) → AreDrawnFrom program (graphs_of graphs) → SomePairBad effects ↔ SomeBad program (bad_of graphs)
+  pub few : (program : Program) → AreDrawnFrom program (graphs_of graphs) → (procedure : ℕ) → HasMoreEdges program procedure most → ⊥
 
 -- why nothing is gathered: the least failure of a worker, or lack of memory if every worker ended at the close
 abbrev pub IsCause : List End → NoVerdict → Type 0
@@ -86,9 +86,9 @@ IsCause ends why =
     ((failure : Failure) × IsLeastFailure ends failure × (why ≡ verdict_of failure))
     ⊎ ((why ≡ verdict.Memory) × AllClosed ends)
 
-module _ {G A S : Type 0} (members : S → List Triple) where
+module _ {GraphAlloc Alloc S : Type 0} (members : S → List Triple) where
   -- The findings are gathered, whichever board they are of.
-  abbrev pub Gathers : Graphs G → List (Finding A) → Result Effects NoVerdict → Type 0
+  abbrev pub Gathers : Graphs GraphAlloc → List (Finding Alloc) → Result Effects NoVerdict → Type 0
   Gathers graphs findings r =
       (histories : List (List (Event Due))) (closed : Bool) (of : AreOfBoard members graphs histories closed findings)
       → IfOk r (IsGathered graphs (most_of of.limit) closed (ends_in findings)) × IfErr r (IsCause (ends_in findings))

@@ -25,7 +25,7 @@ use Rattle.gather.specs.Through.{AreThrough}
 
 -- the messages that were posted to a mailbox, in order
 abbrev pub posted_to : {M : Type 0} → List (Event M) → List M
-posted_to {M} h = map (λ (p : ℕ × M). p.1) (posts h)
+posted_to {M} h = map (λ (posted : ℕ × M). posted.1) (posts h)
 
 -- the number of the sender of a message, if the starter has this number: an entry is sent by its caller, a summary by
 -- the procedure that it is of
@@ -36,38 +36,38 @@ sender_of starter (Summary s r a b) = s
 
 -- The messages posted are those that are due for procedure q, each once, and each was posted by its sender, if the
 -- starter's number is that of the procedures.
-pub record AreDueOnce (p : Program) (q : ℕ) (h : List (Event Due)) : Type 0 where
-  pub once : NoneTwice (posted_to h)
-  pub all : (k : NumberedMessage) → Member (due_of k) (posted_to h) ↔ IsNumberOf (IsDue p q) k
-  pub senders : (s : ℕ) (d : Due) → Member (s, d) (posts h) → s ≡ sender_of (length p.routines) d
+pub record AreDueOnce (program : Program) (procedure : ℕ) (history : List (Event Due)) : Type 0 where
+  pub once : NoneTwice (posted_to history)
+  pub all : (numbered : NumberedMessage) → Member (due_of numbered) (posted_to history) ↔ IsNumberOf (IsDue program procedure) numbered
+  pub senders : (sender : ℕ) (message : Due) → Member (sender, message) (posts history) → sender ≡ sender_of (length program.routines) message
 
 -- What the workers of a sequential program have done and found. In each mailbox each message posted was taken once,
 -- each sender's in the order of posting, and nothing was posted after the close; the messages posted are those due
 -- there, each once and by its sender; the summaries are exactly the entries and pairs of each procedure; and no
 -- procedure has more path edges than `most`.
-pub record IsFound (p : Program) (most : ℕ) (histories : List (List (Event Due))) (s : Effects) : Type 0 where
-  pub through : AreThrough (length p.routines) histories
-  pub due : (q : ℕ) (h : List (Event Due)) → slice_get histories q ≡ Some h → AreDueOnce p q h
-  pub summaries : AreSummaries p s
-  pub few : (q : ℕ) → HasMoreEdges p q most → ⊥
+pub record IsFound (program : Program) (most : ℕ) (histories : List (List (Event Due))) (effects : Effects) : Type 0 where
+  pub through : AreThrough (length program.routines) histories
+  pub due : (procedure : ℕ) (history : List (Event Due)) → slice_get histories procedure ≡ Some history → AreDueOnce program procedure history
+  pub summaries : AreSummaries program effects
+  pub few : (procedure : ℕ) → HasMoreEdges program procedure most → ⊥
 
 -- The report on a source for K rounds: its workers have found what there is in its rewriting, and its board is
 -- closed; the answer is `Unsafe`, and some pair of `main__` is bad, if and only if some run of at most K
 -- rounds fails an assert.
-pub record IsReport {H A : Type 0} (source : Tree) (rounds most : ℕ) (r : Report H A) : Type 0 where
-  pub found : IsFound (sequential_for rounds source) most r.ledger.histories.items r.summaries
-  pub closed : r.ledger.closed ≡ true
-  pub answer : (r.answer ≡ answer.Unsafe) ↔ Unsafe (meaning_of source) rounds
-  pub bad : SomePairBad r.summaries ↔ Unsafe (meaning_of source) rounds
+pub record IsReport {H Alloc : Type 0} (source : Tree) (rounds most : ℕ) (report : Report H Alloc) : Type 0 where
+  pub found : IsFound (sequential_for rounds source) most report.ledger.histories.items report.summaries
+  pub closed : report.ledger.closed ≡ true
+  pub answer : (report.answer ≡ answer.Unsafe) ↔ Unsafe (meaning_of source) rounds
+  pub bad : SomePairBad report.summaries ↔ Unsafe (meaning_of source) rounds
   pub narrow : IsNarrowFor rounds source
 
 -- What one thread finds of a source for K rounds: the summaries are those of its rewriting, in which no procedure
 -- has more path edges than `most`, and some pair of `main__` is bad if and only if some run of at most K rounds
 -- fails an assert.
-pub record IsTabulated (source : Tree) (rounds most : ℕ) (s : Effects) : Type 0 where
-  pub summaries : AreSummaries (sequential_for rounds source) s
-  pub few : (q : ℕ) → HasMoreEdges (sequential_for rounds source) q most → ⊥
-  pub bad : SomePairBad s ↔ Unsafe (meaning_of source) rounds
+pub record IsTabulated (source : Tree) (rounds most : ℕ) (effects : Effects) : Type 0 where
+  pub summaries : AreSummaries (sequential_for rounds source) effects
+  pub few : (procedure : ℕ) → HasMoreEdges (sequential_for rounds source) procedure most → ⊥
+  pub bad : SomePairBad effects ↔ Unsafe (meaning_of source) rounds
   pub narrow : IsNarrowFor rounds source
 
 -- Why there is no report: the rewriting is too wide, and only then; the procedure of it with this number has more path

@@ -12,8 +12,8 @@ pub record AreThrough {M : Type 0} (boxes : ℕ) (histories : List (List (Event 
   pub order : List (Entry M)
   pub lawful : IsLawful boxes order
   pub all : length histories ≡ boxes
-  pub parts : (q : ℕ) (h : List (Event M)) → slice_get histories q ≡ Some h → h ≡ part q order
-  pub each_taken : (q : ℕ) (h : List (Event M)) → slice_get histories q ≡ Some h → takes h ≡ posts h
-  pub in_order : (q s : ℕ) (h : List (Event M)) → slice_get histories q ≡ Some h → taken s h ≡ sent s h
+  pub parts : (procedure : ℕ) (history : List (Event M)) → slice_get histories procedure ≡ Some history → history ≡ part procedure order
+  pub each_taken : (procedure : ℕ) (history : List (Event M)) → slice_get histories procedure ≡ Some history → takes history ≡ posts history
+  pub in_order : (procedure sender : ℕ) (history : List (Event M)) → slice_get histories procedure ≡ Some history → taken sender history ≡ sent sender history
   pub close : IsClosed order
   pub last : (front rest : List (Entry M)) → order ≡ front ++ rest → IsLawful boxes front → IsClosed front → rest ≡ []

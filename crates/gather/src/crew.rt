@@ -7,7 +7,7 @@ ghost use Rattle.gather.specs.Lanes.{AreLanes};
 use crate::finding::Finding;
 use crate::kinds::{CrewBoard, CrewSet, WorkBoard, WorkSet};
 use crate::lane::Lane;
-use jobs::{Came, Hire, run_all};
+use jobs::{Hire, JobResult, run_all};
 use procedure_worker::{Context, Gate};
 use std::alloc::{AllocError, Allocator};
 use std::marker::PhantomData;
@@ -50,7 +50,7 @@ pub(crate) fn work_all<'c, 'g, R, B, S, K, H>(
     alloc: S::Heap,
     passes: Vec<B::Pass, B::Heap>,
     hire: &H,
-) -> Result<Vec<Came<(B::Pass, Finding<S::Heap>)>, S::Heap>, AllocError>
+) -> Result<Vec<JobResult<(B::Pass, Finding<S::Heap>)>, S::Heap>, AllocError>
 where
     R: Wait + Threads + Sync,
     B: CrewBoard,
@@ -59,46 +59,46 @@ where
     H: Hire,
     requires { IsCrew context.now.graphs.now context.now.limit
         (B.identity context.now.board.now) (map B.sight passes.items) }
-    ensures { IfOk result (λ cames. HaveReturned S.members B.sight context.now.graphs.now
-        context.now.limit (B.identity context.now.board.now) cames.items) }
+    ensures { IfOk result (λ results. HaveReturned S.members B.sight context.now.graphs.now
+        context.now.limit (B.identity context.now.board.now) results.items) }
 {
     let lanes = lanes_of::<R, B, S, K>(context, alloc, passes)?;
     // By the borrow checker of the kit, a result that is returned as it comes would still borrow what the lanes did.
-    let cames = run_all(context.rt, alloc, lanes, hire)?;
-    Ok(cames)
+    let results = run_all(context.rt, alloc, lanes, hire)?;
+    Ok(results)
 }
 
-/// Splits the pairs that came into two lists that have room for them.
-fn part<P: Drop, O: Drop, H: Allocator, A: Allocator>(
-    cames: Vec<Came<(P, O)>, A>,
+/// Splits the pairs that result into two lists that have room for them.
+fn split_into<P: Drop, O: Drop, H: Allocator, A: Allocator>(
+    results: Vec<JobResult<(P, O)>, A>,
     firsts: &mut Vec<P, H>,
     seconds: &mut Vec<O, A>,
 )
-    requires room { (length cames.items ≤ vec_capacity firsts.old)
-        × (length cames.items ≤ vec_capacity seconds.old) }
+    requires room { (length results.items ≤ vec_capacity firsts.old)
+        × (length results.items ≤ vec_capacity seconds.old) }
     requires empty { (firsts.old.items ≡ []) × (seconds.old.items ≡ []) }
-    ensures firsts { firsts.new.items ≡ map first_of cames.items }
-    ensures seconds { seconds.new.items ≡ map second_of cames.items }
+    ensures firsts { firsts.new.items ≡ map first_of results.items }
+    ensures seconds { seconds.new.items ≡ map second_of results.items }
 {
-    for came in cames {
-        let (first, second) = came.back();
+    for result in results {
+        let (first, second) = result.returned();
         firsts.push_reserved(first);
         seconds.push_reserved(second);
     }
 }
 
-/// Splits the pairs that came into two lists. It is generic in what they hold, so that no caller has the drops of a
+/// Splits the pairs that result into two lists. It is generic in what they hold, so that no caller has the drops of a
 /// list that is still empty.
-pub(crate) fn parted<P: Drop, O: Drop, H: Allocator, A: Allocator>(
+pub(crate) fn split_results<P: Drop, O: Drop, H: Allocator, A: Allocator>(
     heap: H,
     alloc: A,
-    cames: Vec<Came<(P, O)>, A>,
+    results: Vec<JobResult<(P, O)>, A>,
 ) -> Result<(Vec<P, H>, Vec<O, A>), AllocError>
-    ensures { IfOk result (λ r. (r.0.items ≡ map first_of cames.items)
-        × (r.1.items ≡ map second_of cames.items)) }
+    ensures { IfOk result (λ r. (r.0.items ≡ map first_of results.items)
+        × (r.1.items ≡ map second_of results.items)) }
 {
-    let mut firsts = Vec::with_capacity(heap, cames.len())?;
-    let mut seconds = Vec::with_capacity(alloc, cames.len())?;
-    part(cames, &mut firsts, &mut seconds);
+    let mut firsts = Vec::with_capacity(heap, results.len())?;
+    let mut seconds = Vec::with_capacity(alloc, results.len())?;
+    split_into(results, &mut firsts, &mut seconds);
     Ok((firsts, seconds))
 }

@@ -4,7 +4,7 @@ ghost use Rattle.summaries.specs.declared.table.Table.{Table};
 ghost use Rattle.gather.specs.Findings.{end_of, IsLeftOf};
 
 use path_sets::PathSet;
-use procedure_worker::{End, NoRoom, Outcome};
+use procedure_worker::{End, OutOfMemory, Outcome};
 use std::alloc::{AllocError, Allocator};
 use summaries::{Summary, read_off};
 use switchboard::Cause;
@@ -19,7 +19,7 @@ pub enum Finding<A: Allocator> {
     /// Its worker ended at the abort of another pass.
     Aborted,
     /// Its pass aborted the board for this cause; for lack of memory there is evidence that memory was refused.
-    Failed(Cause, Option<NoRoom>),
+    Failed(Cause, Option<OutOfMemory>),
 }
 
 impl<A: Allocator> Finding<A> {
@@ -44,7 +44,11 @@ pub(crate) fn finding_of<G: Allocator, A: Allocator + Copy, S: PathSet<A>>(
     requires { (t : Table G A S) × (outcome.table ≡ Some t) }
     ensures { IsLeftOf outcome.entry result }
 {
-    let Outcome { table, end, lack } = outcome;
+    let Outcome {
+        table,
+        end,
+        out_of_memory,
+    } = outcome;
     let Some(table) = table else { unreachable!() };
     match end {
         End::Closed => match read_off(alloc, table) {
@@ -52,6 +56,6 @@ pub(crate) fn finding_of<G: Allocator, A: Allocator + Copy, S: PathSet<A>>(
             Err(error) => Finding::Unread(error),
         },
         End::Aborted => Finding::Aborted,
-        End::Failed(cause) => Finding::Failed(cause, lack),
+        End::Failed(cause) => Finding::Failed(cause, out_of_memory),
     }
 }

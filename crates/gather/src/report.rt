@@ -10,7 +10,7 @@ ghost use Rattle.path_sets.specs.EdgeLimits.{most_of};
 ghost use Rattle.summaries.specs.Tabulated.{HasMoreEdges, SomePairBad};
 ghost use Rattle.gather.specs.Reports.{IsFound, IsReport, IsNoReport};
 
-use crate::crew::{parted, work_all};
+use crate::crew::{split_results, work_all};
 use crate::gathering::gather;
 use crate::kinds::{CrewBoard, CrewSet};
 use checked::Checked;
@@ -39,6 +39,7 @@ pub enum Answer {
 /// What the workers of a rewritten program did and found, and what follows for the program as it was written.
 #[derive(Drop)]
 pub struct Report<H: Allocator, A: Allocator> {
+    /// Whether the program is safe within the rounds.
     pub answer: Answer,
     /// What was posted, taken and completed, for each mailbox.
     pub ledger: Ledger<Due, H>,
@@ -89,7 +90,7 @@ where
         limit,
     };
     let ended = work_all::<R, B, S, K, H>(&context, alloc, passes, hire)?;
-    let (mut back, findings) = parted(heap, alloc, ended)?;
+    let (mut back, findings) = split_results(heap, alloc, ended)?;
     let ledger = board.into_ledger(&mut back);
     let summaries = gather::<B::Heap, S::Heap, S>(alloc, graphs, findings)?;
     Ok((ledger, summaries))

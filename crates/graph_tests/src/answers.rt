@@ -1,7 +1,7 @@
 //! Answers to questions on flow graphs. A question is a word and numbers: valuations in binary digits after `0b`,
 //! others in decimal.
 
-use flow_graph::{Call, Flow, Graph, Graphs, Left};
+use flow_graph::{Call, Flow, Graph, Graphs, Exit};
 use language::{Point, Word};
 use std::alloc::Allocator;
 use std::fmt::Write;
@@ -58,7 +58,7 @@ fn put_pair<B: Allocator>(out: &mut String<B>, pair: (Point, Word)) -> Option<()
 }
 
 /// Appends the globals and the result that a call leaves to the others.
-fn put_left<B: Allocator>(out: &mut String<B>, left: Left) -> Option<()> {
+fn put_left<B: Allocator>(out: &mut String<B>, left: Exit) -> Option<()> {
     let globals = left.globals;
     let result = u8::from(left.result);
     write!(out, " {globals:b}:{result}").ok()
@@ -182,8 +182,8 @@ fn kind<A: Allocator>(flow: &Flow<A>) -> &'static str {
 }
 
 /// What a call leaves: these globals, and a result.
-fn left(globals: Word, given: Word) -> Left {
-    Left {
+fn left(globals: Word, given: Word) -> Exit {
+    Exit {
         globals,
         result: given == 1,
     }

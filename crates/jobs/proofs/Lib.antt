@@ -1,2 +1,2 @@
-pub mod Coming
-pub mod Beginning
+pub mod ResultLemmas
+pub mod BeginLemmas

@@ -1,6 +1,6 @@
 //! Jobs, each in a thread of its own.
 ghost use Rattle.std.specs.Prelude.{◌≡◌, ◌≤◌, [], length, vec_capacity, IfOk, IfSome};
-ghost use Rattle.jobs.specs.Jobs.{refusal_of, AllCanRun, AreBegun, HasNoThread, HaveCome, OfJob};
+ghost use Rattle.jobs.specs.Jobs.{refusal_of, AllCanRun, AreBegun, HasNoThread, AreResults, OfJob};
 ghost use Rattle.jobs.specs.Jobs.{WasBegun};
 
 use crate::hire::Hire;
@@ -36,36 +36,36 @@ pub trait Job: Drop {
 
 /// The result of a job.
 #[derive(Drop)]
-pub enum Came<B> {
+pub enum JobResult<B> {
     /// It was run, and returned this.
     Run(B),
     /// It was declined, since there was no thread for it, and returned this.
     Declined(B, NoThread),
 }
 
-impl<B: Drop> Came<B> {
+impl<B: Drop> JobResult<B> {
     ghost use Rattle.std.specs.Prelude.{◌≡◌};
-    ghost use Rattle.jobs.specs.Jobs.{back_of};
+    ghost use Rattle.jobs.specs.Jobs.{returned_by};
 
     /// What the job returned.
-    pub fn back(self) -> B
-        ensures { result ≡ back_of self }
+    pub fn returned(self) -> B
+        ensures { result ≡ returned_by self }
     {
         match self {
-            Came::Run(back) => back,
-            Came::Declined(back, _) => back,
+            JobResult::Run(back) => back,
+            JobResult::Declined(back, _) => back,
         }
     }
 }
 
 /// What the thread of a job promises: what the job with this number gives if it is run.
 #[derive(Drop)]
-pub(crate) struct Gives<J, L> {
+pub(crate) struct JobPromise<J, L> {
     pub(crate) number: u8,
     pub(crate) of: PhantomData<(J, L)>,
 }
 
-impl<J: Job, L: Lineup<J>> Promise<J::Back> for Gives<J, L> {
+impl<J: Job, L: Lineup<J>> Promise<J::Back> for JobPromise<J, L> {
     ghost kept_by = { λ p b. OfJob L.jobs J.runs p.number b };
 }
 
@@ -86,7 +86,7 @@ fn begin<'s, 'f: 's, E, R: Wait + Sync, L: Lineup<J> + Send + 's, J: Job + Send 
     number: u8,
     refused: &mut Option<NoThread>,
     hire: &H,
-) -> Begun<J::Back, Gives<J, L>>
+) -> Begun<J::Back, JobPromise<J, L>>
 where
     J::Back: Send + Drop + 's,
     requires runs { AllCanRun J.can_run L.jobs }
@@ -121,7 +121,7 @@ fn begin_all<
     rt: &'f R,
     slots: &'f [Mutex<Slot<J, L>>],
     hire: &H,
-    begun: &mut Vec<Begun<J::Back, Gives<J, L>>, A>,
+    begun: &mut Vec<Begun<J::Back, JobPromise<J, L>>, A>,
 )
 where
     J::Back: Send + Drop + 's,
@@ -143,20 +143,20 @@ where
 /// Waits for all jobs that were begun.
 fn end_all<R: Threads, L: Lineup<J>, J: Job, A: Allocator>(
     rt: &R,
-    begun: Vec<Begun<J::Back, Gives<J, L>>, A>,
-    cames: &mut Vec<Came<J::Back>, A>,
+    begun: Vec<Begun<J::Back, JobPromise<J, L>>, A>,
+    results: &mut Vec<JobResult<J::Back>, A>,
 )
 where
     J::Back: Drop,
     requires begun { AreBegun J.declines L.jobs begun.items }
-    requires room { length begun.items ≤ vec_capacity cames.old }
-    requires empty { cames.old.items ≡ [] }
-    ensures { HaveCome J.runs J.declines L.jobs cames.new.items }
+    requires room { length begun.items ≤ vec_capacity results.old }
+    requires empty { results.old.items ≡ [] }
+    ensures { AreResults J.runs J.declines L.jobs results.new.items }
 {
     for one in begun {
-        cames.push_reserved(match one {
-            Begun::InThread(handle) => Came::Run(handle.join(rt)),
-            Begun::Without(back, none) => Came::Declined(back, none),
+        results.push_reserved(match one {
+            Begun::InThread(handle) => JobResult::Run(handle.join(rt)),
+            Begun::Without(back, none) => JobResult::Declined(back, none),
         });
     }
 }
@@ -197,34 +197,34 @@ fn run_slots<R: Wait + Threads + Sync, L: Lineup<J> + Send, J: Job + Send, H: Hi
     rt: &R,
     slots: &[Mutex<Slot<J, L>>],
     hire: &H,
-    mut begun: Vec<Begun<J::Back, Gives<J, L>>, A>,
-    mut cames: Vec<Came<J::Back>, A>,
-) -> Vec<Came<J::Back>, A>
+    mut begun: Vec<Begun<J::Back, JobPromise<J, L>>, A>,
+    mut results: Vec<JobResult<J::Back>, A>,
+) -> Vec<JobResult<J::Back>, A>
 where
     J::Back: Send + Drop,
     requires few { length slots.now ≤ 64 }
     requires all { length slots.now ≡ length L.jobs }
     requires room { (length slots.now ≤ vec_capacity begun)
-        × (length slots.now ≤ vec_capacity cames) }
-    requires empty { (begun.items ≡ []) × (cames.items ≡ []) }
+        × (length slots.now ≤ vec_capacity results) }
+    requires empty { (begun.items ≡ []) × (results.items ≡ []) }
     requires runs { AllCanRun J.can_run L.jobs }
-    ensures { HaveCome J.runs J.declines L.jobs result.items }
+    ensures { AreResults J.runs J.declines L.jobs result.items }
 {
     thread::scope(
         thread::scope_env(),
         rt,
-        move |scope| -> Vec<Came<J::Back>, A>
+        move |scope| -> Vec<JobResult<J::Back>, A>
             requires few { length slots.now ≤ 64 }
             requires all { length slots.now ≡ length L.jobs }
             requires room { (length slots.now ≤ vec_capacity begun)
-                × (length slots.now ≤ vec_capacity cames) }
-            requires empty { (begun.items ≡ []) × (cames.items ≡ []) }
+                × (length slots.now ≤ vec_capacity results) }
+            requires empty { (begun.items ≡ []) × (results.items ≡ []) }
             requires runs { AllCanRun J.can_run L.jobs }
-            ensures { HaveCome J.runs J.declines L.jobs result.items }
+            ensures { AreResults J.runs J.declines L.jobs result.items }
         {
             begin_all(scope, rt, slots, hire, &mut begun);
-            end_all(rt, begun, &mut cames);
-            cames
+            end_all(rt, begun, &mut results);
+            results
         },
     )
 }
@@ -236,17 +236,17 @@ fn run_lineup<
     J: Job + Send,
     H: Hire,
     A: Allocator + Copy,
->(rt: &R, alloc: A, jobs: Vec<J, A>, hire: &H) -> Result<Vec<Came<J::Back>, A>, AllocError>
+>(rt: &R, alloc: A, jobs: Vec<J, A>, hire: &H) -> Result<Vec<JobResult<J::Back>, A>, AllocError>
 where
     J::Back: Send + Drop,
     requires few { length jobs.items ≤ 64 }
     requires all { jobs.items ≡ L.jobs }
     requires runs { AllCanRun J.can_run L.jobs }
-    ensures { IfOk result (λ cames. HaveCome J.runs J.declines L.jobs cames.items) }
+    ensures { IfOk result (λ results. AreResults J.runs J.declines L.jobs results.items) }
 {
-    let (begun, cames) = rooms(alloc, jobs.len())?;
+    let (begun, results) = rooms(alloc, jobs.len())?;
     let slots = slots_of::<L, J, A>(alloc, jobs)?;
-    Ok(run_slots(rt, slots.as_slice(), hire, begun, cames))
+    Ok(run_slots(rt, slots.as_slice(), hire, begun, results))
 }
 
 /// Runs all jobs, each in a thread of its own, until all have ended. If a start is refused, that job and those
@@ -256,12 +256,12 @@ pub fn run_all<R: Wait + Threads + Sync, J: Job + Send, H: Hire, A: Allocator + 
     alloc: A,
     jobs: Vec<J, A>,
     hire: &H,
-) -> Result<Vec<Came<J::Back>, A>, AllocError>
+) -> Result<Vec<JobResult<J::Back>, A>, AllocError>
 where
     J::Back: Send + Drop,
     requires few { length jobs.items ≤ 64 }
     requires runs { AllCanRun J.can_run jobs.items }
-    ensures { IfOk result (λ cames. HaveCome J.runs J.declines jobs.items cames.items) }
+    ensures { IfOk result (λ results. AreResults J.runs J.declines jobs.items results.items) }
 {
     run_lineup::<R, Brand, J, H, A>(rt, alloc, jobs, hire)
 }

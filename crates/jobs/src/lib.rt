@@ -7,4 +7,4 @@ mod no_thread;
 mod slot;
 
 pub use hire::{Always, Hire};
-pub use jobs::{Came, Job, run_all};
+pub use jobs::{Job, JobResult, run_all};

@@ -3,7 +3,7 @@ ghost use Rattle.std.specs.Prelude.{◌≡◌, IfOk, IfErr};
 ghost use Rattle.jobs.specs.Jobs.{AllCanRun, OfJob};
 
 use crate::hire::Hire;
-use crate::jobs::{Gives, Job};
+use crate::jobs::{Job, JobPromise};
 use crate::slot::{Lineup, Slot, taken};
 use std::marker::PhantomData;
 use std::sync::{Mutex, Wait};
@@ -32,7 +32,7 @@ pub(crate) fn start<
     slot: &'f Mutex<Slot<J, L>>,
     number: u8,
     hire: &H,
-) -> Result<PromisedHandle<J::Back, Gives<J, L>>, NoThread>
+) -> Result<PromisedHandle<J::Back, JobPromise<J, L>>, NoThread>
 where
     J::Back: Send + Drop + 's,
     requires { AllCanRun J.can_run L.jobs }
@@ -42,7 +42,7 @@ where
     if !hire.may(number) {
         return Err(NoThread { first: number });
     }
-    let gives = Gives {
+    let gives = JobPromise {
         number,
         of: PhantomData,
     };

@@ -29,9 +29,9 @@ use Rattle.summaries.specs.Found.{TookMessage}
 use Rattle.summaries.specs.Tables.{graph_of, procedure_of, limit_of, answers_of, failure, IsNew, IsQuiet, IsAnswer, TableTakes, KeepsTable}
 use Rattle.summaries.specs.Tabulated.{HasMoreEdges}
 use Rattle.summaries.specs.Together.{opening, IsTableOf}
-use Rattle.summaries.proofs.Tabled.{over_limit, answer_due}
+use Rattle.summaries.proofs.TableLemmas.{over_limit, answer_due}
 use Rattle.summaries.proofs.Steps.{number_of_due, opening_fits}
-use Rattle.summaries.proofs.Sweeping.{same_taken, same_taken_back}
+use Rattle.summaries.proofs.SweepLemmas.{same_taken, same_taken_back}
 use Rattle.switchboard.specs.declared.calls.Abort.{Abort}
 use Rattle.switchboard.specs.declared.calls.Cause.{Cause}
 use Rattle.switchboard.specs.declared.calls.Cause.TheVariants as cause
@@ -45,15 +45,11 @@ use Rattle.switchboard.specs.Promises as promises
 use Rattle.switchboard.proofs.Jobs.{kept_none, kept_added, job_new, no_done_post}
 use Rattle.procedure_worker.specs.declared.outcome.End.{End}
 use Rattle.procedure_worker.specs.declared.outcome.End.TheVariants as end
-use Rattle.procedure_worker.specs.declared.stop.Finish.{Finish}
-use Rattle.procedure_worker.specs.declared.stop.Finish.TheVariants as finish
 use Rattle.procedure_worker.specs.declared.stop.Reason.{Reason}
 use Rattle.procedure_worker.specs.declared.stop.Reason.TheVariants as reason
-use Rattle.procedure_worker.specs.declared.stop.Stop.{Stop}
-use Rattle.procedure_worker.specs.declared.stop.Stop.TheVariants as stop
 use Rattle.procedure_worker.specs.declared.worker.Worker.{Worker}
 use Rattle.procedure_worker.specs.Own.{taken_in, posted_in}
-use Rattle.procedure_worker.specs.Stops.{cause_of, end_of, lack_of, end_at, RefusedFor, FailsFor, TakesOrFails}
+use Rattle.procedure_worker.specs.Stops.{StopReason, WorkerEnd, cause_of, end_of, memory_of, end_at, RefusedFor, FailsFor, TakesOrFails}
 use Rattle.procedure_worker.specs.Works.{Start, IsPassOf, IsFresh, HasStood, HasFailed, Stands, Goes, HasSent, EndsSo, IsReady, IsTaking}
 use Rattle.procedure_worker.specs.Works.{IsDealing, IsSending, IsStopped, HasStopped, Failed, Completes, StopsSo, StoppedFor, IsAtFault}
 use Rattle.procedure_worker.specs.Works.{IsFounded, MayGoOn, HasAnswered, HasDealt, HasTurned, cause_for, took_by}
@@ -66,12 +62,12 @@ match_err (Ok x) e P Q is q = absurd is
 match_err (Err x) e P Q is q = subst Q (sym is) q
 
 -- memory was refused if and only if the worker failed for that
-lack_shown : (e : Finish) → (end_of e ≡ end.Failed cause.Memory) ↔ IsSome (lack_of e)
-lack_shown finish.Closed = (λ h. absurd cc, λ h. absurd cc)
-lack_shown finish.Aborted = (λ h. absurd cc, λ h. absurd cc)
-lack_shown (finish.Failed reason.Spent) = (λ h. absurd cc, λ h. absurd cc)
-lack_shown (finish.Failed reason.EdgeLimit) = (λ h. absurd cc, λ h. absurd cc)
-lack_shown (finish.Failed (reason.NoRoom witness)) = (λ h. refl, λ h. refl)
+lack_shown : (e : WorkerEnd) → (end_of e ≡ end.Failed cause.Memory) ↔ IsSome (memory_of e)
+lack_shown (Ok _) = (λ h. absurd cc, λ h. absurd cc)
+lack_shown (Err None) = (λ h. absurd cc, λ h. absurd cc)
+lack_shown (Err (Some reason.Spent)) = (λ h. absurd cc, λ h. absurd cc)
+lack_shown (Err (Some reason.EdgeLimit)) = (λ h. absurd cc, λ h. absurd cc)
+lack_shown (Err (Some (reason.OutOfMemory witness))) = (λ h. refl, λ h. refl)
 
 module _ {G A S : Type 0} where
   -- a table that has not failed decides no end
@@ -87,7 +83,7 @@ module _ {G A S : Type 0} where
   not_at_abort e t fault f failed = let same = fault f failed in absurd cc
 
   -- what a worker's end rests on
-  pub founded : (e : Finish) (t : Table G A S) → IsAtFault (end_of e) t → IsFounded (end_of e) (lack_of e) t
+  pub founded : (e : WorkerEnd) (t : Table G A S) → IsAtFault (end_of e) t → IsFounded (end_of e) (memory_of e) t
   founded e t fault = record { memory = lack_shown e; fault = fault }
 
 module _ {G : Type 0} (b : Start G) where
@@ -235,7 +231,7 @@ module _ {G : Type 0} (b : Start G) where
         }
 
     -- The worker aborted the board.
-    failed_ends : (why : Reason) (e : Finish) (s t : Sight Due (Graphs G)) (x : Table G A S) (took : List Due)
+    failed_ends : (why : Reason) (e : WorkerEnd) (s t : Sight Due (Graphs G)) (x : Table G A S) (took : List Due)
         (sent : List (ℕ × Due)) →
         Stands b members s x took sent → s.made ≡ false → HasStood b (cause_of why) s
         → IsAtFault (end.Failed (cause_of why)) x → Failed FitsIn why e s t
@@ -246,7 +242,7 @@ module _ {G : Type 0} (b : Start G) where
         ((took, sent, (stands_abort c s t x took sent k f.1, has_failed c s t k.pass made stood f.1)), fault)
 
     -- The message is completed, and all that is implied was posted: the worker is ready, or was without a call.
-    pub complete_ends : {P : Type 0} (job : ℕ) (r : Option Finish) (s t : Sight Due (Graphs G)) (w : Worker P G A S) (pass : P)
+    pub complete_ends : {P : Type 0} (job : ℕ) (r : Option WorkerEnd) (s t : Sight Due (Graphs G)) (w : Worker P G A S) (pass : P)
         → IsDealing b members job s w → IsQuiet members w.table → Completes FitsIn job r s t
         → MatchOption r (IsReady b members t (record w { pass = pass }))
         (λ e. HasStopped b members e t (record w { pass = pass }))
@@ -273,10 +269,10 @@ module _ {G : Type 0} (b : Start G) where
         (not_at_fault (end.Failed cause.Spent) w.table g.whole) failed.1
 
     -- The worker stops, for its reason.
-    pub stopped_ends : {P : Type 0} (job : ℕ) (why : Stop) (e : Finish) (s t : Sight Due (Graphs G)) (w : Worker P G A S)
+    pub stopped_ends : {P : Type 0} (job : ℕ) (why : StopReason) (e : WorkerEnd) (s t : Sight Due (Graphs G)) (w : Worker P G A S)
         → IsStopped b members job why s w →
         StopsSo FitsIn job why e s t → HasStopped b members e t w
-    stopped_ends job stop.Aborted e s t w k so = elim so [
+    stopped_ends job None e s t w k so = elim so [
       | inl done ↦ subst (λ z. HasStopped b members z t w) (sym done.0) (
         (
           k.took,
@@ -300,7 +296,7 @@ module _ {G : Type 0} (b : Start G) where
         abort_stays : GoesOn FitsIn s t → IsSome t.seen.aborted
         abort_stays g = let z = known s.seen.aborted k.reason in ap Rattle.std.specs.Prelude.is_some
             (g.before.aborted z.0 z.1)
-    stopped_ends job (stop.Failed why) e s t w k so =
+    stopped_ends job (Some why) e s t w k so =
         failed_ends why e s t w.table k.took k.posts k.stands k.made k.reason k.fault so
 
     -- A table that has kept what it took is that of the procedure still.
@@ -370,7 +366,7 @@ module _ {G : Type 0} (b : Start G) where
     -- The table has failed.
     table_stops : {P : Type 0} (job : ℕ) (f : TableFault) (why : Reason) (s : Sight Due (Graphs G)) (w : Worker P G A S)
         (y : Table G A S) → cause_of why ≡ cause_for f → IsDealing b members job s w → KeepsTable members (Some f) w.table y →
-        IsStopped b members job (stop.Failed why) s (record w { table = y })
+        IsStopped b members job (Some why) s (record w { table = y })
     table_stops job f why s w y same deals keeps =
         let g = deals.sent.0 in
         let stands = stands_keeps (Some f) s w.table y deals.took deals.posts g.stands keeps in record {
@@ -386,12 +382,12 @@ module _ {G : Type 0} (b : Start G) where
 
     pub answered_fault : {P : Type 0} (job : ℕ) (why : Reason) (s : Sight Due (Graphs G)) (w : Worker P G A S) (y : Table G A S) →
         IsDealing b members job s w → FailsFor why (λ f. KeepsTable members (Some f) w.table y) →
-        IsStopped b members job (stop.Failed why) s (record w { table = y })
+        IsStopped b members job (Some why) s (record w { table = y })
     answered_fault job reason.Spent s w y deals failed = absurd failed
     answered_fault job reason.EdgeLimit s w y deals failed =
         table_stops job fault.EdgeLimit reason.EdgeLimit s w y refl deals failed
-    answered_fault job (reason.NoRoom witness) s w y deals failed =
-        table_stops job fault.Memory (reason.NoRoom witness) s w y refl deals failed
+    answered_fault job (reason.OutOfMemory witness) s w y deals failed =
+        table_stops job fault.Memory (reason.OutOfMemory witness) s w y refl deals failed
 
     -- The table owed no message: all that it answered is posted still.
     pub answered_none : {P : Type 0} (job : ℕ) (s : Sight Due (Graphs G)) (w : Worker P G A S) (y : Table G A S) →
@@ -428,7 +424,7 @@ module _ {G : Type 0} (b : Start G) where
         }
 
     -- The worker stops before the post, or at a post that made no event.
-    sending_stopped : {P : Type 0} (job to : ℕ) (d : Due) (why : Stop) (s : Sight Due (Graphs G)) (v w : Worker P G A S)
+    sending_stopped : {P : Type 0} (job to : ℕ) (d : Due) (why : StopReason) (s : Sight Due (Graphs G)) (v w : Worker P G A S)
         → IsSending b members job to d s v → StoppedFor b why s → w.table ≡ v.table → IsStopped b members job why s w
     sending_stopped job to d why s v w k stopped table = record {
       took = k.took;
@@ -440,7 +436,7 @@ module _ {G : Type 0} (b : Start G) where
       fault = not_at_fault (end_at why) w.table (ap failure table ∙ k.goes.whole);
     }
 
-    sending_none : {P : Type 0} (job to : ℕ) (d : Due) (why : Stop) (s t : Sight Due (Graphs G)) (v w : Worker P G A S)
+    sending_none : {P : Type 0} (job to : ℕ) (d : Due) (why : StopReason) (s t : Sight Due (Graphs G)) (v w : Worker P G A S)
         → IsSending b members job to d s v →
         MadeNone FitsIn s t → StoppedFor b why t → w.table ≡ v.table → IsStopped b members job why t w
     sending_none job to d why s t v w k m stopped table =
@@ -456,16 +452,16 @@ module _ {G : Type 0} (b : Start G) where
         }
 
     -- The post was refused.
-    pub sending_refused : {P : Type 0} (job to : ℕ) (d : Due) (why : Stop) (s t : Sight Due (Graphs G)) (v w : Worker P G A S)
+    pub sending_refused : {P : Type 0} (job to : ℕ) (d : Due) (why : StopReason) (s t : Sight Due (Graphs G)) (v w : Worker P G A S)
         → IsSending b members job to d s v → RefusedFor FitsIn why s t → w.table ≡ v.table → IsStopped b members job why t w
-    sending_refused job to d stop.Aborted s t v w k refused table =
-        sending_none job to d stop.Aborted s t v w k refused.0.0 refused.1 table
-    sending_refused job to d (stop.Failed reason.Spent) s t v w k spent table =
-        subst (λ z. IsStopped b members job (stop.Failed reason.Spent) z w) (sym spent.1)
-        (sending_stopped job to d (stop.Failed reason.Spent) s v w k spent.0 table)
-    sending_refused job to d (stop.Failed reason.EdgeLimit) s t v w k refused table = absurd refused
-    sending_refused job to d (stop.Failed (reason.NoRoom witness)) s t v w k refused table =
-        sending_none job to d (stop.Failed (reason.NoRoom witness)) s t v w k refused.0.0 tt table
+    sending_refused job to d None s t v w k refused table =
+        sending_none job to d None s t v w k refused.0.0 refused.1 table
+    sending_refused job to d (Some reason.Spent) s t v w k spent table =
+        subst (λ z. IsStopped b members job (Some reason.Spent) z w) (sym spent.1)
+        (sending_stopped job to d (Some reason.Spent) s v w k spent.0 table)
+    sending_refused job to d (Some reason.EdgeLimit) s t v w k refused table = absurd refused
+    sending_refused job to d (Some (reason.OutOfMemory witness)) s t v w k refused table =
+        sending_none job to d (Some (reason.OutOfMemory witness)) s t v w k refused.0.0 tt table
 
     -- The pass took a message, which the table is to take.
     pub took_taking : {P : Type 0} (job : ℕ) (d : Due) (s t : Sight Due (Graphs G)) (v w : Worker P G A S) → IsReady b members s v
@@ -540,9 +536,9 @@ module _ {G : Type 0} (b : Start G) where
     }
 
     -- The table failed at the message.
-    taking_stops : {P : Type 0} (d : Due) {T : Type 0} (f : TableFault) (why : Reason) (job : ℕ) (e : Finish)
+    taking_stops : {P : Type 0} (d : Due) {T : Type 0} (f : TableFault) (why : Reason) (job : ℕ) (e : WorkerEnd)
         (s t : Sight Due (Graphs G)) (w : Worker P G A S) (y : Table G A S) → cause_of why ≡ cause_for f →
-        IsTaking b members job d s w → TableTakes members d {T = T} (Err f) w.table y → Failed FitsIn why e s t →
+        IsTaking b members job d s w → TableTakes members d {Returned = T} (Err f) w.table y → Failed FitsIn why e s t →
         HasStopped b members e t (record w { table = y })
     taking_stops d {T} f why job e s t w y same k given failed =
         let stands = given_stands d {T = T} (Err f) job s w y k given in
@@ -550,15 +546,15 @@ module _ {G : Type 0} (b : Start G) where
         (subst (λ c. HasStood b c s) (sym same) (fault_stood f s s y (k.before ++ d ∷ []) k.posts stands given.fault))
         (subst (λ c. IsAtFault (end.Failed c) y) (sym same) (at_fault f y given.fault)) failed
 
-    pub given_fault : {P : Type 0} (d : Due) (T : Type 0) (why : Reason) (job : ℕ) (e : Finish) (s t : Sight Due (Graphs G))
+    pub given_fault : {P : Type 0} (d : Due) (T : Type 0) (why : Reason) (job : ℕ) (e : WorkerEnd) (s t : Sight Due (Graphs G))
         (w : Worker P G A S) (y : Table G A S) →
         IsTaking b members job d s w → TakesOrFails members {T = T} d (Err why) w.table y → Failed FitsIn why e s t →
         HasStopped b members e t (record w { table = y })
     given_fault d T reason.Spent job e s t w y k given failed = absurd given
     given_fault d T reason.EdgeLimit job e s t w y k given failed =
         taking_stops d {T = T} fault.EdgeLimit reason.EdgeLimit job e s t w y refl k given failed
-    given_fault d T (reason.NoRoom witness) job e s t w y k given failed =
-        taking_stops d {T = T} fault.Memory (reason.NoRoom witness) job e s t w y refl k given failed
+    given_fault d T (reason.OutOfMemory witness) job e s t w y k given failed =
+        taking_stops d {T = T} fault.Memory (reason.OutOfMemory witness) job e s t w y refl k given failed
 
     -- A new worker is ready.
     pub fresh_ready : {P : Type 0} (s : Sight Due (Graphs G)) (w : Worker P G A S) → (p : Program) × AreDrawnFrom p
@@ -607,7 +603,7 @@ module _ {G : Type 0} (b : Start G) where
     }
 
 -- what has not changed if the worker continues is what was there before
-pub took_still : (r : Option Finish) (a b c : List Due) → IfNone r (a ≡ b) → b ≡ c → IfNone r (a ≡ c)
+pub took_still : (r : Option WorkerEnd) (a b c : List Due) → IfNone r (a ≡ b) → b ≡ c → IfNone r (a ≡ c)
 took_still None a b c first then = first ∙ then
 took_still (Some e) a b c first then = tt
 
@@ -624,7 +620,7 @@ module _ {G : Type 0} where
       (taken_post (own s.number s.seen.order) (own s.number t.seen.order) to s.number d job p.0.own)
 
   -- nor does a completion, if the worker continues behind it
-  pub took_completed : (job : ℕ) (r : Option Finish) (s t : Sight Due (Graphs G)) → Completes FitsIn job r s t
+  pub took_completed : (job : ℕ) (r : Option WorkerEnd) (s t : Sight Due (Graphs G)) → Completes FitsIn job r s t
       → IfNone r (took_by t ≡ took_by s)
   took_completed job None s t a =
       took_on s t (took_by s) a.goes.number
@@ -643,14 +639,14 @@ module _ {G : Type 0} where
 
 -- A worker has dealt with a message if it is ready or has ended, and if it took none while it continues.
 module _ {G A S P : Type 0} (b : Start G) (members : S → List Triple) where
-  pub dealt : (r : Option Finish) (s t : Sight Due (Graphs G)) (w : Worker P G A S)
+  pub dealt : (r : Option WorkerEnd) (s t : Sight Due (Graphs G)) (w : Worker P G A S)
       → MatchOption r (IsReady b members t w) (λ e. HasStopped b members e t w) → IfNone r (took_by t ≡ took_by s)
       → HasDealt b members r s t w
   dealt None s t w ready same = (ready, same)
   dealt (Some e) s t w stopped same = stopped
 
   -- the message that it dealt with was one that it took
-  pub turned : (job : ℕ) (d : Due) (r : Option Finish) (s t u : Sight Due (Graphs G)) (w : Worker P G A S)
+  pub turned : (job : ℕ) (d : Due) (r : Option WorkerEnd) (s t u : Sight Due (Graphs G)) (w : Worker P G A S)
       → promises.TookOldest FitsIn job d s t → HasDealt b members r t u w → HasTurned b members r s u w
   turned job d None s t u w took has = (has.0, took_more job d s t u took has.1)
   turned job d (Some e) s t u w took has = has

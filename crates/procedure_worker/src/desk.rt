@@ -7,10 +7,15 @@ use summaries::EdgeLimit;
 /// graphs of all procedures, and how many path edges a table may keep.
 #[derive(Drop)]
 pub struct Context<'c, 'g, R, G: Allocator, B, K> {
+    /// The handle by which they wait.
     pub rt: &'c R,
+    /// Where they take and post messages.
     pub board: &'c B,
+    /// What is called at each take and post.
     pub gate: &'c K,
+    /// The flow graphs of all procedures.
     pub graphs: &'g Graphs<G>,
+    /// How many path edges a table may keep.
     pub limit: EdgeLimit,
 }
 

@@ -5,9 +5,9 @@
 mod desk;
 mod gate;
 mod laws;
+mod memory;
 mod outcome;
 mod pause;
-mod room;
 mod stop;
 mod worker;
 mod working;
@@ -15,6 +15,6 @@ mod working;
 pub use desk::Context;
 pub use gate::{Gate, Open};
 pub use laws::a_new_pass_is_fresh;
+pub use memory::OutOfMemory;
 pub use outcome::{End, Outcome};
-pub use room::NoRoom;
 pub use working::work;

@@ -1,5 +1,5 @@
 //! What a worker returns.
-use crate::room::NoRoom;
+use crate::memory::OutOfMemory;
 use path_sets::PathSet;
 use std::alloc::Allocator;
 use summaries::Table;
@@ -22,7 +22,8 @@ pub enum End {
 pub struct Outcome<'g, G: Allocator, A: Allocator, S: PathSet<A>> {
     /// What `work` returns has one. An outcome that stands for a worker without a thread has none.
     pub table: Option<Table<'g, G, A, S>>,
+    /// How the worker ended.
     pub end: End,
     /// Evidence that memory was refused, if the worker failed for that.
-    pub lack: Option<NoRoom>,
+    pub out_of_memory: Option<OutOfMemory>,
 }

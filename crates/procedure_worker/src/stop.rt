@@ -1,9 +1,9 @@
 //! Why a worker stops, and how it ended.
 ghost use Rattle.std.specs.Prelude.{◌≡◌};
-ghost use Rattle.procedure_worker.specs.Stops.{cause_of, end_of, lack_of};
+ghost use Rattle.procedure_worker.specs.Stops.{cause_of, end_of, memory_of};
 
+use crate::memory::OutOfMemory;
 use crate::outcome::End;
-use crate::room::NoRoom;
 use switchboard::Cause;
 
 /// Why a worker aborts its board.
@@ -14,7 +14,7 @@ pub(crate) enum Reason {
     /// Its procedure has more path edges than the limit.
     EdgeLimit,
     /// Memory was refused.
-    NoRoom(NoRoom),
+    OutOfMemory(OutOfMemory),
 }
 
 impl Reason {
@@ -25,47 +25,34 @@ impl Reason {
         match self {
             Reason::Spent => Cause::Spent,
             Reason::EdgeLimit => Cause::EdgeLimit,
-            Reason::NoRoom(_) => Cause::Memory,
+            Reason::OutOfMemory(_) => Cause::Memory,
         }
     }
 }
 
-/// Why the work on a message stops before it is done.
-#[derive(Clone, Copy)]
-pub(crate) enum Stop {
-    /// The board was aborted by another pass.
-    Aborted,
-    /// The worker has a reason to abort it.
-    Failed(Reason),
-}
+/// Why a worker stops: for a reason of its own; or, without one, since another pass aborted the board.
+pub(crate) type Stop = Option<Reason>;
 
-/// How a worker ended, with the reason if it aborted the board.
-#[derive(Clone, Copy)]
-pub(crate) enum Finish {
-    Closed,
-    Aborted,
-    Failed(Reason),
-}
+/// How a worker ended: at the close, or since it stopped.
+pub(crate) type Finish = Result<(), Stop>;
 
-impl Finish {
-    /// How the worker ended, as its outcome says it.
-    pub(crate) fn end(self) -> End
-        ensures { result ≡ end_of self }
-    {
-        match self {
-            Finish::Closed => End::Closed,
-            Finish::Aborted => End::Aborted,
-            Finish::Failed(why) => End::Failed(why.cause()),
-        }
+/// How a worker ended, as its outcome says it.
+pub(crate) fn end_of(finish: Finish) -> End
+    ensures { result ≡ end_of finish }
+{
+    match finish {
+        Ok(()) => End::Closed,
+        Err(None) => End::Aborted,
+        Err(Some(why)) => End::Failed(why.cause()),
     }
+}
 
-    /// Evidence that memory was refused, if the worker failed for that.
-    pub(crate) fn lack(self) -> Option<NoRoom>
-        ensures { result ≡ lack_of self }
-    {
-        match self {
-            Finish::Failed(Reason::NoRoom(witness)) => Some(witness),
-            _ => None,
-        }
+/// Evidence that memory was refused, if the worker failed for that.
+pub(crate) fn memory_of(finish: Finish) -> Option<OutOfMemory>
+    ensures { result ≡ memory_of finish }
+{
+    match finish {
+        Err(Some(Reason::OutOfMemory(witness))) => Some(witness),
+        _ => None,
     }
 }

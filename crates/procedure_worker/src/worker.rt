@@ -9,8 +9,8 @@ ghost use Rattle.procedure_worker.specs.Works.{HasAnswered, HasDealt, HasTurned}
 
 use crate::desk::Desk;
 use crate::gate::Gate;
+use crate::memory::{deliver, next, post};
 use crate::pause::pause;
-use crate::room::{deliver, next, post};
 use crate::stop::{Finish, Reason, Stop};
 use flow_graph::Graphs;
 use path_sets::PathSet;
@@ -47,7 +47,7 @@ fn fail<R: Wait, G: Allocator, H: Allocator, B: Board<Due, Graphs<G>, H>, K>(
     desk.context
         .board
         .abort(desk.context.rt, pass, job, why.cause());
-    Finish::Failed(why)
+    Err(Some(why))
 }
 
 /// Completes the message of the job. Returns how the worker ended, if it did.
@@ -79,8 +79,8 @@ fn give_up<R: Wait, G: Allocator, H: Allocator, B: Board<Due, Graphs<G>, H>, K>(
     ensures { StopsSo FitsIn job why result (B.sight pass.old) (B.sight pass.new) }
 {
     match why {
-        Stop::Aborted => complete(desk, pass, job).unwrap_or(Finish::Aborted),
-        Stop::Failed(why) => fail(desk, pass, Some(job), why),
+        None => complete(desk, pass, job).unwrap_or(Err(None)),
+        Some(why) => fail(desk, pass, Some(job), why),
     }
 }
 
@@ -135,12 +135,12 @@ impl<'g, P, G: Allocator, A: Allocator + Copy, S: PathSet<A>> Worker<'g, P, G, A
                 Ok(true)
             }
             Ok(None) => Ok(false),
-            Err(why) => Err(Stop::Failed(why)),
+            Err(why) => Err(Some(why)),
         }
     }
 
     /// Posts all that the table owes, and completes the message. Returns how the worker ended, if it did.
-    fn deal<R: Wait, H: Allocator, B: Board<Due, Graphs<G>, H, Pass = P>, K: Gate>(
+    fn post_all_owed<R: Wait, H: Allocator, B: Board<Due, Graphs<G>, H, Pass = P>, K: Gate>(
         &mut self,
         desk: &Desk<'_, '_, R, G, B, K>,
         job: Job,
@@ -173,14 +173,14 @@ impl<'g, P, G: Allocator, A: Allocator + Copy, S: PathSet<A>> Worker<'g, P, G, A
             (B.sight self.old.pass) (B.sight self.new.pass) self.new }
     {
         match deliver(&mut self.table, due) {
-            Ok(()) => self.deal(desk, job),
+            Ok(()) => self.post_all_owed(desk, job),
             Err(why) => Some(fail(desk, &mut self.pass, Some(job), why)),
         }
     }
 
     /// Takes a message, if there is one, and works on it; if there is none, waits for a moment. Returns how the
     /// worker ended, if it did: it continues only if it took a message, or saw neither the close nor an abort.
-    pub(crate) fn turn<R: Wait, H: Allocator, B: Board<Due, Graphs<G>, H, Pass = P>, K: Gate>(
+    pub(crate) fn step<R: Wait, H: Allocator, B: Board<Due, Graphs<G>, H, Pass = P>, K: Gate>(
         &mut self,
         desk: &Desk<'_, '_, R, G, B, K>,
     ) -> Option<Finish>
@@ -201,8 +201,8 @@ impl<'g, P, G: Allocator, A: Allocator + Copy, S: PathSet<A>> Worker<'g, P, G, A
                 self.empty = self.empty.saturating_add(1);
                 None
             }
-            Ok(Taken::Closed) => Some(Finish::Closed),
-            Ok(Taken::Aborted) => Some(Finish::Aborted),
+            Ok(Taken::Closed) => Some(Ok(())),
+            Ok(Taken::Aborted) => Some(Err(None)),
             Err(Spent) => Some(fail(desk, &mut self.pass, None, Reason::Spent)),
         }
     }

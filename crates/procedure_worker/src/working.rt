@@ -8,6 +8,7 @@ ghost use Rattle.procedure_worker.specs.Works.{begun_in, IsFresh, HasEnded};
 use crate::desk::{Context, Desk};
 use crate::gate::Gate;
 use crate::outcome::Outcome;
+use crate::stop::{end_of, memory_of};
 use crate::worker::Worker;
 use flow_graph::Graphs;
 use path_sets::PathSet;
@@ -54,7 +55,7 @@ where
         empty: 0,
     };
     for _ in context.rt.forever() {
-        if let Some(finish) = worker.turn(&desk) {
+        if let Some(finish) = worker.step(&desk) {
             let Worker {
                 pass,
                 table,
@@ -64,8 +65,8 @@ where
             } = worker;
             let outcome = Outcome {
                 table: Some(table),
-                end: finish.end(),
-                lack: finish.lack(),
+                end: end_of(finish),
+                out_of_memory: memory_of(finish),
             };
             return (pass, outcome);
         }

@@ -3,7 +3,7 @@ use Rattle.std.proofs.Common.{◌≡◌, ℕ, refl, sym, ap, ◌∙◌, subst}
 use Rattle.language.specs.Sequential as sequential
 use Rattle.language.specs.Sequential.{starter, caller}
 use Rattle.flow_graph.specs.Numbers.{NumberedMessage, numbered_entry, numbered_summary}
-use Rattle.flow_graph.specs.declared.left.Left.{Left}
+use Rattle.flow_graph.specs.declared.exit.Exit.{Exit}
 use Rattle.summaries.specs.declared.due.Caller.{Caller}
 use Rattle.summaries.specs.declared.due.Caller.TheVariants.{Starter, Proc}
 use Rattle.summaries.specs.declared.due.Due.{Due}
@@ -59,7 +59,7 @@ call_in k (Entry from a) = k
 call_in k (Summary s r a b) = call s a
 
 -- what it left, or what is given
-left_in : Left → Due → Left
+left_in : Exit → Due → Exit
 left_in e (Entry from a) = e
 left_in e (Summary s r a b) = left b r
 
@@ -72,11 +72,11 @@ pub same_entry : (from to : Caller) (a b : ℕ) → Entry from a ≡ Entry to b 
 unfolding caller_in entry_in
 same_entry from to a b e = (sym (ap (caller_in from) e), sym (ap entry_in e))
 
-pub same_summary : (s p a x : ℕ) (b y : Left) → summary_due s a b ≡ summary_due p x y → (call p x ≡ call s a) × (y ≡ b)
+pub same_summary : (s p a x : ℕ) (b y : Exit) → summary_due s a b ≡ summary_due p x y → (call p x ≡ call s a) × (y ≡ b)
 unfolding call_in left_in
 same_summary s p a x b y e = (sym (ap (call_in (call s a)) e), sym (ap (left_in b) e))
 
 -- an entry is not a summary
-pub apart : (from : Caller) (s a x : ℕ) (b : Left) → Entry from a ≡ summary_due s x b → ⊥
+pub apart : (from : Caller) (s a x : ℕ) (b : Exit) → Entry from a ≡ summary_due s x b → ⊥
 unfolding IsSummary
 apart from s a x b e = subst IsSummary (sym e) tt

@@ -6,7 +6,7 @@ use Rattle.flow_graph.specs.Returns.{left_by}
 use Rattle.flow_graph.specs.Numbers.{NumberedMessage, numbered_entry, numbered_summary, GraphReaches}
 use Rattle.flow_graph.specs.Numbers.{starts, flows, returns, Sends, asks, tells, Leaves}
 use Rattle.flow_graph.specs.declared.graph.Graph.{Graph}
-use Rattle.flow_graph.specs.declared.left.Left.{Left}
+use Rattle.flow_graph.specs.declared.exit.Exit.{Exit}
 use Rattle.summaries.specs.declared.found.Found.{Found}
 use Rattle.summaries.specs.Found.{edge, TookMessage, HasExit, HasGiven, IsOwed, IsGrounded, IsWorked, IsSaturated, IsExact}
 
@@ -52,7 +52,7 @@ module _ {A G : Type 0} (graph : Graph G) (q : ℕ) (f : Found A) (edges : List 
       complete.tells a (left_by graph v) c ((is_worked a 0 v (is_edge a 0 v r)).leaves refl) taken
 
   -- what is left is an exit
-  pub is_left : (a : ℕ) (b : Left) → Leaves graph (TookMessage f) a b → HasExit f a b
+  pub is_left : (a : ℕ) (b : Exit) → Leaves graph (TookMessage f) a b → HasExit f a b
   unfolding is_worked
   is_left a b (v, reached, is) = subst (HasExit f a) (sym is) ((is_worked a 0 v (is_edge a 0 v reached)).leaves refl)
 

@@ -22,8 +22,8 @@ use Rattle.path_sets.specs.Triples.{Triple}
 use Rattle.flow_graph.specs.Flows.{code}
 use Rattle.flow_graph.specs.Graphs.{AreDrawnFrom, IsGraph}
 use Rattle.flow_graph.specs.Numbers.{NumberedMessage, numbered_entry, numbered_summary, IsNumberOf}
-use Rattle.flow_graph.proofs.Coding.{coded_zeros}
-use Rattle.flow_graph.proofs.Taking.{there_too}
+use Rattle.flow_graph.proofs.NumberLemmas.{coded_zeros}
+use Rattle.flow_graph.proofs.DueLemmas.{there_too}
 use Rattle.summaries.specs.declared.due.Caller.TheVariants.{Starter, Proc}
 use Rattle.summaries.specs.declared.due.Due.{Due}
 use Rattle.summaries.specs.declared.due.Due.TheVariants.{Entry, Summary}
@@ -37,9 +37,9 @@ use Rattle.summaries.specs.Found.{left, TookMessage}
 use Rattle.summaries.specs.Tables.{graph_of, answers_of, IsTable, IsQuiet, IsAnswer, KeepsTable, StaysAs, TookAlso, TookOnly, TookSame}
 use Rattle.summaries.specs.Tabulated.{no_verdict, HasMoreEdges}
 use Rattle.summaries.specs.Together.{opening, IsReceived, IsTaken, HaveLimit, IsTableOf, AreNew, AreTables, AreQuietBefore}
-use Rattle.summaries.proofs.Tabled.{over_limit, answer_due}
-use Rattle.summaries.proofs.Replaced.{get_set, set_get}
-use Rattle.summaries.proofs.Sweeping.{same_taken, same_taken_back, Becomes, replaced}
+use Rattle.summaries.proofs.TableLemmas.{over_limit, answer_due}
+use Rattle.summaries.proofs.ReplaceLemmas.{get_set, set_get}
+use Rattle.summaries.proofs.SweepLemmas.{same_taken, same_taken_back, Becomes, replaced}
 use Rattle.path_sets.specs.EdgeLimits.{most_of}
 
 -- the numbers of a message

@@ -14,5 +14,5 @@ abbrev pub IsDueFor : Program → ℕ → Due → Type 0
 IsDueFor program procedure message = (k : NumberedMessage) → due_of k ≡ message → IsNumberOf (IsDue program procedure) k
 
 -- the message is due for the procedure of each program that the graphs are drawn from
-abbrev pub FitsIn : {G : Type 0} → Graphs G → ℕ → Due → Type 0
-FitsIn graphs procedure message = (p : Program) → AreDrawnFrom p (graphs_of graphs) → IsDueFor p procedure message
+abbrev pub FitsIn : {GraphAlloc : Type 0} → Graphs GraphAlloc → ℕ → Due → Type 0
+FitsIn graphs procedure message = (program : Program) → AreDrawnFrom program (graphs_of graphs) → IsDueFor program procedure message

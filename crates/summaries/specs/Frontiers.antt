@@ -7,17 +7,18 @@ use Rattle.summaries.specs.declared.table_fault.TableFault.{TableFault}
 use Rattle.summaries.specs.Grows.{Adds}
 
 -- The frontier is that of the same table, with the same limit.
-pub record StaysFrontier {A S : Type 0} (old new : Frontier A S) : Type 0 where
+pub record StaysFrontier {Alloc Edges : Type 0} (old new : Frontier Alloc Edges) : Type 0 where
   pub edges : new.edges.ghost_name ≡ old.edges.ghost_name
   pub pending : new.pending.ghost_name ≡ old.pending.ghost_name
   pub limit : new.limit ≡ old.limit
 
-module _ {A S : Type 0} (members : S → List Triple) where
+module _ {Alloc Edges : Type 0} (members : Edges → List Triple) where
   -- there are no more edges than the limit
-  abbrev pub IsWithin : Frontier A S → Type 0
+  abbrev pub IsWithin : Frontier Alloc Edges → Type 0
   IsWithin f = length (members f.edges.now) ≤ most_of f.limit
 
   -- The triples for which W holds were to be added to the path edges, with this result.
-  pub record Reaches (W : Triple → Type 0) {T : Type 0} (answer : Result T TableFault) (old new : Frontier A S) : Type 0 where
+  pub record Reaches (W : Triple → Type 0) {Returned : Type 0} (answer : Result Returned TableFault)
+      (old new : Frontier Alloc Edges) : Type 0 where
     pub adds : Adds W answer (most_of old.limit) (members old.edges.now) (members new.edges.now) old.pending.now.items new.pending.now.items
     pub stays : StaysFrontier old new

@@ -4,7 +4,7 @@ use Rattle.language.specs.Step.{Program}
 use Rattle.language.specs.Lists.{Member, NoneTwice}
 use Rattle.path_sets.specs.Triples.{Triple}
 use Rattle.flow_graph.specs.Bits.{bit_of}
-use Rattle.flow_graph.specs.declared.left.Left.{Left}
+use Rattle.flow_graph.specs.declared.exit.Exit.{Exit}
 use Rattle.flow_graph.specs.Numbers.{IsNumberOfEntry, AreNumbersOfEdge, AreNumbersOfPair}
 use Rattle.summaries.specs.declared.pair.Pair.{Pair}
 use Rattle.summaries.specs.Effects.{Effect, Effects}
@@ -38,24 +38,24 @@ ArePairsAscending (x ∷ y ∷ zs) = IsPairBefore x y × ArePairsAscending (y �
 -- The entries are those with which the procedure is entered, by number and ascending, and the pairs are its pairs.
 pub record IsSummary (program : Program) (procedure : ℕ) (summary : Effect) : Type 0 where
   pub ascend : IsAscending summary.entries
-  pub entries : (a : ℕ) → Member a summary.entries ↔ IsNumberOfEntry program procedure a
+  pub entries : (own : ℕ) → Member own summary.entries ↔ IsNumberOfEntry program procedure own
   pub pairs_ascend : ArePairsAscending summary.pairs
-  pub pairs : (a : ℕ) (b : Left) → Member (pair a b) summary.pairs ↔ AreNumbersOfPair program procedure a b
+  pub pairs : (own : ℕ) (exit : Exit) → Member (pair own exit) summary.pairs ↔ AreNumbersOfPair program procedure own exit
 
 -- The summaries are those of the program's procedures, by number.
 abbrev pub AreSummaries : Program → Effects → Type 0
 AreSummaries program effects =
     (length effects.procedures ≡ length program.routines)
-    × ((q : ℕ) (summary : Effect) → slice_get effects.procedures q ≡ Some summary → IsSummary program q summary)
+    × ((number : ℕ) (summary : Effect) → slice_get effects.procedures number ≡ Some summary → IsSummary program number summary)
 
 -- some pair of the first procedure has the bit `bad`
 abbrev pub SomePairBad : Effects → Type 0
 SomePairBad effects =
     (summary : Effect) × (slice_get effects.procedures 0 ≡ Some summary)
-    × ((a : ℕ) × (b : Left) × Member (pair a b) summary.pairs × (bit_of b.globals effects.bad ≡ true))
+    × ((own : ℕ) × (exit : Exit) × Member (pair own exit) summary.pairs × (bit_of exit.globals effects.bad ≡ true))
 
 -- the procedure has more than n path edges
 abbrev pub HasMoreEdges : Program → ℕ → ℕ → Type 0
 HasMoreEdges program procedure n =
     (ts : List Triple) × NoneTwice ts × (n < length ts)
-    × ((t : Triple) → Member t ts → AreNumbersOfEdge program procedure t.entry t.point t.values)
+    × ((reached : Triple) → Member reached ts → AreNumbersOfEdge program procedure reached.entry reached.point reached.values)

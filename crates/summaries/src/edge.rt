@@ -26,10 +26,10 @@ pub(crate) struct Site {
     pub(crate) values: Word,
 }
 
-/// An edge whose choices were all led, by where choice 0 led: the valuation on entry, the point, and the valuation led
-/// to.
+/// An edge that was expanded, so that all its choices have led on, by where choice 0 led: the valuation on entry, the
+/// point, and the valuation led to.
 #[derive(Clone, Copy, PartialEq, Eq, Hash)]
-pub(crate) struct Led {
+pub(crate) struct Expanded {
     pub(crate) entry: Halves,
     pub(crate) point: Point,
     pub(crate) values: Halves,

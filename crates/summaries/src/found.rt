@@ -3,12 +3,12 @@
 ghost use Rattle.std.specs.Prelude.{◌≡◌};
 
 use crate::due::{Caller, Due};
-use crate::edge::{Edge, Led};
-use crate::given::{Given, Sent};
+use crate::edge::{Edge, Expanded};
 use crate::groups::Groups;
 use crate::kept_call::{KeptCall, KeptSite};
-use crate::kept_left::KeptLeft;
+use crate::kept_exit::KeptExit;
 use crate::kept_pair::KeptPair;
+use crate::outbox::{Outbox, Outgoing};
 use indexmap::IndexSet;
 use language::Word;
 use std::alloc::Allocator;
@@ -20,7 +20,7 @@ pub(crate) struct Found<A: Allocator> {
     /// Who enters the procedure, by the valuation on entry.
     pub(crate) entries: Groups<Word, Caller, A>,
     /// What the procedures called leave, by call.
-    pub(crate) summaries: Groups<KeptCall, KeptLeft, A>,
+    pub(crate) summaries: Groups<KeptCall, KeptExit, A>,
     /// Where calls stand, by call.
     pub(crate) sites: Groups<KeptCall, KeptSite, A>,
     /// The pairs of the procedure.
@@ -28,9 +28,9 @@ pub(crate) struct Found<A: Allocator> {
     /// The places of the pairs, by the valuation on entry.
     pub(crate) exits: Groups<Word, u32, A>,
     /// The messages given.
-    pub(crate) given: Given<A>,
+    pub(crate) outbox: Outbox<A>,
     /// The edges with many choices that were led.
-    pub(crate) led: IndexSet<Led, BuildHasherDefault<FoldHasher>, A>,
+    pub(crate) expanded: IndexSet<Expanded, BuildHasherDefault<FoldHasher>, A>,
     /// The edges to work on.
     pub(crate) pending: Vec<Edge, A>,
 }
@@ -49,20 +49,20 @@ impl<A: Allocator + Copy> Found<A> {
             sites: Groups::new(alloc),
             pairs: IndexSet::new(alloc),
             exits: Groups::new(alloc),
-            given: Given::new(alloc),
-            led: IndexSet::new(alloc),
+            outbox: Outbox::new(alloc),
+            expanded: IndexSet::new(alloc),
             pending: Vec::new(alloc),
         }
     }
 
     /// A message given, by the number of the table's procedure, and the procedure that it goes to.
-    pub(crate) fn mail(&self, procedure: u8, message: Sent) -> (u8, Due)
+    pub(crate) fn mail(&self, procedure: u8, message: Outgoing) -> (u8, Due)
         requires { IsPlaced (calls_in self.now) self.now.pairs.keys message }
         ensures { mail result.0 result.1
             ≡ mail_of (calls_in self.now) self.now.pairs.keys procedure message }
     {
         match message {
-            Sent::Asked { call } => {
+            Outgoing::EntryFor { call } => {
                 let calls = self.sites.by_key.keys();
                 let call = calls.as_slice()[call as usize].call();
                 let due = Due::Entry {
@@ -71,7 +71,7 @@ impl<A: Allocator + Copy> Found<A> {
                 };
                 (call.callee, due)
             }
-            Sent::Told { to, pair } => {
+            Outgoing::SummaryFor { to, pair } => {
                 let pair = self.pairs.as_slice()[pair as usize].pair();
                 let due = Due::Summary {
                     p: procedure,

@@ -4,25 +4,25 @@
 
 mod due;
 mod edge;
+mod expanding;
 mod fitting;
 mod found;
 mod frontier;
-mod given;
-mod go_on;
 mod groups;
 mod kept_call;
-mod kept_left;
+mod kept_exit;
 mod kept_pair;
 mod laws;
-mod lead;
 mod no_verdict;
+mod outbox;
 mod pair;
 mod reading;
+mod resuming;
+mod sending;
 mod summaries;
 mod table;
 mod table_fault;
 mod tabulation;
-mod tell;
 mod values;
 mod work;
 

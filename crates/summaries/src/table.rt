@@ -7,7 +7,7 @@ use crate::due::{Caller, Due};
 use crate::edge::{Call, Edge};
 use crate::found::Found;
 use crate::table_fault::TableFault;
-use flow_graph::{Graph, Graphs, Left};
+use flow_graph::{Exit, Graph, Graphs};
 use language::Word;
 use path_sets::{EdgeLimit, PathSet};
 use std::alloc::Allocator;
@@ -82,7 +82,7 @@ impl<'g, G: Allocator, A: Allocator + Copy, S: PathSet<A>> Table<'g, G, A, S> {
                 callee: p,
                 entered: a,
             },
-            Left {
+            Exit {
                 globals: b,
                 result: r,
             },
@@ -126,7 +126,7 @@ impl<'g, G: Allocator, A: Allocator + Copy, S: PathSet<A>> Table<'g, G, A, S> {
         ensures pending { self.new.found.pending ≡ self.old.found.pending }
         ensures edges { self.new.edges ≡ self.old.edges }
     {
-        let message = self.found.given.next()?;
+        let message = self.found.outbox.next()?;
         Some(self.found.mail(self.procedure, message))
     }
 

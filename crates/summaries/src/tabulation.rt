@@ -53,8 +53,8 @@ pub fn deliver<G: Allocator, A: Allocator + Copy, S: PathSet<A>>(
     }
 }
 
-/// The starter enters procedure 0, and the tables take each other's messages until none owes any. `last` is the number of
-/// the table that was called last: if there is a fault, it is that table's.
+/// The starter enters procedure 0, and the tables take each other's messages until none owes any. `last` is the number
+/// of the table that was called last: if there is a fault, it is that table's.
 fn run<G: Allocator, A: Allocator + Copy, S: PathSet<A>>(
     tables: &mut Vec<Table<'_, G, A, S>, A>,
     last: &mut usize,

@@ -7,35 +7,36 @@ ghost use Rattle.flow_graph.specs.declared.flow.Flow.TheVariants as flow;
 ghost use Rattle.summaries.specs.declared.due.Due.TheVariants.{Entry};
 ghost use Rattle.summaries.specs.Mails.{summary_due};
 ghost use Rattle.path_sets.specs.Triples.{Triple};
-ghost use Rattle.summaries.specs.Grows.{triple_of, IsNext, IsNoCall, IsLedBy};
-ghost use Rattle.summaries.specs.Tables.{answers_of, graph_of, limit_of, HasLeft, HasAsked, Holds};
+ghost use Rattle.summaries.specs.Grows.{triple_of, IsNext, IsNoCall, IsExpansionKey};
+ghost use Rattle.summaries.specs.Tables.{answers_of, graph_of, limit_of, HasItsExit, HasAsked};
+ghost use Rattle.summaries.specs.Tables.{Holds};
 ghost use Rattle.summaries.specs.Tables.{Worked, StaysAs, IsLess, TookAlso};
 ghost use Rattle.summaries.specs.Tables.{TookOnly, TookSame};
 
 use crate::due::Caller;
-use crate::edge::{Call, Edge, Led, Site};
+use crate::edge::{Call, Edge, Expanded, Site};
+use crate::expanding::expansion_key;
 use crate::frontier::Frontier;
-use crate::given::place;
 use crate::kept_call::{KeptCall, KeptSite};
-use crate::kept_left::KeptLeft;
+use crate::kept_exit::KeptExit;
 use crate::kept_pair::KeptPair;
-use crate::lead::led_by;
+use crate::outbox::index_in_32_bits;
 use crate::pair::Pair;
+use crate::sending::{send_summaries, send_summary_to_all};
 use crate::table::Table;
 use crate::table_fault::TableFault;
-use crate::tell::{tell_all, tell_exits};
-use flow_graph::{Flow, Left};
+use flow_graph::{Exit, Flow};
 use language::{EXIT, Word};
 use path_sets::PathSet;
 use std::alloc::{AllocError, Allocator};
 
 impl<'g, G: Allocator, A: Allocator + Copy, S: PathSet<A>> Table<'g, G, A, S> {
     /// Keeps what an edge at the exit leaves, and tells it to the callers.
-    fn leave(&mut self, edge: Edge) -> Result<(), AllocError>
+    fn record_exit(&mut self, edge: Edge) -> Result<(), AllocError>
         requires edge { Member (triple_of edge) (S.members self.old.edges) }
         requires holds { Holds S.members (λ t. t ≡ triple_of edge) self.old }
         ensures ok { OnOk result (Holds S.members (λ t. t ≡ triple_of edge) self.new) }
-        ensures left { OnOk result (HasLeft self.new edge) }
+        ensures left { OnOk result (HasItsExit self.new edge) }
         ensures answers { OnOk result (answers_of self.new ≡ answers_of self.old) }
         ensures taken { TookSame self.old.found self.new.found }
         ensures edges { self.new.edges ≡ self.old.edges }
@@ -54,17 +55,17 @@ impl<'g, G: Allocator, A: Allocator + Copy, S: PathSet<A>> Table<'g, G, A, S> {
         };
         let (at, new) = self.found.pairs.insert_full(KeptPair::new(pair))?;
         if new {
-            let exit = place(at)?;
+            let exit = index_in_32_bits(at)?;
             self.found.exits.add(edge.entry, exit)?;
             let callers = self.found.entries.of(edge.entry);
-            tell_all(&mut self.found.given, exit, callers)?;
+            send_summary_to_all(&mut self.found.outbox, exit, callers)?;
         }
         Ok(())
     }
 
     /// Requests the procedure that is called from an edge, and continues after the call with what is known of
     /// it.
-    fn ask(&mut self, edge: Edge, call: &flow_graph::Call<G>) -> Result<(), TableFault>
+    fn record_call(&mut self, edge: Edge, call: &flow_graph::Call<G>) -> Result<(), TableFault>
         requires call { slice_get (flows_of (graph_of self.old)) edge.point
             ≡ Some (flow.Call call.now) }
         requires edge { Member (triple_of edge) (S.members self.old.edges) }
@@ -86,13 +87,13 @@ impl<'g, G: Allocator, A: Allocator + Copy, S: PathSet<A>> Table<'g, G, A, S> {
             values: edge.values,
         };
         let added = self.found.sites.add(key, KeptSite::new(site))?;
-        self.found.given.ask(added.had, added.at)?;
+        self.found.outbox.send_entry(added.had, added.at)?;
         let mut frontier = Frontier {
             edges: &mut self.edges,
             pending: &mut self.found.pending,
             limit: self.limit,
         };
-        frontier.go_on(self.graph, site, self.found.summaries.of(key))
+        frontier.resume_site(self.graph, site, self.found.summaries.of(key))
     }
 
     /// Works on an edge that is no longer pending: adds the edges that it leads to, and gives the messages that it
@@ -105,30 +106,31 @@ impl<'g, G: Allocator, A: Allocator + Copy, S: PathSet<A>> Table<'g, G, A, S> {
         ensures taken { TookSame self.old.found self.new.found }
         ensures less { OnOk result (IsLess S.members self.old self.new) }
     {
-        self.leave(edge)?;
+        self.record_exit(edge)?;
         if edge.point >= self.graph.points() {
             return Ok(());
         }
         match self.graph.flow(edge.point) {
-            Flow::Call(call) => self.ask(edge, call),
-            flow => match led_by(flow, edge) {
-                Some(led) => self.lead_once(flow, edge, led),
-                None => self.lead(flow, edge),
+            Flow::Call(call) => self.record_call(edge, call),
+            flow => match expansion_key(flow, edge) {
+                Some(led) => self.expand_once(flow, edge, led),
+                None => self.expand(flow, edge),
             },
         }
     }
 
     /// Adds the edges that each choice leads to from an edge.
     #[inline(always)]
-    fn lead(&mut self, flow: &Flow<G>, edge: Edge) -> Result<(), TableFault>
+    fn expand(&mut self, flow: &Flow<G>, edge: Edge) -> Result<(), TableFault>
         requires flow { slice_get (flows_of (graph_of self.old)) edge.point ≡ Some flow.now }
         requires no_call { IsNoCall flow.now }
-        requires left { HasLeft self.old edge }
+        requires left { HasItsExit self.old edge }
         requires edge { Member (triple_of edge) (S.members self.old.edges) }
         requires holds { Holds S.members (λ t. t ≡ triple_of edge) self.old }
         requires within { length (S.members self.old.edges) ≤ limit_of self.old }
         ensures worked { Worked S.members (λ t. ⊥) result self.old self.new }
-        ensures all { OnOk result ((t : Triple) → IsNext flow.now edge t → Member t (S.members self.new.edges)) }
+        ensures all { OnOk result
+            ((t : Triple) → IsNext flow.now edge t → Member t (S.members self.new.edges)) }
         ensures taken { TookSame self.old.found self.new.found }
         ensures less { OnOk result (IsLess S.members self.old self.new) }
     {
@@ -137,17 +139,17 @@ impl<'g, G: Allocator, A: Allocator + Copy, S: PathSet<A>> Table<'g, G, A, S> {
             pending: &mut self.found.pending,
             limit: self.limit,
         };
-        frontier.lead(flow, edge)
+        frontier.expand(flow, edge)
     }
 
     /// Adds the edges that each choice leads to from an edge, unless this was done for an edge that choice 0 leads to
     /// the same: then each choice does.
     #[inline(never)]
-    fn lead_once(&mut self, flow: &Flow<G>, edge: Edge, led: Led) -> Result<(), TableFault>
+    fn expand_once(&mut self, flow: &Flow<G>, edge: Edge, led: Expanded) -> Result<(), TableFault>
         requires flow { slice_get (flows_of (graph_of self.old)) edge.point ≡ Some flow.now }
         requires no_call { IsNoCall flow.now }
-        requires led { IsLedBy flow.now edge led }
-        requires left { HasLeft self.old edge }
+        requires led { IsExpansionKey flow.now edge led }
+        requires left { HasItsExit self.old edge }
         requires edge { Member (triple_of edge) (S.members self.old.edges) }
         requires holds { Holds S.members (λ t. t ≡ triple_of edge) self.old }
         requires within { length (S.members self.old.edges) ≤ limit_of self.old }
@@ -155,11 +157,11 @@ impl<'g, G: Allocator, A: Allocator + Copy, S: PathSet<A>> Table<'g, G, A, S> {
         ensures taken { TookSame self.old.found self.new.found }
         ensures less { OnOk result (IsLess S.members self.old self.new) }
     {
-        if self.found.led.contains(&led) {
+        if self.found.expanded.contains(&led) {
             return Ok(());
         }
-        self.lead(flow, edge)?;
-        self.found.led.insert(led)?;
+        self.expand(flow, edge)?;
+        self.found.expanded.insert(led)?;
         Ok(())
     }
 
@@ -187,12 +189,12 @@ impl<'g, G: Allocator, A: Allocator + Copy, S: PathSet<A>> Table<'g, G, A, S> {
         };
         frontier.reach(start)?;
         let exits = self.found.exits.of(a);
-        tell_exits(&mut self.found.given, exits, caller)?;
+        send_summaries(&mut self.found.outbox, exits, caller)?;
         Ok(())
     }
 
     /// Resumes each call of this kind, for what it has left.
-    pub(crate) fn resume(&mut self, call: Call, left: Left) -> Result<(), TableFault>
+    pub(crate) fn resume(&mut self, call: Call, left: Exit) -> Result<(), TableFault>
         requires holds { Holds S.members (λ t. ⊥) self.old }
         requires within { length (S.members self.old.edges) ≤ limit_of self.old }
         ensures worked { Worked S.members (λ t. ⊥) result self.old self.new }
@@ -202,12 +204,12 @@ impl<'g, G: Allocator, A: Allocator + Copy, S: PathSet<A>> Table<'g, G, A, S> {
             (summary_due call.callee call.entered left) self.old.found self.new.found }
     {
         let key = KeptCall::new(call);
-        self.found.summaries.add(key, KeptLeft::new(left))?;
+        self.found.summaries.add(key, KeptExit::new(left))?;
         let mut frontier = Frontier {
             edges: &mut self.edges,
             pending: &mut self.found.pending,
             limit: self.limit,
         };
-        frontier.go_on_at_each(self.graph, self.found.sites.of(key), left)
+        frontier.resume_sites(self.graph, self.found.sites.of(key), left)
     }
 }

@@ -3,7 +3,7 @@ use Rattle.std.proofs.Common.{◌≡◌, ◌<◌, ◌≤◌, ◌/◌, ◌%◌, �
 use Rattle.std.specs.Int.{bit_at}
 use Rattle.std.proofs.Math.Pow.{split}
 use Rattle.std.proofs.lemmas.Nat.Bits.{bit_at_cat_high}
-use Rattle.flow_graph.proofs.Windowed.{low_bit}
+use Rattle.flow_graph.proofs.WindowLemmas.{low_bit}
 use Rattle.flow_graph.proofs.bit.half.Goals as goal
 
 high_bit : (n i : ℕ) → 64 ≤ i → bit_at (n / 2 ^ 64) (i - 64) ≡ bit_at n i

@@ -11,7 +11,7 @@ use Rattle.flow_graph.specs.Nodes.{point_at}
 use Rattle.flow_graph.specs.Drawing.{names_in}
 use Rattle.flow_graph.specs.Located.{given_mask}
 use Rattle.flow_graph.specs.declared.flow.Flow.TheVariants as flow
-use Rattle.flow_graph.proofs.Graphing.{routine_in, drawn_flows}
+use Rattle.flow_graph.proofs.GraphLemmas.{routine_in, drawn_flows}
 use Rattle.flow_graph.proofs.drawing.graph.Goals as goal
 
 pub block-requires : goal.block-requires
@@ -39,7 +39,7 @@ returns g c =
     let small = c.block.new.flows.small in
     let one = ap length start in (
       c.len.ensures ∙ t.globals.ok.0 ∙ sym (length-map t.globals.items name_of),
-      c.begin.ensures s done refl ∙ ap point_at
+      c.first_point.ensures s done refl ∙ ap point_at
           (join_done (numbered 1 (resolve_block s (block_of c.as_slice-body.result.now)))) ∙
           ap (λ l. point_at (numbered 1 (resolve_block s (block_of l)))) body,
       drawn_flows _ _ _ _ _ _ _ _ _ _ old c.block.new.flows.items c.as_slice.ensures.value c.as_slice-2.ensures.value

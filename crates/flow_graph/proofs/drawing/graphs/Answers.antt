@@ -7,9 +7,9 @@ use Rattle.language.specs.Resolve.{meaning_of, number_of}
 use Rattle.resolved.specs.Narrow.{AllNarrow}
 use Rattle.resolved.proofs.Sequences.{routines_counted, resolving_fit}
 use Rattle.trees.specs.Trees.{names_of, tree_of, proc_of}
-use Rattle.flow_graph.specs.Drawing.{Draws}
-use Rattle.flow_graph.proofs.Taking.{ordered}
-use Rattle.flow_graph.proofs.Graphing.{AllDrawn, drawn_more, drawn_graph, has_room}
+use Rattle.flow_graph.specs.Drawing.{IsGraphOf}
+use Rattle.flow_graph.proofs.DueLemmas.{ordered}
+use Rattle.flow_graph.proofs.GraphLemmas.{AllDrawn, drawn_more, drawn_graph, has_room}
 use Rattle.flow_graph.proofs.drawing.graphs.Goals as goal
 
 pub graph-requires : goal.graph-requires
@@ -32,7 +32,7 @@ loop-proc-preserved g c =
       drawn_more c.program-program.result.now c.deref-proc-items.result.now c.loop-proc.graphs.items c.put.new.list.items
           c.loop-proc.proc-index proc made.0
           c.loop-proc.invariant.1 c.loop-proc.invariant.0 is
-          (subst (λ r. IfOk r (λ g. Draws c.program-program.result.now proc g)) made.1 c.graph.ensures) made.2,
+          (subst (λ r. IfOk r (λ g. IsGraphOf c.program-program.result.now proc g)) made.1 c.graph.ensures) made.2,
     )
 
 pub returns-clause-graphs : goal.returns-clause-graphs

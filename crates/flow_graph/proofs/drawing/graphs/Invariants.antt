@@ -1,6 +1,6 @@
 -- Each graph so far is drawn from the procedure with its number.
 use Rattle.std.proofs.Common.{◌≡◌, length}
-use Rattle.flow_graph.proofs.Graphing.{AllDrawn}
+use Rattle.flow_graph.proofs.GraphLemmas.{AllDrawn}
 use Rattle.flow_graph.proofs.drawing.graphs.Given as goal
 
 abbrev pub invariant-loop-proc : goal.invariant-loop-proc

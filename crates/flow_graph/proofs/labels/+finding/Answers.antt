@@ -5,8 +5,8 @@ use Rattle.language.specs.Rest.{join, first_of_two}
 use Rattle.language.specs.Sequential.{statements, numbered}
 use Rattle.trees.specs.Trees.{deed_of, block_of}
 use Rattle.trees.proofs.Held.{held, smaller}
-use Rattle.flow_graph.proofs.Counted.{alone_counts, next_counts}
-use Rattle.flow_graph.proofs.Searching.{place, place_next, place_nowhere, found_first, found_second}
+use Rattle.flow_graph.proofs.CountLemmas.{alone_counts, next_counts}
+use Rattle.flow_graph.proofs.LabelLemmas.{place, place_next, place_nowhere, found_first, found_second}
 use Rattle.flow_graph.proofs.labels.+finding.Goals as goal
 
 pub find-find_at-requires : goal.find-find_at-requires

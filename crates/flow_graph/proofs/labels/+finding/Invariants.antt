@@ -5,7 +5,7 @@ use Rattle.language.specs.Rest.{Code}
 use Rattle.language.specs.Sequential.{statements, numbered}
 use Rattle.trees.specs.Trees.{deed_of, block_of}
 use Rattle.trees.proofs.Held.{held}
-use Rattle.flow_graph.proofs.Searching.{place}
+use Rattle.flow_graph.proofs.LabelLemmas.{place}
 use Rattle.flow_graph.proofs.labels.+finding.Given as goal
 
 abbrev pub invariant-find-loop-stmt : goal.invariant-find-loop-stmt

@@ -2,7 +2,7 @@
 use Rattle.std.proofs.Common.{ap, arith}
 use Rattle.language.specs.Sequential.{statements}
 use Rattle.trees.proofs.Held.{smaller}
-use Rattle.flow_graph.proofs.Counted.{alone_counts, next_counts, end_counts}
+use Rattle.flow_graph.proofs.CountLemmas.{alone_counts, next_counts, end_counts}
 use Rattle.flow_graph.proofs.sizes.+sizes.Goals as goal
 
 pub size-size_of-requires : goal.size-size_of-requires

@@ -5,7 +5,7 @@ use Rattle.std.proofs.Math.Pow.{pow_mono}
 use Rattle.flow_graph.specs.Tables.{most_inputs}
 use Rattle.flow_graph.specs.Windows.{seen, IsWindow, AreWindows}
 use Rattle.flow_graph.specs.declared.windows.Window.{Window}
-use Rattle.flow_graph.proofs.Windowed.{laid_split, opened, widened}
+use Rattle.flow_graph.proofs.WindowLemmas.{laid_split, opened, widened}
 use Rattle.flow_graph.proofs.windows.add.Goals as goal
 
 -- what is known of the last window
@@ -36,7 +36,12 @@ wider c =
     let front = c.args.front in
     let old = c.in-Some.ensures.items in
     let place : 2 ^ front ≤ 2 ^ 10 = pow_mono (let z : front ≤ 10 = omega (arith, c.requires.room) in z) in
-    let w : Window = record { first = last.first; count = last.count + 1; turn = last.turn; mask = last.mask + 1 * 2 ^ front % 65536 } in
+    let w : Window = record {
+      first = last.first;
+      count = last.count + 1;
+      rotation = last.rotation;
+      mask = last.mask + 1 * 2 ^ front % 65536;
+    } in
     let is = widened ws last w c.args.bit front (subst (AreWindows 0) old c.requires.laid)
     (c.requires.front ∙ ap (λ xs. length (seen xs)) old) c.requires.room c.requires.place c.if-last-bit.true c.if-bit-ne0.true
     refl refl refl (let z : last.mask + 1 * 2 ^ front % 65536 ≡ last.mask + 2 ^ front = omega (arith, place) in z) in (

@@ -6,13 +6,13 @@ use Rattle.std.proofs.lemmas.List.{length-map}
 use Rattle.std.specs.Vec.Iter.{into_iter_items}
 use Rattle.flow_graph.specs.Drawn.{graphs_of}
 use Rattle.summaries.proofs.Steps.{get_map}
-use Rattle.jobs.proofs.Coming.{come, came_at, came_near, come_all}
+use Rattle.jobs.proofs.ResultLemmas.{come, came_at, came_near, come_all}
 use Rattle.gather.proofs.Crews.{own_push}
 use Rattle.gather.proofs.crew.lanes_of.Given.{Over}
 use Rattle.gather.proofs.crew.lanes_of.Goals as goal
 use Rattle.gather.proofs.crew.lanes_of.Goals.{After-len-number}
 
--- the number of the lane is how many came before it
+-- the number of the lane is how many result before it
 number_is : (g : Over) (c : After-len-number g) → c.len-number.result ≡ length c.loop-pass.yielded
 number_is g c = c.len-number.ensures ∙ (c.loop-pass.lanes.ok.0 ∙ c.loop-pass.invariant.1)
 

@@ -1,11 +1,11 @@
 -- If no end names a cause, the tables are full; otherwise the least cause is returned.
 use Rattle.std.proofs.Common.{subst}
 use Rattle.path_sets.specs.EdgeLimits.{most_of}
-use Rattle.summaries.proofs.Tabulating.{few}
+use Rattle.summaries.proofs.TabulationLemmas.{few}
 use Rattle.gather.specs.Findings.{ends_in}
 use Rattle.gather.specs.Gathered.{NoneFailed}
 use Rattle.gather.proofs.Causes.{by_memory}
-use Rattle.gather.proofs.Readings.{every_closed, board_closed, tables, tables_full, tables_limit, all_read}
+use Rattle.gather.proofs.ReadingLemmas.{every_closed, board_closed, tables, tables_full, tables_limit, all_read}
 use Rattle.gather.proofs.gathering.gather.Given.{Over}
 use Rattle.gather.proofs.gathering.gather.Goals as goal
 use Rattle.gather.proofs.gathering.gather.Goals.{In_default}

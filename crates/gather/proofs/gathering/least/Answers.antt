@@ -6,7 +6,7 @@ use Rattle.post_ledger.proofs.Histories.{split_at_element}
 use Rattle.gather.specs.Findings.{end_of, ends_in}
 use Rattle.gather.specs.Gathered.{IsLeastOf}
 use Rattle.gather.proofs.Causes.{none_least}
-use Rattle.jobs.proofs.Coming.{take_whole}
+use Rattle.jobs.proofs.ResultLemmas.{take_whole}
 use Rattle.gather.proofs.gathering.least.Goals as goal
 
 pub loop-procedure-init : goal.loop-procedure-init

@@ -2,8 +2,8 @@
 use Rattle.std.proofs.Common.{◌++◌, ◌∷◌, [], sym, subst, arith}
 use Rattle.std.specs.Vec.Iter.{into_iter_items}
 use Rattle.gather.specs.Gathered.{AreRead}
-use Rattle.jobs.proofs.Coming.{come, come_same}
-use Rattle.gather.proofs.Readings.{read_more, read_other, not_closed}
+use Rattle.jobs.proofs.ResultLemmas.{come, come_same}
+use Rattle.gather.proofs.ReadingLemmas.{read_more, read_other, not_closed}
 use Rattle.gather.proofs.gathering.summaries_in.Goals as goal
 
 pub loop-finding-preserved-in-Continue-1 : goal.loop-finding-preserved-in-Continue-1

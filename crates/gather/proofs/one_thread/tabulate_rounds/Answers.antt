@@ -5,7 +5,7 @@ use Rattle.resolved.specs.Programs.{sequential_tree}
 use Rattle.round_rewrite.specs.Programs.{count_of}
 use Rattle.checked.specs.Programs.{checked_tree}
 use Rattle.path_sets.specs.EdgeLimits.{most_of}
-use Rattle.gather.proofs.Reporting.{alone, tabulated, not_tabulated}
+use Rattle.gather.proofs.ReportLemmas.{alone, tabulated, not_tabulated}
 use Rattle.gather.proofs.one_thread.tabulate_rounds.Goals as goal
 
 pub returns-clause-tabulated : goal.returns-clause-tabulated

@@ -3,7 +3,7 @@ use Rattle.std.proofs.Common.{◌∙◌, map}
 use Rattle.std.proofs.lemmas.Result.{err_from_is_err_and}
 use Rattle.summaries.proofs.Steps.{opening_fits}
 use Rattle.gather.proofs.Crews.{new_crew, all_left, all_passes}
-use Rattle.gather.proofs.Reporting.{parted, of_board, found, limit_passed, not_wide}
+use Rattle.gather.proofs.ReportLemmas.{split_results, of_board, found, limit_passed, not_wide}
 use Rattle.gather.specs.Ends.{HaveLeft}
 use Rattle.gather.specs.Findings.{ends_in}
 use Rattle.gather.proofs.report.analyse.Given.{Over}
@@ -22,7 +22,7 @@ work_all-requires-after_bounds g c κs within =
 -- what the lanes returned, split into passes and findings
 lanes : (g : Over) (c : After-back-2-1 g) → HaveLeft g.S.PathSet.members c.args.graphs.now c.args.limit
     (g.B-Board.identity c.in_ok-board.board) (map g.B-Board.sight c.in_ok-back.back.items) c.in_ok-back.findings.items
-lanes g c = parted g.S.PathSet.members c.args.graphs.now c.args.limit (g.B-Board.identity c.in_ok-board.board)
+lanes g c = split_results g.S.PathSet.members c.args.graphs.now c.args.limit (g.B-Board.identity c.in_ok-board.board)
     g.B-Board.sight c.in_ok-ended.ended.items c.in_ok-back.back.items c.in_ok-back.findings.items c.in_ok-back.ensures.0
     c.in_ok-back.ensures.1 (all_left g.S.PathSet.members g.B-Board.sight c.args.graphs.now c.args.limit
     (g.B-Board.identity c.in_ok-board.board) c.in_ok-ended.ended.items c.in_ok-ended.ensures)

@@ -12,7 +12,7 @@ use Rattle.resolved.specs.Programs.{sequential_tree}
 use Rattle.checked.specs.Programs.{checked_tree}
 use Rattle.path_sets.specs.EdgeLimits.{most_of}
 use Rattle.summaries.specs.Tabulated.{SomePairBad}
-use Rattle.gather.proofs.Reporting.{keeps_answer, no_report}
+use Rattle.gather.proofs.ReportLemmas.{keeps_answer, no_report}
 use Rattle.gather.proofs.report.check_rounds_tried.Goals as goal
 use Rattle.gather.proofs.report.check_rounds_tried.Goals.{then-bad, else-bad}
 

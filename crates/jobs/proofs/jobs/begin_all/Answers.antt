@@ -1,8 +1,8 @@
 -- One more job is begun.
 use Rattle.std.proofs.Common.{◌≤◌, ◌+◌, ◌∷◌, [], IsSome, IfSome, length, ap, sym, subst, arith, length-append}
 use Rattle.jobs.specs.Jobs.{HasNoThread, WasBegun}
-use Rattle.jobs.proofs.Coming.{AllBehind, behind_more, each_more}
-use Rattle.jobs.proofs.Beginning.{has_shown, refused_before, shown_near}
+use Rattle.jobs.proofs.ResultLemmas.{AllBehind, behind_more, each_more}
+use Rattle.jobs.proofs.BeginLemmas.{has_shown, refused_before, shown_near}
 use Rattle.jobs.proofs.jobs.begin_all.Goals as goal
 
 pub loop-slot-preserved : goal.loop-slot-preserved

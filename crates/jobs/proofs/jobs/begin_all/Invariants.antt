@@ -1,7 +1,7 @@
 -- The jobs so far are begun, and there is room for all.
 use Rattle.std.proofs.Common.{◌≡◌, ◌≤◌, ℕ, Some, IsSome, IfSome, length, slice_get, vec_capacity}
 use Rattle.jobs.specs.Jobs.{HasNoThread, WasBegun}
-use Rattle.jobs.proofs.Coming.{AllBehind}
+use Rattle.jobs.proofs.ResultLemmas.{AllBehind}
 use Rattle.jobs.proofs.jobs.begin_all.Given as goal
 
 abbrev pub invariant-loop-slot : goal.invariant-loop-slot

@@ -1,7 +1,7 @@
 -- One more job is in its slot.
 use Rattle.std.proofs.Common.{◌∷◌, [], length, ap, ◌∙◌, arith, length-append}
 use Rattle.std.specs.Vec.Iter.{into_iter_items}
-use Rattle.jobs.proofs.Coming.{come, came_at, came_near, come_all}
+use Rattle.jobs.proofs.ResultLemmas.{come, came_at, came_near, come_all}
 use Rattle.jobs.proofs.jobs.slots_of.Goals as goal
 
 pub loop-job-preserved : goal.loop-job-preserved

@@ -14,20 +14,20 @@ loop-init g c = (
   tt,
 )
 
-pub returns-in-Some-turn : goal.returns-in-Some-turn
-returns-in-Some-turn g c =
+pub returns-in-Some-step : goal.returns-in-Some-step
+returns-in-Some-step g c =
     let b = begun_in g.B.Board.identity c.args.context.now c.args.procedure in
-    let e = c.in-Some-turn.finish in
-    let w = c.turn.new.self in
-    let stopped = c.in-Some-turn.ensures in (
+    let e = c.in-Some-step.finish in
+    let w = c.step.new.self in
+    let stopped = c.in-Some-step.ensures in (
       w.table,
       refl,
       (
         stopped.0.0,
         stopped.0.1,
         subst (λ z. EndsSo b g.S.PathSet.members z (g.B.Board.sight w.pass) w.table stopped.0.0 stopped.0.1)
-            (sym c.end.ensures) stopped.0.2,
+            (sym c.end_of.ensures) stopped.0.2,
       ),
-      subst (λ z. IsFounded z c.lack.result w.table) (sym c.end.ensures)
-          (subst (λ z. IsFounded (end_of e) z w.table) (sym c.lack.ensures) (founded e w.table stopped.1)),
+      subst (λ z. IsFounded z c.memory_of.result w.table) (sym c.end_of.ensures)
+          (subst (λ z. IsFounded (end_of e) z w.table) (sym c.memory_of.ensures) (founded e w.table stopped.1)),
     )

@@ -1,4 +1,4 @@
-use Rattle.summaries.proofs.Tabled.{kept_edge, answer_due, answered_due, over_limit}
+use Rattle.summaries.proofs.TableLemmas.{kept_edge, answer_due, answered_due, over_limit}
 use Rattle.summaries.proofs.laws.a_table_keeps_path_edges_and_answers_what_is_due.Goals as goal
 
 pub returns-clause-edges : goal.returns-clause-edges

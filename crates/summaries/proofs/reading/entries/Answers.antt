@@ -6,8 +6,9 @@ use Rattle.std.proofs.lemmas.List.Elements.{filter_more}
 use Rattle.indexmap.specs.IndexMap.{keys}
 use Rattle.language.specs.Lists.{Member}
 use Rattle.summaries.specs.Under.{under}
-use Rattle.summaries.proofs.Ascending.{has_any, numbers_ascend, nat_eq_flips, still_distinct, same_members, member_filter, distinct_filter}
-use Rattle.summaries.proofs.Ascending.{keys_with_values}
+use Rattle.summaries.proofs.SortedLemmas.{has_any, numbers_ascend, nat_eq_flips, still_distinct, same_members, member_filter}
+use Rattle.summaries.proofs.SortedLemmas.{distinct_filter}
+use Rattle.summaries.proofs.SortedLemmas.{keys_with_values}
 use Rattle.summaries.proofs.reading.entries.Given.{Over}
 use Rattle.summaries.proofs.reading.entries.Goals as goal
 use Rattle.summaries.proofs.reading.entries.Goals.{then-not-is_empty+in_ok-push, else-not-is_empty, After-sort_unstable}

@@ -3,7 +3,7 @@ use Rattle.std.proofs.Common.{◌≡◌, nat_eq, take}
 use Rattle.std.specs.List.{filter}
 use Rattle.indexmap.specs.IndexMap.{keys}
 use Rattle.summaries.specs.Under.{under}
-use Rattle.summaries.proofs.Ascending.{has_any}
+use Rattle.summaries.proofs.SortedLemmas.{has_any}
 use Rattle.summaries.proofs.reading.entries.Given as goal
 
 abbrev pub invariant-loop-entry : goal.invariant-loop-entry

@@ -4,7 +4,7 @@ use Rattle.std.proofs.Common.{sym, ap, ◌∙◌, subst, arith}
 use Rattle.std.specs.List.{IsDistinct}
 use Rattle.std.proofs.lemmas.List.{take_all}
 use Rattle.language.specs.Lists.{Member}
-use Rattle.summaries.proofs.Ascending.{pairs_ascend, pair_eq, pair_eq_flips, still_distinct, same_members}
+use Rattle.summaries.proofs.SortedLemmas.{pairs_ascend, pair_eq, pair_eq_flips, still_distinct, same_members}
 use Rattle.summaries.proofs.Firsts.{take_more}
 use Rattle.summaries.proofs.reading.pairs.Given.{Over}
 use Rattle.summaries.proofs.reading.pairs.Goals as goal

@@ -4,7 +4,7 @@ use Rattle.std.proofs.lemmas.Option.{slice_get_read, same_Some}
 use Rattle.summaries.specs.declared.table.Table.{Table}
 use Rattle.summaries.specs.Effects.{Effect}
 use Rattle.summaries.specs.Together.{IsReadOff}
-use Rattle.summaries.proofs.Replaced.{each_pushed}
+use Rattle.summaries.proofs.ReplaceLemmas.{each_pushed}
 use Rattle.summaries.proofs.reading.read.Goals as goal
 
 pub loop-table-preserved : goal.loop-table-preserved

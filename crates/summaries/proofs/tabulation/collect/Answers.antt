@@ -3,7 +3,7 @@ use Rattle.std.proofs.Common.{◌↔◌, ◌∙◌, subst}
 use Rattle.language.specs.Sequential.{SomeBad}
 use Rattle.summaries.specs.Tabulated.{SomePairBad}
 use Rattle.summaries.proofs.Steps.{as_many}
-use Rattle.summaries.proofs.Tabulating.{all_summaries, all_bad}
+use Rattle.summaries.proofs.TabulationLemmas.{all_summaries, all_bad}
 use Rattle.summaries.proofs.tabulation.collect.Goals as goal
 
 pub returns-clause-summaries : goal.returns-clause-summaries

@@ -11,7 +11,7 @@ use Rattle.summaries.specs.Mails.{mail}
 use Rattle.summaries.specs.Dues.{due_of}
 use Rattle.summaries.specs.Tables.{answers_of, IsQuiet, IsAnswer}
 use Rattle.summaries.specs.Together.{opening, AreTables}
-use Rattle.summaries.proofs.Sweeping.{limits_stay}
+use Rattle.summaries.proofs.SweepLemmas.{limits_stay}
 use Rattle.summaries.proofs.Steps.{answered, answered_none, delivered, opening_due, mail_due, mail_receiver, only_due, too_many}
 use Rattle.summaries.proofs.Steps.{same_too_many, one_more_quiet, still_quiet, room, steps_left, less_room, same_room, fewer_rooms, nearer}
 use Rattle.summaries.proofs.Steps.{fault_told, refused, none_aside}

@@ -2,7 +2,7 @@
 use Rattle.std.proofs.Common.{◌≡◌, ◌∷◌, [], Some, length, slice_get, sym, ap, ◌∙◌, subst, arith, length-append}
 use Rattle.summaries.specs.declared.table.Table.{Table}
 use Rattle.summaries.specs.Tables.{graph_of, IsNew}
-use Rattle.summaries.proofs.Replaced.{each_pushed, map_is}
+use Rattle.summaries.proofs.ReplaceLemmas.{each_pushed, map_is}
 use Rattle.summaries.proofs.tabulation.tables_of.Goals as goal
 use Rattle.path_sets.specs.EdgeLimits.{most_of}
 

@@ -3,7 +3,7 @@ use Rattle.std.proofs.Common.{◌≡◌, Err, sym, ap, ◌∙◌, subst}
 use Rattle.flow_graph.specs.Graphs.{AreDrawnFrom}
 use Rattle.summaries.specs.declared.no_verdict.NoVerdict.TheVariants as verdict
 use Rattle.summaries.proofs.Steps.{limit_told, new_tables}
-use Rattle.summaries.proofs.Tabulating.{few}
+use Rattle.summaries.proofs.TabulationLemmas.{few}
 use Rattle.summaries.specs.Tabulated.{HasMoreEdges}
 use Rattle.summaries.specs.Together.{HaveLimit, AreFull}
 use Rattle.summaries.proofs.tabulation.tabulate.Given.{Over}

@@ -3,7 +3,7 @@ use Rattle.resolved.specs.Limits.{most_places}
 use Rattle.std.proofs.Common.{◌≡◌, ◌∷◌, ◌+◌, ◌*◌, ◌^◌, ◌∙◌, ◌<◌, ap, sym, map, drop, arith}
 use Rattle.std.proofs.lemmas.List.{drop_more, drop_all}
 use Rattle.flow_graph.specs.Bits.{coded, worth_of}
-use Rattle.flow_graph.specs.Calls.{entry_of}
+use Rattle.flow_graph.specs.Calls.{call_entry}
 use Rattle.flow_graph.specs.Formulas.{says}
 use Rattle.flow_graph.proofs.Calls.{argument_step, entry_fits}
 use Rattle.flow_graph.proofs.Stacks.{byte_worth}
@@ -45,4 +45,4 @@ returns g c =
     let none : c.loop-argument.entry + 2 ^ c.loop-argument.bit * 0 ≡ c.loop-argument.entry = omega arith in
     sym (ap (λ n. c.loop-argument.entry + 2 ^ c.loop-argument.bit * n) all ∙ none)
     ∙ c.loop-argument.invariant.0
-    ∙ ap (λ l. entry_of c.args.self.now.globals l c.args.values) c.as_slice-argument-items.ensures.value
+    ∙ ap (λ l. call_entry c.args.self.now.globals l c.args.values) c.as_slice-argument-items.ensures.value

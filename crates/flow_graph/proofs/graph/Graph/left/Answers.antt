@@ -1,5 +1,5 @@
 use Rattle.std.proofs.Common.{◌%◌, ◌^◌, ◌∙◌, ap}
-use Rattle.flow_graph.proofs.Coding.{left_coded}
+use Rattle.flow_graph.proofs.NumberLemmas.{left_coded}
 use Rattle.flow_graph.proofs.graph.Graph.left.Goals as goal
 
 pub returns-clause-globals : goal.returns-clause-globals

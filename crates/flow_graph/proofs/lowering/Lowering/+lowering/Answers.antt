@@ -13,8 +13,8 @@ use Rattle.trees.proofs.Plain.{is_simple}
 use Rattle.flow_graph.specs.Nodes.{point_at, node_of}
 use Rattle.flow_graph.specs.Flows.{Lowered}
 use Rattle.flow_graph.specs.Lowering.{lowering_scope, lowered_routine, lowered_widths, code_from, LoweredIn}
-use Rattle.flow_graph.proofs.Counted.{split_counts}
-use Rattle.flow_graph.proofs.Lowered.{nodes_split, lowered_then, lowered_none}
+use Rattle.flow_graph.proofs.CountLemmas.{split_counts}
+use Rattle.flow_graph.proofs.LoweringLemmas.{nodes_split, lowered_then, lowered_none}
 use Rattle.flow_graph.proofs.Statements.{put_first, lowered_simple, lowered_branch, lowered_repeat}
 use Rattle.flow_graph.proofs.lowering.Lowering.+lowering.Goals as goal
 
@@ -53,7 +53,7 @@ block-loop-stmt-preserved g t c =
           let one = c.size_of.ensures (omega (arith, lowered.0, small)) in
           let behind : c.saturating_add-behind.result ≡ length mid =
           omega (arith, c.saturating_add-behind.ensures, c.len.ensures, c.loop-stmt.flows.ok.0, one, lowered.0, small) in
-          let next = c.begin.ensures s k at_k ∙ ap (λ j. point_at (join (numbered j (resolve_block s (block_of more))) k)) behind in
+          let next = c.first_point.ensures s k at_k ∙ ap (λ j. point_at (join (numbered j (resolve_block s (block_of more))) k)) behind in
           let first = lowered.1 (join (code_from me (length mid) more) k) (sym next) (few.0, omega (arith, lowered.0, small)) in
           c.loop-stmt.invariant.2 k new at_k few
           (subst (λ ns. Lowered old new ns (lowered_widths me))

@@ -1,6 +1,6 @@
 use Rattle.trees.specs.Trees.{names_of, rhss_of}
 use Rattle.flow_graph.specs.Lowering.{lowering_scope}
-use Rattle.flow_graph.proofs.Doing.{does_assigns}
+use Rattle.flow_graph.proofs.FlowLemmas.{does_assigns}
 use Rattle.flow_graph.proofs.lowering.Lowering.assignment.Goals as goal
 
 pub returns : goal.returns

@@ -9,7 +9,7 @@ use Rattle.flow_graph.specs.Bits.{coded}
 use Rattle.flow_graph.specs.Formulas.{says, FormulaSays}
 use Rattle.flow_graph.specs.Lowering.{lowering_scope}
 use Rattle.flow_graph.specs.Views.{scope_seen}
-use Rattle.flow_graph.proofs.Doing.{does_no_call, does_calls, more_said}
+use Rattle.flow_graph.proofs.FlowLemmas.{does_no_call, does_calls, more_said}
 use Rattle.flow_graph.proofs.lowering.Lowering.call.Goals as goal
 
 pub returns-then-callee-self : goal.returns-then-callee-self

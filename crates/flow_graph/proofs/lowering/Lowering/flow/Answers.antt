@@ -11,7 +11,7 @@ use Rattle.trees.proofs.Folds.{deed_of-Assign, deed_of-Assert, deed_of-Assume, d
 use Rattle.trees.proofs.Folds.{deed_of-If, deed_of-While}
 use Rattle.flow_graph.specs.Nodes.{point_at, assumes, goes_to}
 use Rattle.flow_graph.specs.Lowering.{lowering_scope, lowered_routine, side_in, assignment_in, return_in, call_in}
-use Rattle.flow_graph.proofs.Counted.{alone_counts}
+use Rattle.flow_graph.proofs.CountLemmas.{alone_counts}
 use Rattle.flow_graph.proofs.Places.{named_target}
 use Rattle.flow_graph.proofs.Statements.{moved, does_simple, does_branch, does_repeat}
 use Rattle.flow_graph.proofs.lowering.Lowering.flow.Goals as goal
@@ -37,15 +37,15 @@ returns-in-If g c =
     let whole = alone_counts c.args.stmt.now in
     let count = ap (λ x. statements (block_of x)) c.deref-in-If-3.ensures.value in
     IfOk-weaker c.test.result _ _
-    (does_branch c.args.self.now c.args.stmt.now after n c.begin-yes.result c.begin-no.result c.in-If.r a c.in-If.b.items
+    (does_branch c.args.self.now c.args.stmt.now after n c.first_point-yes.result c.first_point-no.result c.in-If.r a c.in-If.b.items
     core
     (λ few.
     let inside : c.saturating_add-inside.result ≡ suc n = omega (arith, c.saturating_add-inside.ensures, whole, few.1) in
     let size = c.size.ensures (omega (arith, whole, parts, count, few.1)) in
     let second : c.saturating_add.result ≡ suc n + statements (block_of a) =
     omega (arith, inside, size, count, c.saturating_add.ensures, whole, parts, few.1) in (
-      moved _ _ _ _ after _ c.deref-in-If.ensures.value inside c.begin-yes.ensures,
-      moved _ _ _ _ after _ c.deref-in-If-2.ensures.value second c.begin-no.ensures,
+      moved _ _ _ _ after _ c.deref-in-If.ensures.value inside c.first_point-yes.ensures,
+      moved _ _ _ _ after _ c.deref-in-If-2.ensures.value second c.first_point-no.ensures,
     )))
     c.test.ensures
 
@@ -55,10 +55,10 @@ returns-in-While g c =
     let core = ap deed_of c.in-While.is ∙ deed_of-While c.in-While.r c.in-While.a in
     let whole = alone_counts c.args.stmt.now in
     IfOk-weaker c.test-in-While.result _ _
-    (does_repeat c.args.self.now c.args.stmt.now c.args.after n c.begin.result c.in-While.r c.in-While.a.items core
+    (does_repeat c.args.self.now c.args.stmt.now c.args.after n c.first_point.result c.in-While.r c.in-While.a.items core
     (λ few.
     let inside : c.saturating_add-in-While.result ≡ suc n = omega (arith, c.saturating_add-in-While.ensures, whole, few.1) in
-    moved _ _ _ _ n _ c.deref-in-While.ensures.value inside c.begin.ensures))
+    moved _ _ _ _ n _ c.deref-in-While.ensures.value inside c.first_point.ensures))
     c.test-in-While.ensures
 
 pub returns-in-Assert : goal.returns-in-Assert

@@ -3,7 +3,7 @@ use Rattle.std.proofs.Common.{refl, subst}
 use Rattle.trees.specs.Trees.{expr_of}
 use Rattle.flow_graph.specs.Assigning.{WritesOne}
 use Rattle.flow_graph.specs.Lowering.{lowering_scope, lowered_routine}
-use Rattle.flow_graph.proofs.Doing.{does_returned}
+use Rattle.flow_graph.proofs.FlowLemmas.{does_returned}
 use Rattle.flow_graph.proofs.lowering.Lowering.returned.Goals as goal
 
 pub returns : goal.returns

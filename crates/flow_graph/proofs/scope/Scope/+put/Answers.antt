@@ -6,7 +6,7 @@ use Rattle.trees.proofs.Folds.{expr_of-Const, expr_of-Var, expr_of-Not, expr_of-
 use Rattle.flow_graph.specs.Located.{located}
 use Rattle.flow_graph.specs.Postfix.{need, PutsSteps}
 use Rattle.flow_graph.specs.Views.{scope_seen}
-use Rattle.flow_graph.specs.declared.postfix.Step.TheVariants.{Constant}
+use Rattle.flow_graph.specs.declared.postfix.Instruction.TheVariants.{Constant}
 use Rattle.flow_graph.proofs.Codes.{one_put, constant_read, turned, applied, swapped}
 use Rattle.flow_graph.proofs.scope.Scope.+put.Goals as goal
 

@@ -19,8 +19,8 @@ returns-in-Some g c gs ls e =
 pub returns-in-Some-2 : goal.returns-in-Some-2
 returns-in-Some-2 g c gs ls e =
     let over = over_bits c.args.self.now c.args.e.now in
-    let picks = subst (λ made. IfSome made (λ p. AreTruthTablesOf p over)) c.in-Some-2.is c.in_ok-picks.ensures in
-    picks (coded (gs ++ ls)) ∙ worth_is_value (scope_seen c.args.self.now) gs ls (expr_of c.args.e.now) e
+    let cases = subst (λ made. IfSome made (λ p. AreTruthTablesOf p over)) c.in-Some-2.is c.in_ok-cases.ensures in
+    cases (coded (gs ++ ls)) ∙ worth_is_value (scope_seen c.args.self.now) gs ls (expr_of c.args.e.now) e
 
 pub returns-in_ok-postfix-in-None : goal.returns-in_ok-postfix-in-None
 returns-in_ok-postfix-in-None g c gs ls e =

@@ -2,7 +2,7 @@
 use Rattle.std.proofs.Common.{◌∷◌, [], false, sym, ◌∙◌, subst}
 use Rattle.flow_graph.specs.Located.{read_of}
 use Rattle.flow_graph.specs.Postfix.{Evaluates}
-use Rattle.flow_graph.specs.declared.postfix.Step.TheVariants.{Read, Constant}
+use Rattle.flow_graph.specs.declared.postfix.Instruction.TheVariants.{Read, Constant}
 use Rattle.flow_graph.proofs.Codes.{bit_read, constant_read}
 use Rattle.flow_graph.proofs.scope.Scope.reading.Goals as goal
 

@@ -9,7 +9,7 @@ returns-in-Err g c =
     c.fail.result (g.B.Board.sight c.args.self.now.pass) (g.B.Board.sight c.fail.new.pass) c.args.self.now c.deliver.new.table
     c.requires c.in-Err.ensures c.fail.ensures
 
-pub deal-requires : goal.deal-requires
-deal-requires g c =
+pub post_all_owed-requires : goal.post_all_owed-requires
+post_all_owed-requires g c =
     given_dealing (start_of g.B.Board.identity c.args.desk.now) g.S.PathSet.members c.args.due tt c.args.job
     (g.B.Board.sight c.args.self.now.pass) c.args.self.now c.deliver.new.table c.requires c.in-Ok.ensures

@@ -1,6 +1,6 @@
 use Rattle.std.proofs.Common.{◌≡◌, refl, sym, subst, rules}
 use Rattle.summaries.specs.Grows.{Grows, triple_of}
-use Rattle.summaries.proofs.Growing.{known, added, longer_by, ok_err, no_limit}
+use Rattle.summaries.proofs.FrontierLemmas.{known, added, longer_by, ok_err, no_limit}
 use Rattle.summaries.proofs.frontier.Frontier.reach.Goals as goal
 
 pub returns-in_err-push : goal.returns-in_err-push

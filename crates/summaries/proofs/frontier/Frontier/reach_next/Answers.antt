@@ -2,7 +2,7 @@ use Rattle.std.proofs.Common.{◌≡◌, inl, inr}
 use Rattle.std.proofs.lemmas.Result.{IfOk-weaker}
 use Rattle.path_sets.specs.Triples.{triple}
 use Rattle.summaries.specs.Grows.{IsAt}
-use Rattle.summaries.proofs.Growing.{grows_as, is_at, at_is}
+use Rattle.summaries.proofs.FrontierLemmas.{grows_as, is_at, at_is}
 use Rattle.summaries.proofs.frontier.Frontier.reach_next.Goals as goal
 
 pub returns : goal.returns

@@ -8,7 +8,7 @@ use Rattle.flow_graph.specs.Bits.{bit_of}
 use Rattle.summaries.specs.declared.pair.Pair.{Pair}
 use Rattle.summaries.specs.Effects.{Effect, Effects}
 use Rattle.summaries.specs.Found.{pair, left}
-use Rattle.summaries.proofs.Replaced.{got_member, member_got}
+use Rattle.summaries.proofs.ReplaceLemmas.{got_member, member_got}
 use Rattle.summaries.proofs.summaries.Summaries.bad.Given.{Over}
 use Rattle.summaries.proofs.summaries.Summaries.bad.Goals as goal
 use Rattle.summaries.proofs.summaries.Summaries.bad.Goals.{In-Some}

@@ -4,7 +4,7 @@ use Rattle.language.proofs.Members.{member_map}
 use Rattle.summaries.specs.Mails.{mail}
 use Rattle.summaries.specs.Found.{mail_of, calls_in, mails_in}
 use Rattle.summaries.proofs.Quiet.{owed_sent}
-use Rattle.summaries.proofs.Tabling.{same_keeps, next_behind, next_given, next_once}
+use Rattle.summaries.proofs.TableInvariants.{same_keeps, next_behind, next_given, next_once}
 use Rattle.summaries.proofs.table.Table.answer.Given.{Over}
 use Rattle.summaries.proofs.table.Table.answer.Goals as goal
 use Rattle.summaries.proofs.table.Table.answer.Goals.{In_ok-message}
@@ -12,12 +12,12 @@ use Rattle.summaries.proofs.table.Table.answer.Goals.{In_ok-message}
 pub returns-in_err-message-clause-keeps : goal.returns-in_err-message-clause-keeps
 returns-in_err-message-clause-keeps g c =
     let f = c.args.self.now.found in
-    same_keeps g.S.PathSet.members c.args.self.now (record f { given = c.next.new.self }) refl c.next.ensures.sent refl
+    same_keeps g.S.PathSet.members c.args.self.now (record f { outbox = c.next.new.self }) refl c.next.ensures.sent refl
     c.requires.table c.requires.fault
 
 -- the message comes after those answered
 next : (g : Over) (c : In_ok-message g) →
-    let old = c.args.self.now.found.given in
+    let old = c.args.self.now.found.outbox in
     take c.next.new.self.answered old.sent.items ≡ take old.answered old.sent.items ++ c.in_ok-message.message ∷ []
 next g c = ap (take c.next.new.self.answered) (sym c.next.ensures.sent) ∙ c.in_ok-message.ensures.some
 
@@ -27,13 +27,13 @@ mail-requires g c =
     let f = self.found in
     (c.requires.table.holds c.requires.fault).0.indexed.placed c.in_ok-message.message
     (next_given self.procedure
-    (calls_in f) f.pairs.keys f.given.sent.items f.given.answered c.next.new.self.answered c.in_ok-message.message
+    (calls_in f) f.pairs.keys f.outbox.sent.items f.outbox.answered c.next.new.self.answered c.in_ok-message.message
     (next g (goal.at.mail-requires g c).In_ok-message))
 
 pub returns-clause-keeps : goal.returns-clause-keeps
 returns-clause-keeps g c =
     let f = c.args.self.now.found in
-    same_keeps g.S.PathSet.members c.args.self.now (record f { given = c.next.new.self }) refl c.next.ensures.sent refl
+    same_keeps g.S.PathSet.members c.args.self.now (record f { outbox = c.next.new.self }) refl c.next.ensures.sent refl
     c.requires.table c.requires.fault
 
 pub returns-clause-some : goal.returns-clause-some
@@ -43,8 +43,8 @@ returns-clause-some g c =
     let q = self.procedure in
     let cs = calls_in f in
     let ps = f.pairs.keys in
-    let xs = f.given.sent.items in
-    let n = f.given.answered in
+    let xs = f.outbox.sent.items in
+    let n = f.outbox.answered in
     let m = c.next.new.self.answered in
     let x = c.in_ok-message.message in
     let behind = next g (goal.at.returns-clause-some g c).In_ok-message in
@@ -58,6 +58,6 @@ returns-clause-some g c =
           (sound.given c.mail.result.0 k
           (subst (λ y. Member y (mails_in q f)) (sym c.mail.ensures ∙ ap (mail c.mail.result.0) (sym is)) given));
       once = λ there.
-          next_once q cs ps xs n m x behind sound.indexed.calls_once sound.indexed.pairs_once sound.indexed.placed f.given.once
+          next_once q cs ps xs n m x behind sound.indexed.calls_once sound.indexed.pairs_once sound.indexed.placed f.outbox.once
           (subst (λ y. Member y (take n (mails_in q f))) c.mail.ensures there);
     }

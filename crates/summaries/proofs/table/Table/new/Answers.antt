@@ -4,8 +4,8 @@ use Rattle.language.specs.Lists.{Member}
 use Rattle.summaries.specs.declared.found.Found.{Found}
 use Rattle.summaries.specs.Found.{mail_of, calls_in, mails_in, IsEmpty}
 use Rattle.summaries.proofs.Mails.{answers_none}
-use Rattle.summaries.proofs.Stepping.{no_message, empty_grounded, empty_complete}
-use Rattle.summaries.proofs.Tabling.{quiet_table}
+use Rattle.summaries.proofs.StepLemmas.{no_message, empty_grounded, empty_complete}
+use Rattle.summaries.proofs.TableInvariants.{quiet_table}
 use Rattle.summaries.proofs.table.Table.new.Goals as goal
 
 -- no message is given
@@ -26,7 +26,7 @@ returns-clause-new g c =
         many = λ is. absurd (none-some _ is);
       };
       nothing = no_message graph c.args.procedure found es empty none;
-      answered = answers_none (mails_in c.args.procedure found) found.given.answered (none_sent c.args.procedure found empty);
+      answered = answers_none (mails_in c.args.procedure found) found.outbox.answered (none_sent c.args.procedure found empty);
       fault = refl;
     }
 

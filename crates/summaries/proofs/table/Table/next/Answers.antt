@@ -4,7 +4,7 @@ use Rattle.std.proofs.lemmas.List.{length-map}
 use Rattle.summaries.specs.declared.found.Found.{Found}
 use Rattle.summaries.specs.Found.{mail_of, calls_in, mails_in, answers_in}
 use Rattle.summaries.proofs.Mails.{answers_few}
-use Rattle.summaries.proofs.Tabling.{quiet_table}
+use Rattle.summaries.proofs.TableInvariants.{quiet_table}
 use Rattle.summaries.proofs.table.Table.next.Goals as goal
 
 pub returns-then-not-branch-clause-quiet : goal.returns-then-not-branch-clause-quiet
@@ -21,9 +21,9 @@ returns-then-not-branch-clause-quiet g c =
 -- fewer than 2^64 messages are answered
 few : {A : Type 0} (q : ℕ) (f : Found A) → length (answers_in q f) < 2 ^ 64
 few q f =
-    let long = length-map f.given.sent.items (mail_of (calls_in f) f.pairs.keys q) in
-    let within = f.given.within in
-    answers_few (mails_in q f) f.given.answered (2 ^ 64) (omega (arith, long, within)) f.given.few
+    let long = length-map f.outbox.sent.items (mail_of (calls_in f) f.pairs.keys q) in
+    let within = f.outbox.within in
+    answers_few (mails_in q f) f.outbox.answered (2 ^ 64) (omega (arith, long, within)) f.outbox.few
 
 pub returns-in-Some-clause-few : goal.returns-in-Some-clause-few
 returns-in-Some-clause-few g c = few c.args.self.now.procedure c.args.self.now.found

@@ -1,14 +1,14 @@
 use Rattle.std.proofs.Common.{◌≡◌, ◌++◌, ◌∷◌, [], refl, sym, ◌∙◌}
 use Rattle.std.proofs.lemmas.List.{append-nil}
-use Rattle.summaries.proofs.Stepping.{grown_to, popped_grounded, popped_complete, popped_edge}
-use Rattle.summaries.proofs.Tabling.{same_keeps}
+use Rattle.summaries.proofs.StepLemmas.{grown_to, popped_grounded, popped_complete, popped_edge}
+use Rattle.summaries.proofs.TableInvariants.{same_keeps}
 use Rattle.summaries.proofs.table.Table.step.Goals as goal
 
 pub returns-in_default-clause-keeps : goal.returns-in_default-clause-keeps
 returns-in_default-clause-keeps g c =
     let self = c.args.self.now in
     let f = self.found in
-    let h = grown_to self.graph.now self.procedure f f.entries f.summaries f.given c.pop.new.self in
+    let h = grown_to self.graph.now self.procedure f f.entries f.summaries f.outbox c.pop.new.self in
     same_keeps g.S.PathSet.members self h refl refl (sym (c.in_default.ensures.items ∙ append-nil c.pop.new.self.items))
     c.requires.table c.requires.fault
 

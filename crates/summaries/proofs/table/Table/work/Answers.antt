@@ -7,18 +7,18 @@ use Rattle.flow_graph.specs.declared.flow.Flow.TheVariants.{Call}
 use Rattle.summaries.specs.Under.{under}
 use Rattle.summaries.specs.Found.{call_eq, pair, TookMessage, HasExit}
 use Rattle.summaries.specs.Grows.{triple_of}
-use Rattle.summaries.proofs.Growing.{ok_err}
-use Rattle.summaries.proofs.Working.{beyond_worked, called_worked}
-use Rattle.summaries.proofs.Stepping.{worked_off, both_ok, all_reached, taken_as}
-use Rattle.summaries.proofs.Worked.{refused_worked, then_worked}
+use Rattle.summaries.proofs.FrontierLemmas.{ok_err}
+use Rattle.summaries.proofs.PendingLemmas.{beyond_worked, called_worked}
+use Rattle.summaries.proofs.StepLemmas.{worked_off, both_ok, all_reached, taken_as}
+use Rattle.summaries.proofs.WorkLemmas.{refused_worked, then_worked}
 use Rattle.summaries.proofs.table.Table.work.Goals as goal
 use Rattle.path_sets.specs.EdgeLimits.{most_of}
 
-pub returns-in_err-leave-clause-worked : goal.returns-in_err-leave-clause-worked
-returns-in_err-leave-clause-worked g c =
+pub returns-in_err-record_exit-clause-worked : goal.returns-in_err-record_exit-clause-worked
+returns-in_err-record_exit-clause-worked g c =
     let old = c.args.self.now in
-    let new = c.leave.new.self in
-    let left = c.in_err-leave.ensures in
+    let new = c.record_exit.new.self in
+    let left = c.in_err-record_exit.ensures in
     let edges = ap (λ s. length (g.S.PathSet.members s)) left.edges in
     let limit = ap most_of left.stays.limit in
     refused_worked g.S.PathSet.members (λ t. ⊥) _ old new
@@ -32,8 +32,8 @@ returns-in_err-leave-clause-worked g c =
 pub returns-then-edge-points-clause-worked : goal.returns-then-edge-points-clause-worked
 returns-then-edge-points-clause-worked g c =
     let old = c.args.self.now in
-    let new = c.leave.new.self in
-    let left = c.in_ok-leave.ensures in
+    let new = c.record_exit.new.self in
+    let left = c.in_ok-record_exit.ensures in
     let e = c.args.edge in
     let es = g.S.PathSet.members new.edges in
     let past : length new.graph.now.flows.items ≤ e.point = omega (arith, c.if-edge-points.true, c.points.ensures) in
@@ -55,51 +55,52 @@ returns-then-edge-points-clause-worked g c =
 pub returns-in-Call-clause-worked : goal.returns-in-Call-clause-worked
 returns-in-Call-clause-worked g c =
     let old = c.args.self.now in
-    let new = c.leave.new.self in
-    let last = c.ask.new.self in
+    let new = c.record_exit.new.self in
+    let last = c.record_call.new.self in
     let e = c.args.edge in
     let call = c.in-Call.call in
-    let was = c.in_ok-leave.ensures in
-    let asked = c.ask.ensures.worked in
+    let was = c.in_ok-record_exit.ensures in
+    let asked = c.record_call.ensures.worked in
     let same = sym asked.stays.graph in
     let here = subst (λ graph. slice_get graph.flows.items e.point ≡ Some (Call call)) same (c.flow.ensures ∙ ap Some c.in-Call.is) in
     let leaves : e.point ≡ 0 → HasExit last.found e.entry (left_by last.graph.now e.values) =
     λ is. subst (λ graph. HasExit last.found e.entry (left_by graph e.values)) same
-    (subst (λ x. Member (pair e.entry (left_by new.graph.now e.values)) x.keys) (sym c.ask.ensures.pairs) (was.left is)) in
-    then_worked g.S.PathSet.members (λ t. t ≡ triple_of e) (λ t. ⊥) c.ask.result old new last was.stays was.fault was.answers
-    (both_ok c.ask.result
+    (subst (λ x. Member (pair e.entry (left_by new.graph.now e.values)) x.keys) (sym c.record_call.ensures.pairs) (was.left is)) in
+    then_worked g.S.PathSet.members (λ t. t ≡ triple_of e) (λ t. ⊥) c.record_call.result old new last was.stays was.fault was.answers
+    (both_ok c.record_call.result
     (λ holds site. (
       holds.0,
       worked_off last.graph.now last.procedure last.found (g.S.PathSet.members last.edges) e.entry e.point e.values
           (called_worked last.graph.now last.procedure last.found (g.S.PathSet.members last.edges) e leaves call here site) holds.1,
     ))
-    asked.holds c.ask.ensures.asked)
+    asked.holds c.record_call.ensures.asked)
     asked
 
 pub returns-in-Some : goal.returns-in-Some
 returns-in-Some g c =
-    let left = c.in_ok-leave.ensures in
+    let left = c.in_ok-record_exit.ensures in
     let pending = ap (λ v. length v.items) left.pending in
     let edges = ap (λ s. length (g.S.PathSet.members s)) left.edges in record {
       worked =
-          then_worked g.S.PathSet.members (λ t. ⊥) (λ t. ⊥) c.lead_once.result c.args.self.now c.leave.new.self c.lead_once.new.self
-          left.stays left.fault left.answers c.lead_once.ensures.worked.holds c.lead_once.ensures.worked;
-      taken = (c.lead_once.ensures.taken.0 ∙ left.taken.0, c.lead_once.ensures.taken.1 ∙ left.taken.1);
-      less = IfOk-weaker c.lead_once.result _ _
+          then_worked g.S.PathSet.members (λ t. ⊥)
+          (λ t. ⊥) c.expand_once.result c.args.self.now c.record_exit.new.self c.expand_once.new.self
+          left.stays left.fault left.answers c.expand_once.ensures.worked.holds c.expand_once.ensures.worked;
+      taken = (c.expand_once.ensures.taken.0 ∙ left.taken.0, c.expand_once.ensures.taken.1 ∙ left.taken.1);
+      less = IfOk-weaker c.expand_once.result _ _
           (λ _ less. let more = less.0 in let longer = less.1 in (omega (arith, pending, edges, more), omega (arith, edges, longer)))
-          c.lead_once.ensures.less;
+          c.expand_once.ensures.less;
     }
 
 pub returns-in-None : goal.returns-in-None
 returns-in-None g c =
-    let left = c.in_ok-leave.ensures in
+    let left = c.in_ok-record_exit.ensures in
     let pending = ap (λ v. length v.items) left.pending in
     let edges = ap (λ s. length (g.S.PathSet.members s)) left.edges in record {
       worked =
-          then_worked g.S.PathSet.members (λ t. ⊥) (λ t. ⊥) c.lead.result c.args.self.now c.leave.new.self c.lead.new.self
-          left.stays left.fault left.answers c.lead.ensures.worked.holds c.lead.ensures.worked;
-      taken = (c.lead.ensures.taken.0 ∙ left.taken.0, c.lead.ensures.taken.1 ∙ left.taken.1);
-      less = IfOk-weaker c.lead.result _ _
+          then_worked g.S.PathSet.members (λ t. ⊥) (λ t. ⊥) c.expand.result c.args.self.now c.record_exit.new.self c.expand.new.self
+          left.stays left.fault left.answers c.expand.ensures.worked.holds c.expand.ensures.worked;
+      taken = (c.expand.ensures.taken.0 ∙ left.taken.0, c.expand.ensures.taken.1 ∙ left.taken.1);
+      less = IfOk-weaker c.expand.result _ _
           (λ _ less. let more = less.0 in let longer = less.1 in (omega (arith, pending, edges, more), omega (arith, edges, longer)))
-          c.lead.ensures.less;
+          c.expand.ensures.less;
     }

@@ -1,5 +1,0 @@
-use Rattle.flow_graph.proofs.Doing.{does_goes}
-use Rattle.flow_graph.proofs.lowering.Lowering.going.Goals as goal
-
-pub returns : goal.returns
-returns g c = does_goes c.nothing.result c.args.to _ c.nothing.ensures.0 c.nothing.ensures.1

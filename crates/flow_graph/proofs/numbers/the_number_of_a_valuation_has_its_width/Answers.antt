@@ -1,5 +1,0 @@
-use Rattle.flow_graph.proofs.Holding.{valuation_small}
-use Rattle.flow_graph.proofs.numbers.the_number_of_a_valuation_has_its_width.Goals as goal
-
-pub returns : goal.returns
-returns c = valuation_small

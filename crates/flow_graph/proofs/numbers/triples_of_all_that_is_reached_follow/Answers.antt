@@ -1,5 +1,0 @@
-use Rattle.flow_graph.proofs.Holding.{reached_follow}
-use Rattle.flow_graph.proofs.numbers.triples_of_all_that_is_reached_follow.Goals as goal
-
-pub returns : goal.returns
-returns g c = reached_follow

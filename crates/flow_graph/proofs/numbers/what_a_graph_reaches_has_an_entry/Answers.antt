@@ -1,6 +1,0 @@
-use Rattle.language.specs.Lists.{Member}
-use Rattle.flow_graph.proofs.Holding.{reaches_entry}
-use Rattle.flow_graph.proofs.numbers.what_a_graph_reaches_has_an_entry.Goals as goal
-
-pub returns : goal.returns
-returns g c = λ graph ks. reaches_entry graph (λ k. Member k ks)

@@ -1,0 +1,144 @@
+-- What is kept by its place, and the messages that are given by places.
+use Rattle.std.proofs.Common.{◌≡◌, ◌<◌, ℕ, zero, suc, false, List, [], ◌∷◌, ◌++◌, Some, map, length}
+use Rattle.std.proofs.Common.{get_or, slice_get, inl, inr, refl, sym, ap, subst, ◌∙◌, arith}
+use Rattle.std.proofs.Common.{length-append}
+use Rattle.std.proofs.lemmas.List.{append-nil, get_or_append_left, map-append}
+use Rattle.std.proofs.lemmas.Option.{slice_get_within, slice_get-get_or, get_or_from_slice_get}
+use Rattle.language.specs.Lists.{Member, NoneTwice}
+use Rattle.language.proofs.Members.{member_map, map_member}
+use Rattle.summaries.specs.declared.due.Caller.TheVariants.{Proc}
+use Rattle.summaries.specs.declared.edge.Call.{Call}
+use Rattle.summaries.specs.declared.outbox.Outgoing.{Outgoing}
+use Rattle.summaries.specs.declared.outbox.Outgoing.TheVariants.{EntryFor, SummaryFor}
+use Rattle.summaries.specs.declared.pair.Pair.{Pair}
+use Rattle.summaries.specs.Found.{call, pair, left, entry_mail, summary_mail, mail_of, IsPlaced}
+use Rattle.summaries.specs.Grows.{AddsTo}
+use Rattle.summaries.proofs.Dues.{same_entry, same_summary, apart}
+
+module _ {X : Type 0} where
+  -- what is at a place is in the list
+  pub member_at : (xs : List X) (d : X) (i : ℕ) → i < length xs → Member (get_or xs i d) xs
+  member_at [] d i near = absurd (omega (arith, near))
+  member_at (x ∷ xs) d zero near = inl refl
+  member_at (x ∷ xs) d (suc i) near = inr (member_at xs d i (omega (arith, near)))
+
+  -- so does what is got there
+  pub member_got : (xs : List X) (x : X) (i : ℕ) → slice_get xs i ≡ Some x → Member x xs
+  member_got xs x i is =
+      subst (λ y. Member y xs) (get_or_from_slice_get xs i x x is) (member_at xs x i (slice_get_within xs i x is))
+
+  -- what is in the list is at a place
+  pub place_of : (xs : List X) (x : X) → Member x xs → (i : ℕ) × (slice_get xs i ≡ Some x)
+  place_of [] x m = absurd m
+  place_of (y ∷ xs) x (inl e) = (0, ap Some (sym e))
+  place_of (y ∷ xs) x (inr m) = let (i, is) = place_of xs x m in (suc i, is)
+
+  -- it is there with others appended
+  pub got_still : (xs ys : List X) (x : X) (i : ℕ) → slice_get xs i ≡ Some x → slice_get (xs ++ ys) i ≡ Some x
+  got_still xs ys x i is =
+      let near = slice_get_within xs i x is in
+      let longer = length-append xs ys in
+      slice_get-get_or (xs ++ ys) i x (omega (arith, near, longer))
+      ∙ ap Some (get_or_append_left xs ys x i near ∙ get_or_from_slice_get xs i x x is)
+
+  -- two places do not hold the same, if nothing occurs twice
+  pub one_place : (xs : List X) (d : X) (i j : ℕ) → NoneTwice xs → i < length xs → j < length xs
+      → get_or xs i d ≡ get_or xs j d → i ≡ j
+  one_place [] d i j once near there same = absurd (omega (arith, near))
+  one_place (x ∷ xs) d zero zero once near there same = refl
+  one_place (x ∷ xs) d zero (suc j) once near there same =
+      absurd (once.0 (subst (λ y. Member y xs) (sym same) (member_at xs d j (omega (arith, there)))))
+  one_place (x ∷ xs) d (suc i) zero once near there same =
+      absurd (once.0 (subst (λ y. Member y xs) same (member_at xs d i (omega (arith, near)))))
+  one_place (x ∷ xs) d (suc i) (suc j) once near there same =
+      ap suc (one_place xs d i j once.1 (omega (arith, near)) (omega (arith, there)) same)
+
+module _ {X Y : Type 0} (f : X → Y) where
+  -- two functions that agree on the items of a list
+  pub map_agrees : (g : X → Y) (xs : List X) → ((x : X) → Member x xs → f x ≡ g x) → map f xs ≡ map g xs
+  map_agrees g [] same = refl
+  map_agrees g (x ∷ xs) same = λ i. same x (inl refl) i ∷ map_agrees g xs (λ y m. same y (inr m)) i
+
+  -- what is added, each item through a function
+  pub adds_mapped : (W : X → Type 0) (old new : List X) → AddsTo W old new
+      → AddsTo (λ y. (x : X) × W x × (y ≡ f x)) (map f old) (map f new)
+  adds_mapped W old new adds = record {
+    all = λ y (x, w, is). subst (λ z. Member z (map f new)) (sym is) (member_map f new x (adds.all x w));
+    only = λ y m.
+        let (x, there, is) = map_member f new y m in
+        elim (adds.only x there) [
+          | inl w ↦ inl (x, w, is)
+          | inr was ↦ inr (subst (λ z. Member z (map f old)) (sym is) (member_map f old x was))
+        ];
+    behind = (map f adds.behind.0, ap (map f) adds.behind.1 ∙ map-append f old adds.behind.0);
+  }
+
+  -- images occur twice only if two items have the same
+  pub once_mapped : (xs : List X) → ((x y : X) → Member x xs → Member y xs → f x ≡ f y → x ≡ y) → NoneTwice xs
+      → NoneTwice (map f xs)
+  once_mapped [] one once = tt
+  once_mapped (x ∷ xs) one once = (
+    λ m.
+        let (y, there, is) = map_member f xs (f x) m in
+        once.0 (subst (λ z. Member z xs) (sym (one x y (inl refl) (inr there) is)) there),
+    once_mapped xs (λ y z m n. one y z (inr m) (inr n)) once.1,
+  )
+
+-- others come after those of a list
+abbrev pub HasMoreBehind : {X : Type 0} → List X → List X → Type 0
+HasMoreBehind {X} xs ys = (more : List X) × (ys ≡ xs ++ more)
+
+-- none need
+pub none_behind : {X : Type 0} (xs : List X) → HasMoreBehind xs xs
+none_behind xs = ([], sym (append-nil xs))
+
+module _ (q : ℕ) (cs : List Call) (ps : List Pair) where
+  module _ (ds : List Call) (rs : List Pair) (calls : HasMoreBehind cs ds) (pairs : HasMoreBehind ps rs) where
+    -- a message that has a place has it with more calls and pairs appended
+    pub placed_still : (x : Outgoing) → IsPlaced cs ps x → IsPlaced ds rs x
+    placed_still (EntryFor at) near =
+        let longer = ap length calls.1 in let sum = length-append cs calls.0 in omega (arith, near, longer, sum)
+    placed_still (SummaryFor to at) near =
+        let longer = ap length pairs.1 in let sum = length-append ps pairs.0 in omega (arith, near, longer, sum)
+
+    -- and is the same
+    mail_still : (x : Outgoing) → IsPlaced cs ps x → mail_of ds rs q x ≡ mail_of cs ps q x
+    mail_still (EntryFor at) near = ap (entry_mail q)
+        (ap (λ l. get_or l at (call 0 0)) calls.1 ∙ get_or_append_left cs calls.0 (call 0 0) at near)
+    mail_still (SummaryFor to at) near = ap (summary_mail q to)
+        (ap (λ l. get_or l at (pair 0 (left 0 false))) pairs.1 ∙ get_or_append_left ps pairs.0 (pair 0 (left 0 false)) at near)
+
+    -- so are all of them
+    pub mails_still : (xs : List Outgoing) → ((x : Outgoing) → Member x xs → IsPlaced cs ps x)
+        → map (mail_of ds rs q) xs ≡ map (mail_of cs ps q) xs
+    mails_still xs placed = map_agrees (mail_of ds rs q) (mail_of cs ps q) xs (λ x m. mail_still x (placed x m))
+
+  -- a message that has a place is given by no other
+  pub one_sent : NoneTwice cs → NoneTwice ps → (x y : Outgoing) → IsPlaced cs ps x → IsPlaced cs ps y →
+      mail_of cs ps q x ≡ mail_of cs ps q y → x ≡ y
+  one_sent calls pairs (EntryFor i) (EntryFor j) near there e =
+      let c = get_or cs i (call 0 0) in
+      let d = get_or cs j (call 0 0) in
+      let entered = (same_entry (Proc q) (Proc q) c.entered d.entered (ap (λ m. m.due) e)).1 in
+      ap EntryFor (one_place cs (call 0 0) i j calls near there (λ k. call (e k).to (sym entered k)))
+  one_sent calls pairs (SummaryFor s i) (SummaryFor t j) near there e =
+      let a = get_or ps i (pair 0 (left 0 false)) in
+      let b = get_or ps j (pair 0 (left 0 false)) in
+      let same = same_summary q q a.a b.a (left a.b a.r) (left b.b b.r) (ap (λ m. m.due) e) in
+      λ k.
+      SummaryFor (e k).to
+      (one_place ps (pair 0 (left 0 false)) i j pairs near there (λ l. pair (sym same.0 l).entered (sym same.1 l)) k)
+  one_sent calls pairs (EntryFor i) (SummaryFor t j) near there e =
+      let c = get_or cs i (call 0 0) in
+      let b = get_or ps j (pair 0 (left 0 false)) in
+      absurd (apart (Proc q) q c.entered b.a (left b.b b.r) (ap (λ m. m.due) e))
+  one_sent calls pairs (SummaryFor s i) (EntryFor j) near there e =
+      let a = get_or ps i (pair 0 (left 0 false)) in
+      let d = get_or cs j (call 0 0) in
+      absurd (apart (Proc q) q d.entered a.a (left a.b a.r) (sym (ap (λ m. m.due) e)))
+
+  -- so no message is given twice
+  pub mails_once : NoneTwice cs → NoneTwice ps → (xs : List Outgoing) → ((x : Outgoing) → Member x xs → IsPlaced cs ps x)
+      → NoneTwice xs → NoneTwice (map (mail_of cs ps q) xs)
+  mails_once calls pairs xs placed once =
+      once_mapped (mail_of cs ps q) xs (λ x y m n e. one_sent calls pairs x y (placed x m) (placed y n) e) once

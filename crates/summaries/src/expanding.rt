@@ -1,0 +1,76 @@
+//! The choices at a point, expanded: where they lead.
+
+ghost use Rattle.std.specs.Prelude.{IfSome};
+ghost use Rattle.summaries.specs.Grows.{IsExpansionKey};
+
+use crate::edge::{Edge, Expanded};
+use crate::frontier::Frontier;
+use crate::table_fault::TableFault;
+use flow_graph::Flow;
+use language::{Point, Word};
+use path_sets::{Halves, PathSet};
+use std::alloc::Allocator;
+
+/// A flow with at least this number of choices is expanded once for all valuations that it leads alike. With fewer,
+/// remembering an edge takes more than expanding it again.
+const MANY: Word = 8;
+
+/// What an edge is remembered by when its choices are expanded, if there are many.
+#[inline(always)]
+pub(crate) fn expansion_key<G: Allocator>(flow: &Flow<G>, edge: Edge) -> Option<Expanded>
+    ensures { IfSome result (λ led. IsExpansionKey flow.now edge led) }
+{
+    if flow.last() < MANY - 1 {
+        return None;
+    }
+    let (_, values) = flow.next(edge.values, 0)?;
+    Some(Expanded {
+        entry: Halves::new(edge.entry),
+        point: edge.point,
+        values: Halves::new(values),
+    })
+}
+
+impl<'e, 'p, A: Allocator, S: PathSet<A>> Frontier<'e, 'p, A, S> {
+    ghost use Rattle.summaries.specs.Grows.{IsAt, IsNext};
+    ghost use Rattle.summaries.specs.Frontiers.{Reaches, IsWithin};
+
+    /// Reaches where the run continues from an edge, if it does.
+    #[inline(always)]
+    fn reach_next(&mut self, from: Edge, next: Option<(Point, Word)>) -> Result<(), TableFault>
+        requires { IsWithin S.members self.old }
+        ensures { Reaches S.members (IsAt from next) result self.old self.new }
+    {
+        let Some((point, values)) = next else {
+            return Ok(());
+        };
+        let edge = Edge {
+            entry: from.entry,
+            point,
+            values,
+        };
+        self.reach(edge)
+    }
+
+    /// Reaches what each choice of a flow leads to from an edge. After an error some of the edges have been
+    /// added.
+    #[inline(always)]
+    pub(crate) fn expand<G: Allocator>(
+        &mut self,
+        flow: &Flow<G>,
+        from: Edge,
+    ) -> Result<(), TableFault>
+        requires { IsWithin S.members self.old }
+        ensures { Reaches S.members (IsNext flow.now from) result self.old self.new }
+    {
+        let mut choice = 0;
+        'choices: loop {
+            let (next, more) = flow.choose(from.values, choice);
+            self.reach_next(from, next)?;
+            if !more {
+                return Ok(());
+            }
+            choice += 1;
+        }
+    }
+}

@@ -1,0 +1,76 @@
+//! Calls whose summaries are known.
+
+use crate::edge::{Edge, Site};
+use crate::frontier::Frontier;
+use crate::kept_call::KeptSite;
+use crate::kept_exit::KeptExit;
+use crate::table_fault::TableFault;
+use flow_graph::{Exit, Flow, Graph};
+use path_sets::PathSet;
+use std::alloc::Allocator;
+
+impl<'e, 'p, A: Allocator, S: PathSet<A>> Frontier<'e, 'p, A, S> {
+    ghost use Rattle.summaries.specs.Grows.{OfSome, IsBehind};
+    ghost use Rattle.summaries.specs.Frontiers.{Reaches, IsWithin};
+
+    /// Continues after the call of a site, for what it has left; nowhere if there is no such call. After an error
+    /// the edge may have been added.
+    fn reach_after_call<G: Allocator>(
+        &mut self,
+        graph: &Graph<G>,
+        site: Site,
+        left: Exit,
+    ) -> Result<(), TableFault>
+        requires { IsWithin S.members self.old }
+        ensures { Reaches S.members (IsBehind graph.now site left) result self.old self.new }
+    {
+        if site.point >= graph.points() {
+            return Ok(());
+        }
+        let Flow::Call(call) = graph.flow(site.point) else {
+            return Ok(());
+        };
+        let edge = Edge {
+            entry: site.asked,
+            point: call.back(),
+            values: call.resumed(site.values, left),
+        };
+        self.reach(edge)
+    }
+
+    /// Continues after the call of a site for each thing that it has left. After an error some of the edges
+    /// have been added.
+    pub(crate) fn resume_site<G: Allocator>(
+        &mut self,
+        graph: &Graph<G>,
+        site: Site,
+        summaries: &[KeptExit],
+    ) -> Result<(), TableFault>
+        requires { IsWithin S.members self.old }
+        ensures { Reaches S.members
+            (OfSome (IsBehind graph.now site) summaries.now) result self.old self.new }
+    {
+        for left in summaries {
+            self.reach_after_call(graph, site, left.exit())?;
+        }
+        Ok(())
+    }
+
+    /// Continues after the call of each of these sites, for what it has left. After an error some of the edges have
+    /// been added.
+    pub(crate) fn resume_sites<G: Allocator>(
+        &mut self,
+        graph: &Graph<G>,
+        sites: &[KeptSite],
+        left: Exit,
+    ) -> Result<(), TableFault>
+        requires { IsWithin S.members self.old }
+        ensures { Reaches S.members
+            (OfSome (λ site. IsBehind graph.now site left) sites.now) result self.old self.new }
+    {
+        for site in sites {
+            self.reach_after_call(graph, site.site(), left)?;
+        }
+        Ok(())
+    }
+}
