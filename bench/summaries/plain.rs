@@ -532,10 +532,11 @@ struct Program {
     graphs: Vec<Graph>,
 }
 
-/// The names of the procedures, and of each one its body, how many points it has, and the bit of its value.
-fn procedures(
-    reader: &mut Reader,
-) -> (HashMap<String, usize>, Vec<(Vec<Stmt>, usize, Option<u8>)>) {
+/// A procedure: its body, how many points it has, the bit of its value, and how many bits its valuations have.
+type Body = (Vec<Stmt>, usize, Option<u8>, usize);
+
+/// The names of the procedures, and the procedures.
+fn procedures(reader: &mut Reader) -> (HashMap<String, usize>, Vec<Body>) {
     let (mut names, mut bodies) = (HashMap::new(), Vec::new());
     while reader.peek() != "thread" {
         names.insert(reader.next().to_string(), bodies.len());
@@ -559,7 +560,8 @@ fn procedures(
         if result.is_some() {
             reader.locals.push(RESULT.to_string());
         }
-        bodies.push((reader.stmts(), reader.points, result));
+        let width = reader.globals.len() + reader.locals.len();
+        bodies.push((reader.stmts(), reader.points, result, width));
         reader.want("end");
     }
     (names, bodies)
@@ -595,7 +597,7 @@ fn program_of(text: &str) -> Program {
     let (names, bodies) = procedures(&mut reader);
     let graphs = bodies
         .iter()
-        .map(|(body, points, result)| graph_of(&names, body, *points, *result))
+        .map(|(body, points, result, _)| graph_of(&names, body, *points, *result))
         .collect();
     Program {
         globals: reader.globals,
