@@ -1,6 +1,6 @@
 -- The pass comes after those with lower numbers.
 use Rattle.std.proofs.Common.{map, ap, ◌∙◌, arith}
-use Rattle.ticket_lock.specs.Proved.Facts.{map-snoc}
+use Rattle.ticket_lock.proofs.HistoryFacts.{map-snoc}
 use Rattle.switchboard.proofs.Jobs.{first_more}
 use Rattle.std.proofs.lemmas.List.{length-map}
 use Rattle.board_tests.proofs.boards.gather.Goals as goal
