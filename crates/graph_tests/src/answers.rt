@@ -1,7 +1,7 @@
 //! Answers to questions on flow graphs. A question is a word and numbers: valuations in binary digits after `0b`,
 //! others in decimal.
 
-use flow_graph::{Call, Flow, Graph, Graphs, Exit};
+use flow_graph::{Call, Exit, Flow, Graph, Graphs};
 use language::{Point, Word};
 use std::alloc::Allocator;
 use std::fmt::Write;
