@@ -1,6 +1,10 @@
 //! For programs of rows: each line of the standard input is a case, and is printed again with its result.
 #![tactic(auto)]
 
+mod sweep;
+
+pub use sweep::{Outcome, Sweep, Swept, sweep_before, sweep_of};
+
 use std::alloc::{AllocError, Global};
 use std::io::{self, BufRead, BufReader};
 

@@ -2,13 +2,14 @@
 //! its answer.
 //!
 //! A line is `ROUNDS | QUESTION | TEXT`: the text is checked and rewritten for K rounds, and the question is put
-//! to the flow graphs of the result. A line that begins with `#` is a heading.
+//! to the flow graphs of the result. After `each allocation: ` it is answered if that holds with each allocation for the
+//! graphs refused in turn. A line that begins with `#` is a heading.
 #![tactic(auto)]
 
 mod answers;
 mod refusals;
 
-use cases::each_case;
+use cases::{Sweep, each_case, sweep_before};
 use refusals::{each_refused, plain};
 use resolved::Sequential;
 use round_rewrite::{Rounds, rewrite};
@@ -18,15 +19,15 @@ use std::io;
 use syntax::read;
 use trees::Program;
 
-/// The answer to a question on a rewritten program. After the word `refused` it is given once each allocation for the
-/// graphs was refused in turn.
+/// The answer to a question on a rewritten program, if it has one in each run of the sweep, if any.
 fn of_sequential<A: Allocator + Copy>(
     alloc: A,
     sequential: &Sequential<A>,
     question: &str,
+    sweep: Option<Sweep>,
 ) -> Option<String<A>> {
-    match question.strip_prefix("refused ") {
-        Some(question) => each_refused(alloc, sequential, question),
+    match sweep {
+        Some(sweep) => each_refused(alloc, sweep, sequential, question),
         None => plain(alloc, sequential, question),
     }
 }
@@ -37,12 +38,13 @@ fn of_program<A: Allocator + Copy>(
     program: Program<A>,
     rounds: Rounds,
     question: &str,
+    sweep: Option<Sweep>,
 ) -> Option<String<A>> {
     let Ok(checked) = check(alloc, program) else {
         return None;
     };
     match rewrite(&alloc, &checked, rounds) {
-        Ok(sequential) => of_sequential(alloc, &sequential, question),
+        Ok(sequential) => of_sequential(alloc, &sequential, question, sweep),
         Err(_) => None,
     }
 }
@@ -53,19 +55,21 @@ fn of_text<A: Allocator + Copy>(
     text: &str,
     rounds: Rounds,
     question: &str,
+    sweep: Option<Sweep>,
 ) -> Option<String<A>> {
     match read(alloc, text.as_bytes()) {
-        Ok(program) => of_program(alloc, program, rounds, question),
+        Ok(program) => of_program(alloc, program, rounds, question, sweep),
         Err(_) => None,
     }
 }
 
 /// The answer to a line.
 fn row<A: Allocator + Copy>(alloc: A, line: &str) -> Option<String<A>> {
-    let (rounds, rest) = line.split_once(" | ")?;
+    let (sweep, case) = sweep_before(line);
+    let (rounds, rest) = case.split_once(" | ")?;
     let (question, text) = rest.split_once(" | ")?;
     let rounds = Rounds::new(rounds.parse().ok()?)?;
-    of_text(alloc, text, rounds, question)
+    of_text(alloc, text, rounds, question, sweep)
 }
 
 fn main(rt: HostRuntime) -> io::Result<()> {

@@ -4,6 +4,7 @@ use crate::gates::{Late, Meeting, Noting};
 use crate::program::{Parts, Trial, read_case};
 use crate::refusing::Moment;
 use crate::tried::{parts_at, put};
+use cases::sweep_of;
 use procedure_worker::{Gate, Open};
 use std::alloc::{AllocError, Global};
 use std::sync::Wait;
@@ -49,9 +50,10 @@ pub fn answer<R: Wait + Threads + Sync>(
         "late" => trial.late(out),
         "meeting" => trial.meeting(out),
         "begun" => trial.begun(out),
-        _ => match how.split_once("but lane ") {
-            Some((_, rest)) => trial.but_lane(out, rest),
-            None => trial.numbered(out, how),
+        _ => match (sweep_of(how), how.split_once("but lane ")) {
+            (Some(sweep), _) => trial.write_refused(out, sweep),
+            (None, Some((_, rest))) => trial.but_lane(out, rest),
+            (None, None) => trial.numbered(out, how),
         },
     }
 }
@@ -107,7 +109,6 @@ impl<R: Wait + Threads + Sync> Trial<'_, R> {
         let (word, number) = how.split_once(' ').unwrap_or((how, ""));
         let number = number.parse::<u64>().unwrap_or(0);
         match word {
-            "refusing" => self.write_refused(out, number),
             "budget" => self.with_budget(out, number),
             "budgets" => self.with_budgets(out, number),
             "exact" => self.with_exact(out, number),

@@ -13,7 +13,8 @@
 //! | `budgets B: answer K N \| TEXT` | the same for 2, and whether for 3 to B it is `Spent` or the answer that comes without a limit |
 //! | `exact S: answer K N \| TEXT` | the answers with a budget that is one too small, just enough and one more, over all four pairs, for one procedure with S summaries whose lanes make no call in vain |
 //! | `limits N: answer K N \| TEXT` | the answers for at most 1 to N path edges, if they change, over all four pairs |
-//! | `refusing T: answer K N \| TEXT` | the result with one allocation refused, the first, then the second, up to T |
+//! | `each allocation: answer K N \| TEXT` | the answer, if with each allocation refused in turn there is none for lack of memory |
+//! | `200 allocations: answer K N \| TEXT` | the same for the first 200 |
 //! | `answer K N \| TEXT` | the answer alone |
 //!
 //! Otherwise the board has a lock for each mailbox, or, if a case begins with `one lock, `, one for all; and the sets

@@ -1,7 +1,8 @@
 //! The results of workers if memory is refused.
 
-use crate::program::{Asked, Trial};
+use crate::program::Trial;
 use crate::report::answer;
+use cases::{Outcome, Sweep, Swept};
 use gather::Answer;
 use scarce::Scarce;
 use std::alloc::{AllocError, Global};
@@ -9,40 +10,31 @@ use std::sync::Wait;
 use std::thread::Threads;
 use summaries::NoVerdict;
 
-/// The result of a run with one allocation refused.
-#[derive(Clone, Copy, PartialEq, Eq)]
-enum Came {
-    /// Lack of memory.
-    Wanting,
-    /// The answer of a run in which nothing was refused.
-    Whole(Answer),
-    Otherwise,
-}
-
-/// One run, whose allocation of a number is refused.
-fn run<R: Wait + Threads + Sync>(rt: &R, alloc: Global, asked: &Asked, nth: u64) -> Came {
-    let scarce = Scarce::refusing(alloc, nth);
-    let came = answer(rt, &scarce, asked);
-    match (scarce.refused(), came) {
-        (true, Err(NoVerdict::Memory)) => Came::Wanting,
-        (false, Ok(answer)) => Came::Whole(answer),
-        _ => Came::Otherwise,
+/// The outcome of a run that came to an answer: a run that is refused memory has none.
+fn outcome(
+    scarce: &Scarce<Global>,
+    came: Result<Answer, NoVerdict>,
+    whole: Result<Answer, NoVerdict>,
+) -> Outcome {
+    match came {
+        Err(NoVerdict::Memory) => Outcome::Memory,
+        Ok(_) if came == whole && !scarce.refused() => Outcome::Whole,
+        _ => Outcome::Other,
     }
 }
 
 impl<R: Wait + Threads + Sync> Trial<'_, R> {
-    /// Writes the results if each allocation is refused in turn, until a run meets no refusal, or a given number
-    /// was tried.
-    pub fn write_refused(&self, out: &mut String, most: u64) -> Result<(), AllocError> {
-        for nth in 1..most {
-            match run(self.rt, self.alloc, self.asked, nth) {
-                Came::Wanting => {}
-                Came::Whole(answer) if nth > 20 => {
-                    return write!(out, "want of memory, and then {answer:?}");
-                }
-                _ => return write!(out, "another answer where allocation {nth} is refused"),
+    /// Writes the answer, if each run of the sweep that is refused an allocation comes to lack of memory.
+    pub fn write_refused(&self, out: &mut String, sweep: Sweep) -> Result<(), AllocError> {
+        let whole = answer(self.rt, self.alloc, self.asked);
+        let swept = sweep.of(self.alloc, |scarce: &Scarce<Global>| {
+            outcome(scarce, answer(self.rt, scarce, self.asked), whole)
+        });
+        match swept {
+            Swept::Kept(refused) if refused >= 20 => {
+                write!(out, "{whole:?}, and lack of memory if an allocation is refused")
             }
+            _ => write!(out, "{swept:?}"),
         }
-        write!(out, "want of memory")
     }
 }

@@ -2,8 +2,8 @@
 //! rewriting says about a text.
 //!
 //! `check TEXT` and `parts TEXT` ask for the check, `rewrite COUNT TEXT`, `holds COUNT LINE :: TEXT`, `fits COUNT TEXT`
-//! and `widths COUNT TEXT` for the rewriting, and `rounds COUNT` for a number of rounds alone. `refuse` before a case
-//! has each allocation refused in turn. `{COUNT WORDS}` in a text stands for these words, COUNT times. Lines that
+//! and `widths COUNT TEXT` for the rewriting, and `rounds COUNT` for a number of rounds alone. `each allocation: `
+//! before a case has each allocation refused in turn. `{COUNT WORDS}` in a text stands for these words, COUNT times. Lines that
 //! begin with `#`, and empty lines, are printed alone.
 #![tactic(auto)]
 
@@ -11,7 +11,7 @@ mod answers;
 mod refusals;
 
 use answers::words;
-use cases::each_case;
+use cases::{each_case, sweep_before};
 use refusals::refused_in_turn;
 use std::alloc::{AllocError, Global};
 use std::io;
@@ -51,13 +51,11 @@ fn expanded(alloc: Global, line: &str) -> Result<String, AllocError> {
 
 /// The answer to a case.
 fn answered(host: Global, line: &str) -> Result<String, AllocError> {
-    match line.split_once(' ') {
-        Some(("refuse", case)) => match case.split_once(' ') {
-            Some((word, rest)) => refused_in_turn(host, word, rest),
-            None => String::from_str(host, "no such case"),
-        },
-        Some((word, rest)) => words(host, host, word, rest),
-        None => String::from_str(host, "no such case"),
+    let (sweep, case) = sweep_before(line);
+    match (sweep, case.split_once(' ')) {
+        (Some(sweep), Some((word, rest))) => refused_in_turn(host, sweep, word, rest),
+        (None, Some((word, rest))) => words(host, host, word, rest),
+        (_, None) => String::from_str(host, "no such case"),
     }
 }
 

@@ -2,35 +2,28 @@
 
 use crate::case::print_reply;
 use crate::memory::served;
+use cases::{Outcome, Sweep, Swept};
 use cli::Order;
 use scarce::Scarce;
+use std::alloc::Global;
 use std::io;
 use std::sync::Wait;
 use std::thread::Threads;
 
-/// More allocations than any case makes.
-const MOST: u64 = 100_000;
-
-/// Whether each refused allocation leaves the reply or leads to the one for lack of memory, and some number is never
-/// reached.
-fn is_kept<R: AllocGlobal + Wait + Threads + Sync>(
+/// The outcome under a scarce allocator; a reply is a status and bytes.
+fn outcome<R: AllocGlobal + Wait + Threads + Sync>(
     rt: &R,
+    scarce: &Scarce<Global>,
     text: &[u8],
     order: Order,
     whole: &(u8, Vec<u8>),
-) -> bool {
-    for nth in 1..=MOST {
-        let scarce = Scarce::refusing(rt.alloc(), nth);
-        let reply = served(&(rt, &scarce), rt.alloc(), text, order);
-        let is_whole = reply.0 == whole.0 && reply.1.as_slice() == whole.1.as_slice();
-        if !scarce.refused() {
-            return is_whole;
-        }
-        if !is_whole && (reply.0 != 3 || reply.1.as_slice() != b"no verdict: memory\n".as_slice()) {
-            return false;
-        }
+) -> Outcome {
+    let (status, bytes) = served(&(rt, scarce), rt.alloc(), text, order);
+    match bytes.as_slice() {
+        bytes if status == whole.0 && bytes == whole.1.as_slice() => Outcome::Whole,
+        b"no verdict: memory\n" if status == 3 => Outcome::Memory,
+        _ => Outcome::Other,
     }
-    false
 }
 
 /// Prints the reply without refusal.
@@ -39,10 +32,12 @@ pub fn in_turn<R: Print + AllocGlobal + Wait + Threads + Sync>(
     text: &[u8],
     order: Order,
 ) -> io::Result<()> {
-    let reply = served(rt, rt.alloc(), text, order);
-    if is_kept(rt, text, order, &reply) {
-        print_reply(rt, reply.0, reply.1.as_slice())
-    } else {
-        rt.print("another reply\n")
+    let whole = served(rt, rt.alloc(), text, order);
+    let swept = Sweep::each().of(rt.alloc(), |scarce: &Scarce<Global>| {
+        outcome(rt, scarce, text, order, &whole)
+    });
+    match swept {
+        Swept::Kept(_) => print_reply(rt, whole.0, whole.1.as_slice()),
+        _ => println!(rt; "{swept:?}"),
     }
 }

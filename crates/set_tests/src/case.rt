@@ -4,14 +4,14 @@ use crate::many::{agree, takes_each};
 use crate::nodes::counts;
 use crate::refused_nodes::refused_counts;
 use crate::sets::{keeps_each, steps};
-use cases::first_word;
+use cases::{Sweep, Swept, first_word, sweep_before};
 use std::alloc::{AllocError, Global};
 
 /// Writes the result of a line.
 pub fn answer(alloc: Global, out: &mut String, line: &str) -> Result<(), AllocError> {
-    match line.split_once(": ") {
-        Some(("each allocation", line)) => refused(alloc, out, line),
-        _ => plain(alloc, out, line),
+    match sweep_before(line) {
+        (Some(sweep), case) => refused(alloc, out, sweep, case),
+        (None, case) => plain(alloc, out, case),
     }
 }
 
@@ -26,15 +26,28 @@ fn plain(alloc: Global, out: &mut String, line: &str) -> Result<(), AllocError> 
 }
 
 /// Writes the result of a case whose allocations are refused in turn.
-fn refused(alloc: Global, out: &mut String, line: &str) -> Result<(), AllocError> {
+fn refused(
+    alloc: Global,
+    out: &mut String,
+    sweep: Sweep,
+    line: &str,
+) -> Result<(), AllocError> {
     let (head, text) = line.split_once(' ').unwrap_or((line, ""));
     let (number, _) = first_word(text);
     match head {
-        "many" => write!(out, "{}", takes_each(alloc, false, number)),
-        "ordered" => write!(out, "{}", takes_each(alloc, true, number)),
-        "set" => write!(out, "{}", keeps_each(alloc, true, number)),
-        "diagrams" => write!(out, "{}", keeps_each(alloc, false, number)),
-        "nodes" => refused_counts(alloc, out, text),
+        "many" => write_swept(out, takes_each(alloc, sweep, false, number), "taken"),
+        "ordered" => write_swept(out, takes_each(alloc, sweep, true, number), "taken"),
+        "set" => write_swept(out, keeps_each(alloc, sweep, true, number), "kept"),
+        "diagrams" => write_swept(out, keeps_each(alloc, sweep, false, number), "kept"),
+        "nodes" => refused_counts(alloc, out, sweep, text),
         _ => Ok(()),
+    }
+}
+
+/// Writes a text if a sweep of many allocations ended well.
+fn write_swept(out: &mut String, swept: Swept, text: &str) -> Result<(), AllocError> {
+    match swept {
+        Swept::Kept(refused) if refused >= 20 => write!(out, "{text}"),
+        _ => write!(out, "{swept:?}"),
     }
 }

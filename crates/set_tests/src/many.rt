@@ -2,7 +2,7 @@
 //! diagrams.
 
 use crate::sets::{contains, insert};
-use cases::first_word;
+use cases::{Outcome, Sweep, Swept, first_word};
 use language::Word;
 use path_sets::{DiagramEdges, OrderedEdges, PathSet};
 use scarce::Scarce;
@@ -117,29 +117,23 @@ pub fn agree(alloc: Global, out: &mut String, numbers: &str) -> Result<(), Alloc
     write!(out, "{}", if alike { "agree" } else { "differ" })
 }
 
-/// Whether a set of diagrams, or an ordered one, takes that many edges all the same, whichever of its allocations is
-/// refused.
-pub fn takes_each(alloc: Global, ordered: bool, count: u64) -> &'static str {
+/// A set of diagrams, or an ordered one, that takes so many edges, whichever of its allocations is refused.
+pub fn takes_each(alloc: Global, sweep: Sweep, ordered: bool, count: u64) -> Swept {
     let shape = Shape {
         count,
         width: 10,
         points: 150,
         turn: 100,
     };
-    for nth in 1..1000u64 {
-        let scarce = Scarce::refusing(alloc, nth);
+    sweep.of(alloc, |scarce: &Scarce<Global>| {
         let alike = if ordered {
-            fill_alike::<_, _, OrderedEdges<_>, DiagramEdges<_>>(&scarce, alloc, shape)
+            fill_alike::<_, _, OrderedEdges<_>, DiagramEdges<_>>(scarce, alloc, shape)
         } else {
-            are_alike(&scarce, alloc, shape)
+            are_alike(scarce, alloc, shape)
         };
         match alike {
-            _ if scarce.live() > 0 => return "memory that does not come back",
-            Ok(true) if scarce.refused() => {}
-            Ok(true) if nth > 20 => return "taken",
-            Ok(true) => return "few allocations",
-            _ => return "lost",
+            Ok(true) => Outcome::Whole,
+            _ => Outcome::Other,
         }
-    }
-    "too many allocations"
+    })
 }

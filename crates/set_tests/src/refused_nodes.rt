@@ -2,6 +2,7 @@
 
 use crate::nodes::filling;
 use crate::sets::{Spot, contains, spot_of};
+use cases::{Outcome, Sweep, Swept};
 use language::Word;
 use path_sets::{DiagramEdges, OrderedEdges, PathSet};
 use scarce::Scarce;
@@ -38,124 +39,82 @@ fn are_alike<A: Allocator, B: Allocator, S: PathSet<A>, T: PathSet<B>>(
         })
 }
 
-/// The results of counting the nodes at one point, and of counting them again if the first count is refused memory.
-#[derive(Clone, Copy, PartialEq, Eq)]
-enum Came {
-    /// The first count returns this number.
-    First(u64),
-    /// The first count is refused, the set is as it was, and the second one returns this number.
-    Second(u64),
-    /// The set is another one, or the second count is refused too.
-    Lost,
+/// Takes some steps on an empty set of diagrams, and then counts the nodes at one point. Returns how many allocations
+/// were requested before the count, and the count.
+fn counted(alloc: Global, words: &str, spot: Spot) -> Result<(u64, u64), AllocError> {
+    let scarce = Scarce::refusing(alloc, 0);
+    let mut set: DiagramEdges<_> = PathSet::empty(&scarce);
+    fill(alloc, &mut set, words)?;
+    let before = scarce.asked();
+    let nodes = set.nodes(spot.0, spot.1)?;
+    Ok((before, nodes))
 }
 
-/// The result in a set of diagrams that has the members of another set.
-fn came_of<A: Allocator + Copy, B: Allocator, T: PathSet<B>>(
+/// Counts the nodes at one point of a set of diagrams that has the members of another set, and counts again if the first
+/// count is refused memory. The set stays as it was.
+fn outcome_of<A: Allocator + Copy, B: Allocator, T: PathSet<B>>(
     set: &DiagramEdges<A>,
     other: &T,
     spot: Spot,
-) -> Came {
+    wanted: u64,
+) -> Outcome {
     let first = set.nodes(spot.0, spot.1);
     if !are_alike(set, other, spot) {
-        return Came::Lost;
+        return Outcome::Other;
     }
     match first {
-        Ok(count) => Came::First(count),
-        Err(_) => match set.nodes(spot.0, spot.1) {
-            Ok(count) => Came::Second(count),
-            Err(_) => Came::Lost,
-        },
+        Ok(count) if count == wanted => Outcome::Whole,
+        Err(_) if set.nodes(spot.0, spot.1) == Ok(wanted) => Outcome::Memory,
+        _ => Outcome::Other,
     }
 }
 
-/// Takes some steps on an empty set of the type `S`.
-fn fill_empty<A: Allocator, S: PathSet<A>>(
+/// The same after some steps on an empty set, if none of them is refused memory.
+fn outcome_in<B: Allocator, T: PathSet<B>>(
     alloc: Global,
-    room: A,
-    words: &str,
-) -> Result<(), AllocError> {
-    let mut set = S::empty(room);
-    fill(alloc, &mut set, words)
-}
-
-/// How many allocations some steps on an empty set of diagrams request.
-fn asked_by(alloc: Global, words: &str) -> u64 {
-    let scarce = Scarce::refusing(alloc, 0);
-    match fill_empty::<_, DiagramEdges<_>>(alloc, &scarce, words) {
-        Ok(()) => scarce.asked(),
-        Err(_) => 0,
-    }
-}
-
-/// The result after some steps on a set of diagrams.
-fn came_after<A: Allocator + Copy, B: Allocator, T: PathSet<B>>(
-    alloc: Global,
-    set: &mut DiagramEdges<A>,
+    scarce: &Scarce<Global>,
     other: &T,
     words: &str,
     spot: Spot,
-) -> Came {
-    match fill(alloc, set, words) {
-        Ok(()) => came_of(set, other, spot),
-        Err(_) => Came::Lost,
+    wanted: u64,
+) -> Outcome {
+    let mut set: DiagramEdges<_> = PathSet::empty(scarce);
+    match fill(alloc, &mut set, words) {
+        Ok(()) if !scarce.refused() => outcome_of(&set, other, spot, wanted),
+        _ => Outcome::Memory,
     }
 }
 
-/// The same on an empty set in memory of `room`.
-fn came_in<A: Allocator + Copy, B: Allocator, T: PathSet<B>>(
-    alloc: Global,
-    room: A,
-    other: &T,
-    words: &str,
-    spot: Spot,
-) -> Came {
-    let mut set: DiagramEdges<A> = PathSet::empty(room);
-    came_after(alloc, &mut set, other, words, spot)
-}
-
-/// Writes the result of a count if each of its allocations is refused in turn; `asked` of them are requested
-/// before it.
-fn in_turn<B: Allocator, T: PathSet<B>>(
-    alloc: Global,
-    out: &mut String,
-    other: &T,
-    words: &str,
-    asked: u64,
-    spot: Spot,
-) -> Result<(), AllocError> {
-    let mut again = None;
-    for nth in 1..1000u64 {
-        let scarce = Scarce::refusing(alloc, asked.wrapping_add(nth));
-        match came_in(alloc, &scarce, other, words, spot) {
-            _ if scarce.live() > 0 => return write!(out, "memory that does not come back"),
-            Came::Second(count) if scarce.refused() && again.unwrap_or(count) == count => {
-                again = Some(count);
-            }
-            Came::First(count) if !scarce.refused() && again == Some(count) => {
-                return write!(out, "memory, and then {count}");
-            }
-            _ => return write!(out, "another answer"),
-        }
-    }
-    write!(out, "too many allocations")
-}
-
-/// Writes it, compared with a set of the type `T` after the same steps.
+/// Writes the count with ample memory, if each run of the sweep comes to it or to lack of memory, at least one of them in
+/// the count itself. The set is compared with one of the type `T` after the same steps.
 fn compared<B: Allocator, T: PathSet<B>>(
     alloc: Global,
     room: B,
     out: &mut String,
+    sweep: Sweep,
     words: &str,
     spot: Spot,
 ) -> Result<(), AllocError> {
     let mut other = T::empty(room);
     fill(alloc, &mut other, words)?;
-    in_turn(alloc, out, &other, words, asked_by(alloc, words), spot)
+    let (before, wanted) = counted(alloc, words, spot)?;
+    let swept = sweep.of(alloc, |scarce: &Scarce<Global>| {
+        outcome_in(alloc, scarce, &other, words, spot, wanted)
+    });
+    match swept {
+        Swept::Kept(refused) if refused > before => write!(out, "memory, and then {wanted}"),
+        _ => write!(out, "{swept:?}"),
+    }
 }
 
 /// Writes it for an entry and a point, and the steps before the count.
-pub fn refused_counts(alloc: Global, out: &mut String, words: &str) -> Result<(), AllocError> {
+pub fn refused_counts(
+    alloc: Global,
+    out: &mut String,
+    sweep: Sweep,
+    words: &str,
+) -> Result<(), AllocError> {
     let (spot, words) = words.split_once(' ').unwrap_or((words, ""));
     let (spot, _) = spot_of(spot);
-    compared::<_, OrderedEdges<_>>(alloc, alloc, out, words, spot)
+    compared::<_, OrderedEdges<_>>(alloc, alloc, out, sweep, words, spot)
 }

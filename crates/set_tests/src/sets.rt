@@ -1,6 +1,6 @@
 //! Sets of path edges.
 
-use cases::first;
+use cases::{Outcome, Sweep, Swept, first};
 use language::Word;
 use path_sets::{DiagramEdges, OrderedEdges, PathSet};
 use scarce::Scarce;
@@ -134,52 +134,26 @@ fn keeps_all<A: Allocator, S: PathSet<A>>(set: &mut S, different: u64) -> Result
     Ok(has_below(set, different, different))
 }
 
-/// The result of the insertions with the allocation with this number refused.
-#[derive(Clone, Copy, PartialEq, Eq)]
-enum Came {
-    /// No allocation was refused, and the set kept its edges.
-    Whole,
-    /// One was refused, and the set kept its edges.
-    Kept,
-    /// The set lost an edge, or took memory while it was empty.
-    Lost,
-}
-
-/// The result in a set of the type `S`.
-fn came_of<'a, S: PathSet<&'a Scarce<Global>>>(scarce: &'a Scarce<Global>, different: u64) -> Came {
+/// Whether a set of the type `S` keeps its edges, and takes no memory while it is empty.
+fn outcome<'a, S: PathSet<&'a Scarce<Global>>>(
+    scarce: &'a Scarce<Global>,
+    different: u64,
+) -> Outcome {
     let mut set = S::empty(scarce);
-    let is_free = scarce.asked() == 0;
-    match keeps_all(&mut set, different) {
-        Ok(true) if is_free && scarce.refused() => Came::Kept,
-        Ok(true) if is_free => Came::Whole,
-        _ => Came::Lost,
+    match (scarce.asked(), keeps_all(&mut set, different)) {
+        (0, Ok(true)) => Outcome::Whole,
+        _ => Outcome::Other,
     }
 }
 
-/// What is said of a set that keeps its edges, whichever of its allocations is refused, once it is dropped.
-fn said(came: Came, scarce: &Scarce<Global>, nth: u64) -> Option<&'static str> {
-    match came {
-        _ if scarce.live() > 0 => Some("memory that does not come back"),
-        Came::Kept => None,
-        Came::Whole if nth > 20 => Some("kept"),
-        Came::Whole => Some("few allocations"),
-        Came::Lost => Some("lost"),
-    }
-}
-
-/// Whether a set of diagrams, or an ordered one, keeps a number of different edges, whichever of its allocations is
+/// A set of diagrams, or an ordered one, that keeps a number of different edges, whichever of its allocations is
 /// refused.
-pub fn keeps_each(alloc: Global, ordered: bool, different: u64) -> &'static str {
-    for nth in 1..1000u64 {
-        let scarce = Scarce::refusing(alloc, nth);
-        let came = if ordered {
-            came_of::<OrderedEdges<_>>(&scarce, different)
+pub fn keeps_each(alloc: Global, sweep: Sweep, ordered: bool, different: u64) -> Swept {
+    sweep.of(alloc, |scarce: &Scarce<Global>| {
+        if ordered {
+            outcome::<OrderedEdges<_>>(scarce, different)
         } else {
-            came_of::<DiagramEdges<_>>(&scarce, different)
-        };
-        if let Some(text) = said(came, &scarce, nth) {
-            return text;
+            outcome::<DiagramEdges<_>>(scarce, different)
         }
-    }
-    "too many allocations"
+    })
 }

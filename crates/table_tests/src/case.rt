@@ -2,25 +2,28 @@
 
 use crate::tables::messages;
 use crate::whole::summaries;
-use cases::first_word;
+use cases::{Sweep, first_word, sweep_before};
 use std::alloc::{AllocError, Global};
 use summaries::EdgeLimit;
 
 /// Writes the result of a line.
 pub fn answer(alloc: Global, out: &mut String, line: &str) -> Result<(), AllocError> {
-    match line.split_once(": ") {
-        Some(("each allocation", line)) => case(alloc, out, line, true),
-        _ => case(alloc, out, line, false),
-    }
+    let (sweep, line) = sweep_before(line);
+    case(alloc, out, line, sweep)
 }
 
-/// Writes the result of a case with ample memory, or with each allocation refused in turn.
-fn case(alloc: Global, out: &mut String, line: &str, refusing: bool) -> Result<(), AllocError> {
+/// Writes the result of a case with ample memory, or in each run of a sweep.
+fn case(
+    alloc: Global,
+    out: &mut String,
+    line: &str,
+    sweep: Option<Sweep>,
+) -> Result<(), AllocError> {
     let (head, text) = line.split_once(" | ").unwrap_or((line, ""));
     match head.split_once(' ') {
         Some(("limit", number)) => limit(out, number),
-        Some(("summaries", numbers)) => summaries(alloc, out, first_word(numbers), text, refusing),
-        Some(("table", rest)) => messages(alloc, out, rest, text, refusing),
+        Some(("summaries", numbers)) => summaries(alloc, out, first_word(numbers), text, sweep),
+        Some(("table", rest)) => messages(alloc, out, rest, text, sweep),
         _ => Ok(()),
     }
 }

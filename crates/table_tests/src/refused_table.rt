@@ -5,6 +5,7 @@ ghost use Rattle.flow_graph.specs.Drawn.{graphs_of};
 ghost use Rattle.summaries.specs.Tables.{IsTable};
 
 use crate::tables::{message_of, take};
+use cases::{Outcome, Sweep, Swept};
 use flow_graph::Graphs;
 use path_sets::{DiagramEdges, OrderedEdges, PathSet};
 use scarce::Scarce;
@@ -47,6 +48,18 @@ impl Seen {
             Call::Entry => self.entry = true,
             Call::Summary => self.summary = true,
             Call::Next => self.next = true,
+        }
+    }
+
+    /// Adds the call of a run that was refused memory.
+    fn note(&mut self, came: Came) -> Outcome {
+        match came {
+            Came::Whole => Outcome::Whole,
+            Came::Refused(call) => {
+                self.add(call);
+                Outcome::Memory
+            }
+            Came::Other => Outcome::Other,
         }
     }
 
@@ -212,11 +225,12 @@ fn came_in<G: Allocator, A: Allocator + Copy, S: PathSet<A>>(
     came_of(scarce, &mut table, words, wanted)
 }
 
-/// Writes the result of the table of a procedure, whose edges are kept in an ordered set or in diagrams, with each
-/// allocation refused in turn.
+/// Writes to which calls of the table of a procedure an allocation was refused, whose edges are kept in an ordered set or
+/// in diagrams.
 fn write_in_turn(
     alloc: Global,
     out: &mut String,
+    sweep: Sweep,
     ordered: bool,
     graphs: &Graphs<Global>,
     procedure: u8,
@@ -231,28 +245,25 @@ fn write_in_turn(
         summary: false,
         next: false,
     };
-    for nth in 1..400u64 {
-        let scarce = Scarce::refusing(alloc, nth);
-        let room = &scarce;
+    let swept = sweep.of(alloc, |room: &Scarce<Global>| {
         let came = if ordered {
             came_in::<_, _, OrderedEdges<_>>(room, room, graphs, procedure, limit, words, wanted)
         } else {
             came_in::<_, _, DiagramEdges<_>>(room, room, graphs, procedure, limit, words, wanted)
         };
-        match came {
-            _ if scarce.live() > 0 => return write!(out, "memory that does not come back"),
-            Came::Whole => return seen.write(out),
-            Came::Refused(call) => seen.add(call),
-            Came::Other => return write!(out, "another answer"),
-        }
+        seen.note(came)
+    });
+    match swept {
+        Swept::Kept(_) => seen.write(out),
+        _ => write!(out, "{swept:?}"),
     }
-    write!(out, "too many allocations")
 }
 
 /// Writes it of both kinds of sets, against the answers of a table with ample memory.
 pub fn write_both(
     alloc: Global,
     out: &mut String,
+    sweep: Sweep,
     graphs: &Graphs<Global>,
     procedure: u8,
     limit: EdgeLimit,
@@ -274,7 +285,7 @@ pub fn write_both(
     }
     let wanted = wanted.as_slice();
     write!(out, "ordered: ")?;
-    write_in_turn(alloc, out, true, graphs, procedure, limit, words, wanted)?;
+    write_in_turn(alloc, out, sweep, true, graphs, procedure, limit, words, wanted)?;
     write!(out, "\ndiagrams: ")?;
-    write_in_turn(alloc, out, false, graphs, procedure, limit, words, wanted)
+    write_in_turn(alloc, out, sweep, false, graphs, procedure, limit, words, wanted)
 }

@@ -5,7 +5,7 @@ ghost use Rattle.summaries.specs.Tables.{IsTable};
 
 use crate::graphed::rewritten;
 use crate::refused_table::write_both;
-use cases::{first, first_word};
+use cases::{Sweep, first, first_word};
 use flow_graph::{Graphs, graphs};
 use language::Word;
 use path_sets::{OrderedEdges, PathSet};
@@ -151,7 +151,7 @@ fn of_graphs(
     graphs: &Graphs<Global>,
     procedure: u64,
     words: &str,
-    refusing: bool,
+    sweep: Option<Sweep>,
 ) -> Result<(), AllocError> {
     let (Ok(procedure), Some(limit)) = (u8::try_from(procedure), EdgeLimit::new(1000)) else {
         return write!(out, "no such procedure");
@@ -159,8 +159,8 @@ fn of_graphs(
     if procedure as usize >= graphs.len() {
         return write!(out, "no such procedure");
     }
-    if refusing {
-        return write_both(alloc, out, graphs, procedure, limit, words);
+    if let Some(sweep) = sweep {
+        return write_both(alloc, out, sweep, graphs, procedure, limit, words);
     }
     let mut table: Table<'_, Global, Global, OrderedEdges<Global>> = Table::new(
         alloc, graphs, procedure, limit,
@@ -169,13 +169,13 @@ fn of_graphs(
 }
 
 /// Writes what the table of a procedure owes after each message: the procedure, the rounds and the messages, and the
-/// text; or, with `refusing`, which of its calls are refused memory.
+/// text; or, with a sweep, which of its calls are refused memory.
 pub fn messages(
     alloc: Global,
     out: &mut String,
     asked: &str,
     text: &str,
-    refusing: bool,
+    sweep: Option<Sweep>,
 ) -> Result<(), AllocError> {
     let (procedure, rest) = first_word(asked);
     let (rounds, words) = rest.split_once(": ").unwrap_or((rest, ""));
@@ -183,7 +183,7 @@ pub fn messages(
         return write!(out, "not rewritten");
     };
     match graphs(&alloc, &sequential) {
-        Ok(graphs) => of_graphs(alloc, out, &graphs, procedure, words, refusing),
+        Ok(graphs) => of_graphs(alloc, out, &graphs, procedure, words, sweep),
         Err(_) => Err(AllocError),
     }
 }

@@ -6,6 +6,7 @@ ghost use Rattle.language.specs.Step.{Program};
 ghost use Rattle.trees.specs.Trees.{tree_of};
 
 use crate::graphed::rewritten;
+use cases::{Outcome, Sweep, Swept};
 use flow_graph::graphs;
 use language::Word;
 use path_sets::{OrderedEdges, PathSet};
@@ -39,22 +40,20 @@ fn tabulated<A: Allocator + Copy, S: PathSet<A>>(
     }
 }
 
-/// Writes the summaries of a text, for rounds and path edges; or, with `refusing`, whether each refused allocation
-/// leads to lack of memory, and none to summaries.
+/// Writes the summaries of a text, for rounds and path edges; or, with a sweep, whether each refused allocation leads to
+/// lack of memory, and none to summaries.
 pub fn summaries(
     alloc: Global,
     out: &mut String,
     numbers: (u64, &str),
     text: &str,
-    refusing: bool,
+    sweep: Option<Sweep>,
 ) -> Result<(), AllocError> {
     let edges = numbers.1.parse::<u64>().unwrap_or(0);
-    match rewritten(alloc, text, numbers.0) {
-        Some(sequential) if refusing => {
-            write!(out, "{}", refused_in_turn(alloc, &sequential, edges))
-        }
-        Some(sequential) => write_summaries(alloc, out, &sequential, edges),
-        None => write!(out, "not rewritten"),
+    match (rewritten(alloc, text, numbers.0), sweep) {
+        (Some(sequential), Some(sweep)) => write_refused(alloc, out, sweep, &sequential, edges),
+        (Some(sequential), None) => write_summaries(alloc, out, &sequential, edges),
+        (None, _) => write!(out, "not rewritten"),
     }
 }
 
@@ -101,16 +100,28 @@ fn write_pairs(out: &mut String, pairs: &[Pair]) -> Result<(), AllocError> {
     write!(out, "\n")
 }
 
-/// The result of a tabulation with each allocation refused in turn.
-fn refused_in_turn(alloc: Global, sequential: &Sequential<Global>, edges: u64) -> &'static str {
-    for nth in 1..400u64 {
-        let scarce = Scarce::refusing(alloc, nth);
-        let why = tabulated::<_, OrderedEdges<_>>(&scarce, sequential, edges).err();
-        match (scarce.refused(), why) {
-            (true, Some(NoVerdict::Memory)) => {}
-            (false, None) if nth > 20 => return "memory, and then summaries",
-            _ => return "another answer",
-        }
+/// The outcome of a tabulation: no summaries if memory is refused.
+fn outcome(scarce: &Scarce<Global>, sequential: &Sequential<Global>, edges: u64) -> Outcome {
+    match tabulated::<_, OrderedEdges<_>>(scarce, sequential, edges) {
+        Err(NoVerdict::Memory) => Outcome::Memory,
+        Ok(_) if !scarce.refused() => Outcome::Whole,
+        _ => Outcome::Other,
     }
-    "too many allocations"
+}
+
+/// Writes the outcome of a tabulation with allocations refused in turn.
+fn write_refused(
+    alloc: Global,
+    out: &mut String,
+    sweep: Sweep,
+    sequential: &Sequential<Global>,
+    edges: u64,
+) -> Result<(), AllocError> {
+    let swept = sweep.of(alloc, |scarce: &Scarce<Global>| {
+        outcome(scarce, sequential, edges)
+    });
+    match swept {
+        Swept::Kept(refused) if refused >= 20 => write!(out, "memory, and then summaries"),
+        _ => write!(out, "{swept:?}"),
+    }
 }

@@ -3,7 +3,8 @@ ghost use Rattle.std.specs.Prelude.{ℕ, ◌<◌, ◌≤◌, length};
 ghost use Rattle.std.specs.List.{slice_index};
 
 use crate::page::Page;
-use crate::refused::is_printed_or_refused;
+use crate::refused::swept;
+use cases::{Sweep, Swept, sweep_before};
 use crate::row::{in_one_line, unescaped};
 use crate::show::{show_bodies, show_program, show_tokens};
 use std::alloc::{AllocError, Allocator};
@@ -128,16 +129,18 @@ fn show_front<A: Allocator + Copy>(alloc: A, page: &mut Page<A>, bytes: &[u8]) {
     page.put(" ");
 }
 
-// What is printed for a text, if, whichever allocation is refused, it is printed the same or memory is
-// lacking.
-fn refused<A: Allocator + Copy>(alloc: A, bytes: &[u8]) -> Result<String<A>, AllocError> {
+// What is printed for a text, if it is printed the same or memory is lacking in each run of the sweep.
+fn refused<A: Allocator + Copy>(
+    alloc: A,
+    sweep: Sweep,
+    bytes: &[u8],
+) -> Result<String<A>, AllocError> {
     let mut page = Page::new(alloc);
     show_text(alloc, &mut page, View::Printed, bytes);
     let wanted = page.text()?;
-    if is_printed_or_refused(alloc, bytes, wanted.as_str()) {
-        Ok(wanted)
-    } else {
-        String::from_str(alloc, "another answer")
+    match swept(alloc, sweep, bytes, wanted.as_str()) {
+        Swept::Kept(_) => Ok(wanted),
+        swept => format!(in alloc; "{swept:?}"),
     }
 }
 
@@ -153,7 +156,6 @@ fn put_answer<A: Allocator + Copy>(
         "read" => show_text(alloc, page, View::Tree, bytes),
         "assert" => show_asserted(alloc, page, spelled),
         "print" => show_text(alloc, page, View::Printed, bytes),
-        "refused" => page.put_text(refused(alloc, bytes)),
         "fronts" => show_fronts(alloc, page, bytes),
         "fault" => page.put_shown(&number_of_fault(alloc, bytes)),
         "length" => page.put_shown(&bytes.len()),
@@ -161,12 +163,14 @@ fn put_answer<A: Allocator + Copy>(
     }
 }
 
-// Puts the answer to a command and the spelling of a text on the page.
+// Puts the answer to a command and the spelling of a text on the page. A sweep is there for the command `print` alone.
 fn put_case<A: Allocator + Copy>(alloc: A, page: &mut Page<A>, line: &str) {
-    let (command, spelled) = line.split_once(' ').unwrap_or((line, ""));
-    match unescaped(alloc, spelled) {
-        Ok(bytes) => put_answer(alloc, page, command, spelled, bytes.as_slice()),
-        Err(none) => page.put_text(Err(none)),
+    let (sweep, case) = sweep_before(line);
+    let (command, spelled) = case.split_once(' ').unwrap_or((case, ""));
+    match (sweep, unescaped(alloc, spelled)) {
+        (_, Err(none)) => page.put_text(Err(none)),
+        (None, Ok(bytes)) => put_answer(alloc, page, command, spelled, bytes.as_slice()),
+        (Some(sweep), Ok(bytes)) => page.put_text(refused(alloc, sweep, bytes.as_slice())),
     }
 }
 

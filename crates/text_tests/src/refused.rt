@@ -1,33 +1,24 @@
 //! Texts that are read and printed while allocations are refused in turn.
 
+use cases::{Outcome, Sweep, Swept};
 use scarce::Scarce;
 use std::alloc::{AllocError, Allocator};
 use syntax::{ReadFault, print, read};
 
-// Whether the text is read, and printed as wanted; `None` is lack of memory.
-fn is_printed_so<A: Allocator + Copy>(alloc: A, bytes: &[u8], wanted: &str) -> Option<bool> {
+/// Reads the text and prints it again, which has to give the wanted text.
+fn printed<A: Allocator + Copy>(alloc: A, bytes: &[u8], wanted: &str) -> Outcome {
     match read(alloc, bytes) {
         Ok(program) => match print(alloc, &program) {
-            Ok(text) => Some(text.as_str() == wanted),
-            Err(AllocError) => None,
+            Ok(text) if text.as_str() == wanted => Outcome::Whole,
+            Ok(_) => Outcome::Other,
+            Err(AllocError) => Outcome::Memory,
         },
-        Err(ReadFault::Memory) => None,
-        Err(_) => Some(false),
+        Err(ReadFault::Memory) => Outcome::Memory,
+        Err(_) => Outcome::Other,
     }
 }
 
-/// Whether with each allocation refused in turn lack of memory is answered, or the wanted text, and at last, if none
-/// is refused, the wanted text.
-pub fn is_printed_or_refused<A: Allocator + Copy>(alloc: A, bytes: &[u8], wanted: &str) -> bool {
-    for nth in 1..1000u64 {
-        let scarce = Scarce::refusing(alloc, nth);
-        let printed = is_printed_so(&scarce, bytes, wanted);
-        if printed == Some(false) {
-            return false;
-        }
-        if !scarce.refused() {
-            return printed == Some(true);
-        }
-    }
-    false
+/// The same while allocations are refused in turn.
+pub fn swept<A: Allocator + Copy>(alloc: A, sweep: Sweep, bytes: &[u8], wanted: &str) -> Swept {
+    sweep.of(alloc, |scarce: &Scarce<A>| printed(scarce, bytes, wanted))
 }

@@ -2,10 +2,11 @@
 
 use crate::beginnings::beginnings;
 use crate::message::{print_edge_limit, print_told, print_told_without};
-use crate::refused::{in_turn, over_pairs, sweep_of};
+use crate::refused::{in_turn, over_pairs};
 use crate::schedules::schedules;
 use crate::text::{bytes_of, name_of};
 use crate::words::{asked, print_fault, print_order};
+use cases::sweep_of;
 use cli::{Order, Reply, answer};
 use std::alloc::Allocator;
 use std::io::{self, Write};
@@ -63,8 +64,12 @@ fn print_how<R: Print + AllocGlobal + Wait + Threads + Sync>(
     text: &[u8],
     order: Order,
 ) -> io::Result<()> {
-    match how.split_once(" allocation") {
-        Some((words, _)) => in_turn(rt, sweep_of(words), text, order),
+    let (pairs, prefix) = match how.strip_prefix("all pairs, ") {
+        Some(prefix) => (4, prefix),
+        None => (1, how),
+    };
+    match sweep_of(prefix) {
+        Some(sweep) => in_turn(rt, sweep, pairs, text, order),
         None if how == "each beginning" => beginnings(rt, text, order),
         None if how == "each schedule" => schedules(rt, text, order),
         None if how == "each pair" => over_pairs(rt, text, order),

@@ -2,6 +2,7 @@
 
 use crate::case::print_reply;
 use crate::refused::answer_without;
+use cases::{Outcome, Sweep, Swept};
 use cli::{Order, Refusal, answer, explain};
 use scarce::Scarce;
 use std::alloc::Global;
@@ -9,30 +10,21 @@ use std::io;
 use std::sync::Wait;
 use std::thread::Threads;
 
-/// More allocations than any message makes.
-const MOST: u64 = 1_000;
-
-/// Whether the message comes whole or not at all, whichever allocation is refused.
-fn is_whole_or_none(
-    alloc: Global,
+/// The outcome under a scarce allocator: if memory is refused there is no message, and else the whole one.
+fn outcome(
+    scarce: &Scarce<Global>,
     file: &str,
     text: &[u8],
     order: Order,
     refusal: &Refusal,
     whole: &str,
-) -> bool {
-    for nth in 1..=MOST {
-        let scarce = Scarce::refusing(alloc, nth);
-        let mut message = String::new(&scarce);
-        let told = explain(&scarce, &mut message, file, text, order, refusal).is_ok();
-        if !scarce.refused() {
-            return told && message.as_str() == whole;
-        }
-        if told {
-            return false;
-        }
+) -> Outcome {
+    let mut message = String::new(scarce);
+    match explain(scarce, &mut message, file, text, order, refusal) {
+        Err(_) => Outcome::Memory,
+        Ok(()) if !scarce.refused() && message.as_str() == whole => Outcome::Whole,
+        Ok(()) => Outcome::Other,
     }
-    false
 }
 
 /// Prints the message for a refusal.
@@ -44,12 +36,14 @@ fn print_message<R: Print + AllocGlobal>(
     refusal: &Refusal,
 ) -> io::Result<()> {
     let mut message = String::new(rt.alloc());
-    let told = explain(rt.alloc(), &mut message, file, text, order, refusal).is_ok();
+    let explained = explain(rt.alloc(), &mut message, file, text, order, refusal);
     let whole = message.as_str();
-    if told && is_whole_or_none(rt.alloc(), file, text, order, refusal, whole) {
-        rt.print(whole)
-    } else {
-        rt.print("another message\n")
+    let swept = Sweep::each().of(rt.alloc(), |scarce: &Scarce<Global>| {
+        outcome(scarce, file, text, order, refusal, whole)
+    });
+    match (explained, swept) {
+        (Ok(()), Swept::Kept(_)) => rt.print(whole),
+        _ => println!(rt; "{swept:?}"),
     }
 }
 

@@ -1,6 +1,7 @@
 //! Each allocation refused in turn.
 
 use crate::case::print_reply;
+use cases::{Outcome, Sweep, Swept};
 use cli::{Order, Reply, answer, answer_with};
 use flow_graph::Graphs;
 use path_sets::{DiagramEdges, OrderedEdges};
@@ -12,37 +13,6 @@ use std::sync::Wait;
 use std::thread::Threads;
 use summaries::Due;
 use switchboard::{LockPerBox, OneLock};
-
-/// More allocations than any case makes.
-const ALL: u64 = 100_000;
-
-/// Which allocations are refused.
-#[derive(Clone, Copy)]
-pub struct Sweep {
-    /// One in each run, and in the last run the one with this number at most.
-    most: u64,
-    /// In each run all after that one as well.
-    and_behind: bool,
-    /// Over each pair of board and set, and not over those of the program alone.
-    all_pairs: bool,
-}
-
-/// The sweep that the words name: `all pairs, from each`, or how many allocations are refused.
-pub fn sweep_of(words: &str) -> Sweep {
-    let (all_pairs, words) = match words.strip_prefix("all pairs, ") {
-        Some(words) => (true, words),
-        None => (false, words),
-    };
-    let (and_behind, words) = match words.strip_prefix("from ") {
-        Some(words) => (true, words),
-        None => (false, words),
-    };
-    Sweep {
-        most: words.parse::<u64>().unwrap_or(ALL),
-        and_behind,
-        all_pairs,
-    }
-}
 
 /// A runtime that has threads, and a scarce allocator in place of its own.
 #[derive(Drop)]
@@ -101,73 +71,39 @@ fn answer_over<'a, R: Wait + Threads + Sync>(
     }
 }
 
-/// The result of one run.
-#[derive(Clone, Copy, Debug, PartialEq, Eq)]
-enum Came {
-    /// No allocation was refused, and the reply is the one without refusal.
-    Whole,
-    /// That reply, or the one for lack of memory.
-    Either,
-    /// Another reply.
-    Other,
-}
-
-/// What comes over a pair of board and set if the memory is scarce.
-fn came_of<R: Wait + Threads + Sync>(
+/// The outcome over a pair of board and set if the memory is scarce.
+fn outcome<R: Wait + Threads + Sync>(
     rt: &R,
     scarce: &Scarce<Global>,
     pair: u8,
     text: &[u8],
     order: Order,
     whole: &Reply<Global>,
-) -> Came {
+) -> Outcome {
     let reply = answer_over(rt, scarce, pair, text, order);
-    let bytes = reply.bytes.as_slice();
-    let is_whole = reply.status == whole.status && bytes == whole.bytes.as_slice();
-    let is_memory = reply.status == 3 && bytes == b"no verdict: memory\n".as_slice();
-    match scarce.refused() {
-        false if is_whole => Came::Whole,
-        true if is_whole || is_memory => Came::Either,
-        _ => Came::Other,
+    match reply.bytes.as_slice() {
+        bytes if reply.status == whole.status && bytes == whole.bytes.as_slice() => Outcome::Whole,
+        b"no verdict: memory\n" if reply.status == 3 => Outcome::Memory,
+        _ => Outcome::Other,
     }
 }
 
-/// Whether over a pair of board and set each run of the sweep comes to the whole reply or to lack of memory, until
-/// none is refused.
-fn is_well<R: AllocGlobal + Wait + Threads + Sync>(
-    rt: &R,
-    sweep: Sweep,
-    pair: u8,
-    text: &[u8],
-    order: Order,
-    whole: &Reply<Global>,
-) -> bool {
-    for nth in 1..=sweep.most {
-        let scarce = if sweep.and_behind {
-            Scarce::refusing_from(rt.alloc(), nth)
-        } else {
-            Scarce::refusing(rt.alloc(), nth)
-        };
-        match came_of(rt, &scarce, pair, text, order, whole) {
-            Came::Either => {}
-            came => return came == Came::Whole,
-        }
-    }
-    sweep.most != ALL
-}
-
-/// Prints the reply without refusal, if each run of the sweep leaves it or leads to `no verdict: memory`.
+/// Prints the reply without refusal, if over the first `pairs` pairs of board and set each run of the sweep leaves it or
+/// leads to `no verdict: memory`.
 pub fn in_turn<R: Print + AllocGlobal + Wait + Threads + Sync>(
     rt: &R,
     sweep: Sweep,
+    pairs: u8,
     text: &[u8],
     order: Order,
 ) -> io::Result<()> {
     let reply = answer(rt, text, order);
-    let pairs = if sweep.all_pairs { 4 } else { 1 };
     for pair in 0..pairs {
-        if !is_well(rt, sweep, pair, text, order, &reply) {
-            return rt.print("another reply\n");
+        let swept = sweep.of(rt.alloc(), |scarce: &Scarce<Global>| {
+            outcome(rt, scarce, pair, text, order, &reply)
+        });
+        if !matches!(swept, Swept::Kept(_)) {
+            return println!(rt; "pair {pair}: {swept:?}");
         }
     }
     print_reply(rt, &reply)
@@ -182,7 +118,7 @@ pub fn over_pairs<R: Print + AllocGlobal + Wait + Threads + Sync>(
     let reply = answer(rt, text, order);
     for pair in 1..4 {
         let scarce = Scarce::refusing(rt.alloc(), 0);
-        if came_of(rt, &scarce, pair, text, order, &reply) != Came::Whole {
+        if outcome(rt, &scarce, pair, text, order, &reply) != Outcome::Whole {
             return rt.print("another reply\n");
         }
     }
