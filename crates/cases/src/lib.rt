@@ -3,10 +3,9 @@
 
 mod sweep;
 
-pub use sweep::{Outcome, Sweep, Swept, sweep_before, sweep_of};
-
 use std::alloc::{AllocError, Global};
 use std::io::{self, BufRead, BufReader};
+pub use sweep::{Outcome, Sweep, Swept, sweep_before, sweep_of};
 
 /// Whether a line is no case: it is empty, or begins with `#`.
 fn is_heading(line: &str) -> bool {

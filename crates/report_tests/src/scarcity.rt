@@ -32,7 +32,10 @@ impl<R: Wait + Threads + Sync> Trial<'_, R> {
         });
         match swept {
             Swept::Kept(refused) if refused >= 20 => {
-                write!(out, "{whole:?}, and lack of memory if an allocation is refused")
+                write!(
+                    out,
+                    "{whole:?}, and lack of memory if an allocation is refused"
+                )
             }
             _ => write!(out, "{swept:?}"),
         }

@@ -26,12 +26,7 @@ fn plain(alloc: Global, out: &mut String, line: &str) -> Result<(), AllocError> 
 }
 
 /// Writes the result of a case whose allocations are refused in turn.
-fn refused(
-    alloc: Global,
-    out: &mut String,
-    sweep: Sweep,
-    line: &str,
-) -> Result<(), AllocError> {
+fn refused(alloc: Global, out: &mut String, sweep: Sweep, line: &str) -> Result<(), AllocError> {
     let (head, text) = line.split_once(' ').unwrap_or((line, ""));
     let (number, _) = first_word(text);
     match head {

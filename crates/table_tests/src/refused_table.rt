@@ -285,7 +285,11 @@ pub fn write_both(
     }
     let wanted = wanted.as_slice();
     write!(out, "ordered: ")?;
-    write_in_turn(alloc, out, sweep, true, graphs, procedure, limit, words, wanted)?;
+    write_in_turn(
+        alloc, out, sweep, true, graphs, procedure, limit, words, wanted,
+    )?;
     write!(out, "\ndiagrams: ")?;
-    write_in_turn(alloc, out, sweep, false, graphs, procedure, limit, words, wanted)
+    write_in_turn(
+        alloc, out, sweep, false, graphs, procedure, limit, words, wanted,
+    )
 }

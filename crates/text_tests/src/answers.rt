@@ -4,9 +4,9 @@ ghost use Rattle.std.specs.List.{slice_index};
 
 use crate::page::Page;
 use crate::refused::swept;
-use cases::{Sweep, Swept, sweep_before};
 use crate::row::{in_one_line, unescaped};
 use crate::show::{show_bodies, show_program, show_tokens};
+use cases::{Sweep, Swept, sweep_before};
 use std::alloc::{AllocError, Allocator};
 use syntax::{ReadFault, print, read};
 use tokens::{CutFault, Token, as_ascii, cut, is_too_deep};
