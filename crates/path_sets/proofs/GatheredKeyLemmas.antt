@@ -16,7 +16,7 @@ use Rattle.path_sets.specs.declared.points.mask_key.MaskKey.{MaskKey}
 use Rattle.path_sets.specs.declared.diagrams.roots.DiagramKey.{DiagramKey}
 use Rattle.path_sets.specs.declared.diagrams.gathered_key.GatheredKey.{GatheredKey}
 use Rattle.path_sets.specs.Diagrams.{diagram_eq}
-use Rattle.path_sets.specs.Edges.{edge_at, edges, mask_key_eq}
+use Rattle.path_sets.specs.Edges.{edge_at, mask_edges, mask_key_eq}
 use Rattle.path_sets.specs.Inserts.{PutsIn}
 use Rattle.path_sets.specs.GatheredKeys.{AreWithin, AddsPointAt, mask_key_at, mask_key_in, masks_of, gathered_key_eq}
 use Rattle.path_sets.specs.Triples.{Triple}
@@ -115,7 +115,7 @@ module _ (diagrams : List DiagramKey) where
   gathered_key_of (c ∷ masks) p (inr later) = let (d, there, is) = gathered_key_of masks p later in (d, inr there, is)
 
   -- each path edge of the masks is of one of the keys
-  pub in_gathered_key : (masks : List (GatheredKey × ℕ)) (t : Triple) → Member t (edges (masks_of diagrams masks))
+  pub in_gathered_key : (masks : List (GatheredKey × ℕ)) (t : Triple) → Member t (mask_edges (masks_of diagrams masks))
       → (c : GatheredKey × ℕ) × Member c masks × IsOf (mask_key_at diagrams c.0, c.1) t
   in_gathered_key masks t m =
       let (p, there, is) = in_mask_key (masks_of diagrams masks) t m in
@@ -205,10 +205,10 @@ pub marked_masks : (diagrams : List DiagramKey) → IsDistinct diagram_eq diagra
     → (old new : List (GatheredKey × ℕ)) (i : ℕ) (s : GatheredKey) (bit : ℕ)
     → bit < 64 → AreWithin diagrams old → IsDistinct gathered_key_eq (keys_of old) → slice_get (keys_of old) i ≡ Some s → (added : Bool)
     → AddsPointAt i bit old new added
-    → PutsIn (edge_at (mask_key_at diagrams s) bit) (edges (masks_of diagrams old)) (edges (masks_of diagrams new)) added
+    → PutsIn (edge_at (mask_key_at diagrams s) bit) (mask_edges (masks_of diagrams old)) (mask_edges (masks_of diagrams new)) added
 marked_masks diagrams distinct old new i s bit small within once here added marks =
     let at = pair_at old i s marks.mask here marks.was in
-    subst (λ ps. PutsIn (edge_at (mask_key_at diagrams s) bit) (edges (masks_of diagrams old)) (edges ps) added)
+    subst (λ ps. PutsIn (edge_at (mask_key_at diagrams s) bit) (mask_edges (masks_of diagrams old)) (mask_edges ps) added)
     (sym (ap (masks_of diagrams) marks.is ∙ set_masks diagrams old i marks.marked))
     (settled (masks_of diagrams old) i (mask_key_at diagrams s) marks.mask marks.marked bit small
     (distinct_masks diagrams distinct old within once)

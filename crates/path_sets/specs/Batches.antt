@@ -21,6 +21,11 @@ abbrev pub masks_in : {A : Type 0} → List DiagramKey → List (Batch A) → Li
 masks_in diagrams [] = []
 masks_in diagrams (batch ∷ batches) = masks_of diagrams batch.masks.entries ++ masks_in diagrams batches
 
+-- The batches have the masks that they had.
+pub record KeepMasks {A : Type 0} (old new : List (Batch A)) : Type 0 where
+  pub gathered : (k : ℕ) → gathered_at new k ≡ gathered_at old k
+  pub masks : (diagrams : List DiagramKey) → masks_in diagrams new ≡ masks_in diagrams old
+
 -- a key of a batch is one of a diagram that has this batch
 abbrev pub AreHome : {A : Type 0} → List ℕ → List (Batch A) → Type 0
 AreHome homes batches = (k : ℕ) (s : GatheredKey) → Member s (keys_of (gathered_at batches k)) → slice_get homes s.diagram ≡ Some k

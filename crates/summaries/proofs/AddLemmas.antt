@@ -5,13 +5,13 @@ use Rattle.std.specs.Bool.{beq}
 use Rattle.std.proofs.lemmas.Map.Views.{exact_unsigned_eq}
 use Rattle.language.specs.Lists.{Member, NoneTwice}
 use Rattle.language.proofs.Members.{member_left, member_right, member_append}
-use Rattle.summaries.specs.declared.edge.Call.{Call}
+use Rattle.summaries.specs.declared.edge.CallKey.{CallKey}
 use Rattle.summaries.specs.declared.pair.Pair.{Pair}
 use Rattle.summaries.specs.Found.{call, call_eq, pair_eq}
 use Rattle.summaries.proofs.Mails.{both, none_twice_with}
 
 -- calls that compare as equal are the same
-pub same_call : (x y : Call) → call_eq x y ≡ true → x ≡ y
+pub same_call : (x y : CallKey) → call_eq x y ≡ true → x ≡ y
 same_call x y e =
     let r = both (nat_eq x.callee y.callee) (nat_eq x.entered y.entered) e in
     λ j. call (exact_unsigned_eq x.callee y.callee r.0 j) (exact_unsigned_eq x.entered y.entered r.1 j)

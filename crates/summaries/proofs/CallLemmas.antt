@@ -19,8 +19,8 @@ use Rattle.flow_graph.specs.declared.graph.Graph.{Graph}
 use Rattle.flow_graph.proofs.ReachLemmas.{reaches_more}
 use Rattle.summaries.specs.declared.due.Caller.TheVariants.{Proc}
 use Rattle.summaries.specs.declared.due.Due.TheVariants.{Entry}
-use Rattle.summaries.specs.declared.edge.Call.{Call}
-use Rattle.summaries.specs.declared.edge.Edge.{Edge}
+use Rattle.summaries.specs.declared.edge.CallKey.{CallKey}
+use Rattle.summaries.specs.declared.edge.PathEdge.{PathEdge}
 use Rattle.summaries.specs.declared.edge.Site.{Site}
 use Rattle.summaries.specs.declared.found.Found.{Found}
 use Rattle.summaries.specs.declared.outbox.Outbox.{Outbox}
@@ -28,7 +28,7 @@ use Rattle.summaries.specs.declared.outbox.Outgoing.{Outgoing}
 use Rattle.summaries.specs.declared.outbox.Outgoing.TheVariants.{EntryFor}
 use Rattle.summaries.specs.declared.groups.Groups.{Groups}
 use Rattle.summaries.specs.declared.pair.Pair.{Pair}
-use Rattle.summaries.specs.contracts.edge.CallEq.TheImpl.Laws.{laws-law}
+use Rattle.summaries.specs.contracts.edge.CallKeyEq.TheImpl.Laws.{laws-law}
 use Rattle.summaries.specs.Under.{under}
 use Rattle.summaries.specs.Mails.{mail}
 use Rattle.summaries.specs.Dues.{due_of}
@@ -43,8 +43,8 @@ use Rattle.summaries.proofs.Mails.{none_twice_with}
 use Rattle.summaries.proofs.PlaceLemmas.{HasMoreBehind, none_behind, placed_still, mails_still}
 use Rattle.summaries.proofs.TellLemmas.{gives_kept, gives_one, gives_known}
 
-module _ {A G : Type 0} (graph : Graph G) (q : ℕ) (f : Found A) (given : Outbox A) (sites : Groups Call Site A)
-    (pending : Vec Edge A) where
+module _ {A G : Type 0} (graph : Graph G) (q : ℕ) (f : Found A) (given : Outbox A) (sites : Groups CallKey Site A)
+    (pending : Vec PathEdge A) where
   -- what is found, with other sites, messages given and edges pending
   abbrev pub asked_to : Found A
   asked_to = record {
@@ -62,7 +62,7 @@ module _ {A G : Type 0} (graph : Graph G) (q : ℕ) (f : Found A) (given : Outbo
   pub taken_there : (k : NumberedMessage) → TookMessage f k → TookMessage asked_to k
   taken_there = taken_as f asked_to (λ a. refl) (λ c. refl)
 
-  module _ (es ds : List Triple) (e : Edge) (s x back : ℕ) (flow : Flow G) (sound : IsGrounded graph q f es)
+  module _ (es ds : List Triple) (e : PathEdge) (s x back : ℕ) (flow : Flow G) (sound : IsGrounded graph q f es)
       (there : Member (triple_of e) es)
       (here : slice_get graph.flows.items e.point ≡ Some flow) (enters : entered_by flow e.values ≡ Some (s, x, back)) where
     reached : GraphReaches graph (TookMessage asked_to) e.entry e.point e.values
@@ -94,7 +94,7 @@ module _ {A G : Type 0} (graph : Graph G) (q : ℕ) (f : Found A) (given : Outbo
 
     module _ (gave : AddsTo (λ m. m ≡ mail s (Entry (Proc q) x)) (mails_in q f) (mails_in q asked_to))
         (added : under call_eq sites.by_key (call s x) ≡ under call_eq f.sites.by_key (call s x) ++ site e.entry e.point e.values ∷ [])
-        (others : (k : Call) → call_eq (call s x) k ≡ false → under call_eq sites.by_key k ≡ under call_eq f.sites.by_key k)
+        (others : (k : CallKey) → call_eq (call s x) k ≡ false → under call_eq sites.by_key k ≡ under call_eq f.sites.by_key k)
         (grown : Grows (OfSome (IsBehind graph (site e.entry e.point e.values))
         (under call_eq f.summaries.by_key (call s x))) es ds f.pending.items pending.items) where
       abbrev M : NumberedMessage → Type 0
@@ -104,13 +104,13 @@ module _ {A G : Type 0} (graph : Graph G) (q : ℕ) (f : Found A) (given : Outbo
       asked_site = added_is call_eq same_call (under call_eq f.sites.by_key) (under call_eq sites.by_key) (call s x)
           (site e.entry e.point e.values) added others
 
-      site_or : (k : Call) (y : Site) → Member y (under call_eq sites.by_key k) →
+      site_or : (k : CallKey) (y : Site) → Member y (under call_eq sites.by_key k) →
           Member y (under call_eq f.sites.by_key k) ⊎ ((call s x ≡ k) × (site e.entry e.point e.values ≡ y))
       site_or = added_or call_eq same_call (under call_eq f.sites.by_key) (under call_eq sites.by_key) (call s x)
           (site e.entry e.point e.values) added others
 
       -- what is reached at the call of a site
-      abbrev AtCall : Call → Site → Type 0
+      abbrev AtCall : CallKey → Site → Type 0
       AtCall k y = GraphReaches graph M y.asked y.point y.values × ((n : ℕ) × EntersAt graph y.point y.values k.callee k.entered n)
 
       at_call : AtCall (call s x) (site e.entry e.point e.values)
@@ -164,12 +164,12 @@ module _ {A G : Type 0} (graph : Graph G) (q : ℕ) (f : Found A) (given : Outbo
       }
 
 -- a call is where an equal one is
-pub stands_there : (ds : List Call) (k : Call) (at : ℕ) → (x : Call) × (slice_get ds at ≡ Some x) × (call_eq k x ≡ true)
+pub stands_there : (ds : List CallKey) (k : CallKey) (at : ℕ) → (x : CallKey) × (slice_get ds at ≡ Some x) × (call_eq k x ≡ true)
     → slice_get ds at ≡ Some k
 stands_there ds k at (x, here, same) = here ∙ ap Some (sym (same_call k x same))
 
 -- a key is appended to those of a list, unless it is among them
-module _ (cs ds : List Call) (k : Call) (keys : ds ≡ insert_key call_eq cs k) where
+module _ (cs ds : List CallKey) (k : CallKey) (keys : ds ≡ insert_key call_eq cs k) where
   pub calls_more : HasMoreBehind cs ds
   calls_more = by (list_any (call_eq k) cs) keys
     where
@@ -186,7 +186,7 @@ module _ (cs ds : List Call) (k : Call) (keys : ds ≡ insert_key call_eq cs k) 
           (none_twice_with k cs (λ m. true≢false (sym (is_found call_eq laws-law.refl k cs m) ∙ new)) once)
 
 -- an entry that was given by the place of its call was given
-pub was_given : {A : Type 0} (q : ℕ) (f : Found A) (ds : List Call) (k : Call) (at : ℕ) → ds ≡ insert_key call_eq (calls_in f) k
+pub was_given : {A : Type 0} (q : ℕ) (f : Found A) (ds : List CallKey) (k : CallKey) (at : ℕ) → ds ≡ insert_key call_eq (calls_in f) k
     → slice_get ds at ≡ Some k → IsIndexed f → Member (EntryFor at) f.outbox.sent.items → Member (entry_mail q k) (mails_in q f)
 was_given q f ds k at added here old m =
     let cs = calls_in f in
@@ -198,7 +198,7 @@ was_given q f ds k at added here old m =
     (member_map (mail_of cs f.pairs.keys q) f.outbox.sent.items (EntryFor at) m)
 
 -- The entry of a call at its place among the calls is given, unless the call was known.
-module _ {A : Type 0} (q : ℕ) (f : Found A) (given : Outbox A) (sites : Groups Call Site A) (pending : Vec Edge A) (k : Call) (at : ℕ)
+module _ {A : Type 0} (q : ℕ) (f : Found A) (given : Outbox A) (sites : Groups CallKey Site A) (pending : Vec PathEdge A) (k : CallKey) (at : ℕ)
     (added : keys sites.by_key ≡ insert_key call_eq (calls_in f) k) (here : slice_get (keys sites.by_key) at ≡ Some k) (known : Bool)
     (same : OnTrue known (given.sent.items ≡ f.outbox.sent.items))
     (more : OnFalse known (given.sent.items ≡ f.outbox.sent.items ++ EntryFor at ∷ [])) (old : IsIndexed f) where
@@ -208,7 +208,7 @@ module _ {A : Type 0} (q : ℕ) (f : Found A) (given : Outbox A) (sites : Groups
   abbrev ps : List Pair
   ps = f.pairs.keys
 
-  abbrev ds : List Call
+  abbrev ds : List CallKey
   ds = keys sites.by_key
 
   still : (x : Outgoing) → Member x f.outbox.sent.items → IsPlaced ds ps x

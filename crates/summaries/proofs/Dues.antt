@@ -8,7 +8,7 @@ use Rattle.summaries.specs.declared.due.Caller.{Caller}
 use Rattle.summaries.specs.declared.due.Caller.TheVariants.{Starter, Proc}
 use Rattle.summaries.specs.declared.due.Due.{Due}
 use Rattle.summaries.specs.declared.due.Due.TheVariants.{Entry, Summary}
-use Rattle.summaries.specs.declared.edge.Call.{Call}
+use Rattle.summaries.specs.declared.edge.CallKey.{CallKey}
 use Rattle.summaries.specs.Mails.{summary_due}
 use Rattle.summaries.specs.Dues.{caller_of, due_of}
 use Rattle.summaries.specs.Found.{call, left}
@@ -54,7 +54,7 @@ entry_in (Entry from a) = a
 entry_in (Summary s r a b) = a
 
 -- what was called, or the one given
-call_in : Call → Due → Call
+call_in : CallKey → Due → CallKey
 call_in k (Entry from a) = k
 call_in k (Summary s r a b) = call s a
 

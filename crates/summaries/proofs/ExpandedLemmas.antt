@@ -13,7 +13,7 @@ use Rattle.flow_graph.specs.Flows.{last_of, next_of}
 use Rattle.flow_graph.specs.declared.flow.Flow.{Flow}
 use Rattle.flow_graph.specs.declared.graph.Graph.{Graph}
 use Rattle.flow_graph.proofs.ChoiceLemmas.{next_alike}
-use Rattle.summaries.specs.declared.edge.Edge.{Edge}
+use Rattle.summaries.specs.declared.edge.PathEdge.{PathEdge}
 use Rattle.summaries.specs.declared.edge.Expanded.{Expanded}
 use Rattle.summaries.specs.declared.found.Found.{Found}
 use Rattle.summaries.specs.Found.{expanded_at, IsExpanded}
@@ -34,7 +34,7 @@ same_led x y e =
     (exact_unsigned_eq x.values y.values values j)
 
 -- if an edge was led that choice 0 leads to the same, each choice leads to an edge
-pub all_led : {G : Type 0} (graph : Graph G) (es : List Triple) (e : Edge) (x : Expanded) (flow : Flow G)
+pub all_led : {G : Type 0} (graph : Graph G) (es : List Triple) (e : PathEdge) (x : Expanded) (flow : Flow G)
     → slice_get graph.flows.items e.point ≡ Some flow → IsExpansionKey flow e x → IsExpanded graph es x
     → (t : Triple) → IsNext flow e t → Member t es
 all_led graph es e x flow here (more, entry, point, (m, first)) (w, from, n, there, before, all) t (i, most, (to, v, next, is)) =
@@ -47,7 +47,7 @@ all_led graph es e x flow here (more, entry, point, (m, first)) (w, from, n, the
     subst (λ u. Member u es) (sym is) (subst (λ a. Member (triple a to v) es) entry led)
 
 -- if each choice leads to an edge, it may be remembered so
-pub led_now : {G : Type 0} (graph : Graph G) (es : List Triple) (e : Edge) (x : Expanded) (flow : Flow G)
+pub led_now : {G : Type 0} (graph : Graph G) (es : List Triple) (e : PathEdge) (x : Expanded) (flow : Flow G)
     → slice_get graph.flows.items e.point ≡ Some flow → IsExpansionKey flow e x → ((t : Triple) → IsNext flow e t → Member t es)
     → IsExpanded graph es x
 led_now graph es e x flow here (more, entry, point, (n, first)) all = (

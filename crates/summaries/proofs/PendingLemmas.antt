@@ -10,12 +10,12 @@ use Rattle.flow_graph.specs.declared.call.Call as rust
 use Rattle.flow_graph.specs.declared.flow.Flow.{Flow}
 use Rattle.flow_graph.specs.declared.flow.Flow.TheVariants.{Assign, Test, Assume, Call, Return}
 use Rattle.flow_graph.specs.declared.graph.Graph.{Graph}
-use Rattle.summaries.specs.declared.edge.Edge.{Edge}
+use Rattle.summaries.specs.declared.edge.PathEdge.{PathEdge}
 use Rattle.summaries.specs.declared.found.Found.{Found}
 use Rattle.summaries.specs.Found.{site, HasSite, HasExit, IsWorked}
 use Rattle.summaries.specs.Grows.{IsNext}
 
-module _ {A G : Type 0} (graph : Graph G) (q : ℕ) (f : Found A) (es : List Triple) (e : Edge)
+module _ {A G : Type 0} (graph : Graph G) (q : ℕ) (f : Found A) (es : List Triple) (e : PathEdge)
     (leaves : e.point ≡ 0 → HasExit f e.entry (left_by graph e.values)) where
   -- if there is no such point
   pub beyond_worked : length graph.flows.items ≤ e.point → IsWorked graph q f es e.entry e.point e.values

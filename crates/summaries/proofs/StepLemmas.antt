@@ -12,8 +12,8 @@ use Rattle.flow_graph.specs.Numbers.{NumberedMessage, numbered_entry, numbered_s
 use Rattle.flow_graph.specs.declared.graph.Graph.{Graph}
 use Rattle.flow_graph.specs.declared.exit.Exit.{Exit}
 use Rattle.flow_graph.proofs.ReachLemmas.{reaches_more}
-use Rattle.summaries.specs.declared.edge.Call.{Call}
-use Rattle.summaries.specs.declared.edge.Edge.{Edge}
+use Rattle.summaries.specs.declared.edge.CallKey.{CallKey}
+use Rattle.summaries.specs.declared.edge.PathEdge.{PathEdge}
 use Rattle.summaries.specs.declared.edge.Expanded.{Expanded}
 use Rattle.summaries.specs.declared.edge.Site.{Site}
 use Rattle.summaries.specs.declared.found.Found.{Found}
@@ -22,7 +22,7 @@ use Rattle.summaries.specs.declared.outbox.Outgoing.{Outgoing}
 use Rattle.summaries.specs.declared.groups.Groups.{Groups}
 use Rattle.summaries.specs.declared.due.Caller as rust
 use Rattle.summaries.specs.Under.{under}
-use Rattle.summaries.specs.Mails.{Mail, mail}
+use Rattle.summaries.specs.Mails.{AddressedMail, mail}
 use Rattle.summaries.specs.Dues.{caller_of, due_of}
 use Rattle.summaries.specs.Found.{call, call_eq, edge, site, pair, mail_of, calls_in, mails_in, TookMessage, HasSite}
 use Rattle.summaries.specs.Found.{HasExit, HasGiven, IsPlaced, IsIndexed, IsOwed, IsPending, IsGrounded, IsWorked, IsSaturated, IsEmpty}
@@ -37,8 +37,8 @@ pub record Step {A G : Type 0} (graph : Graph G) (q : ℕ) (f g : Found A) (es d
   pub kept : (t : Triple) → Member t es → Member t ds
   pub edge : (t : Triple) → Member t ds → Member t es ⊎ GraphReaches graph (TookMessage g) t.entry t.point t.values
   pub new : (t : Triple) → Member t ds → Member t es ⊎ IsPending g t.entry t.point t.values
-  pub stays : (e : Edge) → Member e f.pending.items → Member e g.pending.items
-  pub pending : (e : Edge) → Member e g.pending.items → Member e f.pending.items ⊎ Member (triple_of e) ds
+  pub stays : (e : PathEdge) → Member e f.pending.items → Member e g.pending.items
+  pub pending : (e : PathEdge) → Member e g.pending.items → Member e f.pending.items ⊎ Member (triple_of e) ds
   pub sites : (s e a n v : ℕ) → HasSite f s e (site a n v) → HasSite g s e (site a n v)
   pub called : (s e a n v : ℕ) → HasSite g s e (site a n v) →
       HasSite f s e (site a n v) ⊎ (GraphReaches graph (TookMessage g) a n v × ((back : ℕ) × EntersAt graph n v s e back))
@@ -166,7 +166,7 @@ all_reached graph q f g es sound taken t m =
 
 -- if the entries and the summaries are the same, so are the messages taken
 pub taken_as : {A : Type 0} (f g : Found A) → ((a : ℕ) → under nat_eq g.entries.by_key a ≡ under nat_eq f.entries.by_key a)
-    → ((c : Call) → under call_eq g.summaries.by_key c ≡ under call_eq f.summaries.by_key c) →
+    → ((c : CallKey) → under call_eq g.summaries.by_key c ≡ under call_eq f.summaries.by_key c) →
     (k : NumberedMessage) → TookMessage f k → TookMessage g k
 taken_as f g entries summaries (numbered_entry from a) h = subst (Member (caller_of from)) (sym (entries a)) h
 taken_as f g entries summaries (numbered_summary s a b) h = subst (Member b) (sym (summaries (call s a))) h
@@ -190,8 +190,8 @@ indexed_as f g calls pairs exits placed old = record {
 }
 
 -- g has other entries, summaries, messages given and edges pending than f
-module _ {A G : Type 0} (graph : Graph G) (q : ℕ) (f : Found A) (entries : Groups ℕ rust.Caller A) (summaries : Groups Call Exit A)
-    (given : Outbox A) (pending : Vec Edge A) where
+module _ {A G : Type 0} (graph : Graph G) (q : ℕ) (f : Found A) (entries : Groups ℕ rust.Caller A) (summaries : Groups CallKey Exit A)
+    (given : Outbox A) (pending : Vec PathEdge A) where
   -- what is found, with these
   abbrev pub grown_to : Found A
   grown_to = record {
@@ -294,7 +294,7 @@ module _ {A G : Type 0} (graph : Graph G) (q : ℕ) (f g : Found A) (es : List T
     indexed = λ old. indexed_as f same_to refl paired (λ a. refl) (λ x m. old.placed x (subst (Member x) gave m)) old;
   }
 
-module _ {A G : Type 0} (graph : Graph G) (q : ℕ) (f : Found A) (es : List Triple) (pending : Vec Edge A) (e : Edge)
+module _ {A G : Type 0} (graph : Graph G) (q : ℕ) (f : Found A) (es : List Triple) (pending : Vec PathEdge A) (e : PathEdge)
     (popped : f.pending.items ≡ pending.items ++ e ∷ []) where
   -- what is found, with the last edge no longer pending
   abbrev pub popped_to : Found A
@@ -307,7 +307,7 @@ module _ {A G : Type 0} (graph : Graph G) (q : ℕ) (f : Found A) (es : List Tri
   more = reaches_more graph (TookMessage f) (TookMessage popped_to) taken_there
 
   -- what was pending is pending or is the edge
-  was : (x : Edge) → Member x f.pending.items → Member x pending.items ⊎ (x ≡ e)
+  was : (x : PathEdge) → Member x f.pending.items → Member x pending.items ⊎ (x ≡ e)
   was x m = elim (member_append x pending.items (e ∷ []) (subst (Member x) popped m)) [
     | inl there ↦ inl there
     | inr last ↦ elim last [ inl is ↦ inr is | inr none ↦ elim none [ ] ]
@@ -366,7 +366,7 @@ module _ {A G : Type 0} (graph : Graph G) (q : ℕ) (f : Found A) (es : List Tri
   no_message (numbered_entry from a) h = subst (Member (caller_of from)) (empty.entries a) h
   no_message (numbered_summary s a b) h = subst (Member b) (empty.summaries (call s a)) h
 
-  no_mail : (m : Mail) → Member m (mails_in q f) → ⊥
+  no_mail : (m : AddressedMail) → Member m (mails_in q f) → ⊥
   no_mail m there = subst (λ xs. Member m (map (mail_of (calls_in f) f.pairs.keys q) xs)) empty.given there
 
   empty_indexed : IsIndexed f

@@ -10,8 +10,8 @@ use Rattle.flow_graph.specs.Numbers.{NumberedMessage, numbered_entry, numbered_s
 use Rattle.flow_graph.specs.declared.graph.Graph.{Graph}
 use Rattle.flow_graph.specs.declared.exit.Exit.{Exit}
 use Rattle.flow_graph.proofs.ReachLemmas.{reaches_more}
-use Rattle.summaries.specs.declared.edge.Call.{Call}
-use Rattle.summaries.specs.declared.edge.Edge.{Edge}
+use Rattle.summaries.specs.declared.edge.CallKey.{CallKey}
+use Rattle.summaries.specs.declared.edge.PathEdge.{PathEdge}
 use Rattle.summaries.specs.declared.found.Found.{Found}
 use Rattle.summaries.specs.declared.groups.Groups.{Groups}
 use Rattle.summaries.specs.Under.{under}
@@ -24,10 +24,10 @@ use Rattle.summaries.proofs.AddLemmas.{same_call, added_or, added_keeps, added_i
 use Rattle.summaries.proofs.Dues.{same_summary, apart}
 use Rattle.summaries.proofs.StepLemmas.{Step, grown_to, grown_reached, grown_step}
 
-module _ {A G : Type 0} (graph : Graph G) (q : ℕ) (f : Found A) (summaries : Groups Call Exit A) (pending : Vec Edge A) (k : Call)
+module _ {A G : Type 0} (graph : Graph G) (q : ℕ) (f : Found A) (summaries : Groups CallKey Exit A) (pending : Vec PathEdge A) (k : CallKey)
     (b : Exit)
     (added : under call_eq summaries.by_key k ≡ under call_eq f.summaries.by_key k ++ b ∷ [])
-    (others : (j : Call) → call_eq k j ≡ false → under call_eq summaries.by_key j ≡ under call_eq f.summaries.by_key j) where
+    (others : (j : CallKey) → call_eq k j ≡ false → under call_eq summaries.by_key j ≡ under call_eq f.summaries.by_key j) where
   -- what is found, with other summaries and edges pending
   abbrev pub resumed_to : Found A
   resumed_to = grown_to graph q f f.entries summaries f.outbox pending
@@ -35,7 +35,7 @@ module _ {A G : Type 0} (graph : Graph G) (q : ℕ) (f : Found A) (summaries : G
   abbrev M : NumberedMessage → Type 0
   M = TookMessage resumed_to
 
-  summary_or : (j : Call) (y : Exit) → Member y (under call_eq summaries.by_key j)
+  summary_or : (j : CallKey) (y : Exit) → Member y (under call_eq summaries.by_key j)
       → Member y (under call_eq f.summaries.by_key j) ⊎ ((k ≡ j) × (b ≡ y))
   summary_or = added_or call_eq same_call (under call_eq f.summaries.by_key) (under call_eq summaries.by_key) k b added others
 

@@ -7,7 +7,7 @@ use Rattle.language.specs.Lists.{Member, NoneTwice}
 use Rattle.path_sets.specs.Triples.{Triple}
 use Rattle.flow_graph.specs.Numbers.{NumberedMessage, Sends}
 use Rattle.summaries.specs.declared.due.Due.{Due}
-use Rattle.summaries.specs.declared.edge.Edge.{Edge}
+use Rattle.summaries.specs.declared.edge.PathEdge.{PathEdge}
 use Rattle.summaries.specs.declared.table.Table.{Table}
 use Rattle.summaries.specs.declared.table_fault.TableFault.{TableFault}
 use Rattle.summaries.specs.declared.table_fault.TableFault.TheVariants.{Memory, EdgeLimit}
@@ -51,7 +51,7 @@ module _ {G A S : Type 0} (members : S → List Triple) where
 
   -- if edges were to be added, and nothing else has changed except what is found
   pub added_worked : (W Aside : Triple → Type 0) {T : Type 0} (r : Result T TableFault) (old new : Table G A S) (es : List Triple)
-      (before after : List Edge) → Adds W r (most_of new.limit) es (members new.edges) before after → NoneTwice (members new.edges) →
+      (before after : List PathEdge) → Adds W r (most_of new.limit) es (members new.edges) before after → NoneTwice (members new.edges) →
       ((x : Triple) → Member x (members new.edges) → IsReached new x) → ((x : Triple) → W x → IsReached new x) →
       OnOk r (Holds members Aside new) → OnOk r (answers_of new ≡ answers_of old) → StaysAs old new → new.fault ≡ old.fault →
       Worked members Aside r old new

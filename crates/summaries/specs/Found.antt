@@ -17,8 +17,8 @@ use Rattle.flow_graph.specs.declared.graph.Graph.{Graph}
 use Rattle.flow_graph.specs.declared.exit.Exit.{Exit}
 use Rattle.summaries.specs.declared.due.Due.{Due}
 use Rattle.summaries.specs.declared.due.Due.TheVariants.{Entry, Summary}
-use Rattle.summaries.specs.declared.edge.Edge.{Edge}
-use Rattle.summaries.specs.declared.edge.Call.{Call}
+use Rattle.summaries.specs.declared.edge.PathEdge.{PathEdge}
+use Rattle.summaries.specs.declared.edge.CallKey.{CallKey}
 use Rattle.summaries.specs.declared.edge.Expanded.{Expanded}
 use Rattle.summaries.specs.declared.edge.Site.{Site}
 use Rattle.summaries.specs.declared.pair.Pair.{Pair}
@@ -27,12 +27,12 @@ use Rattle.summaries.specs.declared.outbox.Outgoing.{Outgoing}
 use Rattle.summaries.specs.declared.outbox.Outgoing.TheVariants.{EntryFor, SummaryFor}
 use Rattle.summaries.specs.declared.due.Caller.TheVariants.{Proc}
 use Rattle.summaries.specs.Under.{under}
-use Rattle.summaries.specs.Mails.{Mail, mail, summary_due}
+use Rattle.summaries.specs.Mails.{AddressedMail, mail, summary_due}
 use Rattle.summaries.specs.Dues.{due_of}
 use Rattle.summaries.specs.Grows.{EntersAt}
 
 -- whether two calls are the same
-abbrev pub call_eq : Call → Call → Bool
+abbrev pub call_eq : CallKey → CallKey → Bool
 call_eq x y = nat_eq x.callee y.callee && nat_eq x.entered y.entered
 
 -- whether two pairs are the same
@@ -40,11 +40,11 @@ abbrev pub pair_eq : Pair → Pair → Bool
 pair_eq x y = nat_eq x.a y.a && (nat_eq x.b y.b && beq x.r y.r)
 
 -- the edge of these three
-abbrev pub edge : ℕ → ℕ → ℕ → Edge
+abbrev pub edge : ℕ → ℕ → ℕ → PathEdge
 edge entry point values = record { entry = entry; point = point; values = values }
 
 -- the call of this procedure with this entry valuation
-abbrev pub call : ℕ → ℕ → Call
+abbrev pub call : ℕ → ℕ → CallKey
 call callee entered = record { callee = callee; entered = entered }
 
 -- where a call stands that was asked for by this entry, at the point with these values
@@ -64,16 +64,16 @@ abbrev pub left : ℕ → Bool → Exit
 left globals result = record { globals = globals; result = result }
 
 -- the message that this call is entered by the procedure
-abbrev pub entry_mail : ℕ → Call → Mail
+abbrev pub entry_mail : ℕ → CallKey → AddressedMail
 entry_mail procedure entered = mail entered.callee (Entry (Proc procedure) entered.entered)
 
 -- the message to a caller that the procedure has this pair
-abbrev pub summary_mail : ℕ → ℕ → Pair → Mail
+abbrev pub summary_mail : ℕ → ℕ → Pair → AddressedMail
 summary_mail procedure to found = mail to (summary_due procedure found.a (left found.b found.r))
 
-module _ (calls : List Call) (pairs : List Pair) where
+module _ (calls : List CallKey) (pairs : List Pair) where
   -- the message that a procedure of these calls and pairs has given by this
-  abbrev pub mail_of : ℕ → Outgoing → Mail
+  abbrev pub mail_of : ℕ → Outgoing → AddressedMail
   mail_of procedure (EntryFor at) = entry_mail procedure (get_or calls at (call 0 0))
   mail_of procedure (SummaryFor to at) = summary_mail procedure to (get_or pairs at (pair 0 (left 0 false)))
 
@@ -84,15 +84,15 @@ module _ (calls : List Call) (pairs : List Pair) where
 
 module _ {Alloc : Type 0} where
   -- the calls that stand at sites, each once, in the order in which they came
-  abbrev pub calls_in : Found Alloc → List Call
+  abbrev pub calls_in : Found Alloc → List CallKey
   calls_in found = keys found.sites.by_key
 
   -- the messages that the procedure has given, in order
-  abbrev pub mails_in : ℕ → Found Alloc → List Mail
+  abbrev pub mails_in : ℕ → Found Alloc → List AddressedMail
   mails_in procedure found = map (mail_of (calls_in found) found.pairs.keys procedure) found.outbox.sent.items
 
   -- those that are answered
-  abbrev pub answers_in : ℕ → Found Alloc → List Mail
+  abbrev pub answers_in : ℕ → Found Alloc → List AddressedMail
   answers_in procedure found = take found.outbox.answered (mails_in procedure found)
 
 module _ {Alloc : Type 0} (found : Found Alloc) where
@@ -204,8 +204,8 @@ IsExact graph procedure found edges =
 -- nothing is found
 pub record IsEmpty {Alloc : Type 0} (found : Found Alloc) : Type 0 where
   pub entries : (own : ℕ) → under nat_eq found.entries.by_key own ≡ []
-  pub summaries : (called : Call) → under call_eq found.summaries.by_key called ≡ []
-  pub sites : (called : Call) → under call_eq found.sites.by_key called ≡ []
+  pub summaries : (called : CallKey) → under call_eq found.summaries.by_key called ≡ []
+  pub sites : (called : CallKey) → under call_eq found.sites.by_key called ≡ []
   pub calls : calls_in found ≡ []
   pub exits : (own : ℕ) → under nat_eq found.exits.by_key own ≡ []
   pub pairs : found.pairs.keys ≡ []

@@ -5,15 +5,16 @@ use path_sets::Halves;
 
 /// A path edge: the valuation on entry, the point, and the valuation there.
 #[derive(Clone, Copy)]
-pub(crate) struct Edge {
+pub(crate) struct PathEdge {
     pub(crate) entry: Word,
     pub(crate) point: Point,
     pub(crate) values: Word,
 }
 
-/// A call: the procedure called and the valuation on its entry.
+/// What calls have in common that enter one procedure with one valuation: the procedure called and the valuation on its
+/// entry.
 #[derive(Clone, Copy, PartialEq, Eq, Hash)]
-pub(crate) struct Call {
+pub(crate) struct CallKey {
     pub(crate) callee: u8,
     pub(crate) entered: Word,
 }

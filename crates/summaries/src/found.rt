@@ -3,7 +3,7 @@
 ghost use Rattle.std.specs.Prelude.{◌≡◌};
 
 use crate::due::{Caller, Due};
-use crate::edge::{Edge, Expanded};
+use crate::edge::{Expanded, PathEdge};
 use crate::groups::Groups;
 use crate::kept_call::{KeptCall, KeptSite};
 use crate::kept_exit::KeptExit;
@@ -32,7 +32,7 @@ pub(crate) struct Found<A: Allocator> {
     /// The edges with many choices that were led.
     pub(crate) expanded: IndexSet<Expanded, BuildHasherDefault<FoldHasher>, A>,
     /// The edges to work on.
-    pub(crate) pending: Vec<Edge, A>,
+    pub(crate) pending: Vec<PathEdge, A>,
 }
 
 impl<A: Allocator + Copy> Found<A> {

@@ -1,6 +1,6 @@
 //! Calls and their sites, as they are kept.
 
-use crate::edge::{Call, Site};
+use crate::edge::{CallKey, Site};
 use language::Point;
 use path_sets::Halves;
 use std::marker::Model;
@@ -15,9 +15,9 @@ pub(crate) struct KeptCall {
 
 impl Model for KeptCall {
     ghost use Rattle.std.specs.Prelude.{◌<◌};
-    ghost use Rattle.summaries.specs.declared.edge.Call.{Call};
+    ghost use Rattle.summaries.specs.declared.edge.CallKey.{CallKey};
 
-    ghost Value = { Call };
+    ghost Value = { CallKey };
 
     ghost view = { λ k. record { callee = k.callee; entered = k.entered } };
 
@@ -30,7 +30,7 @@ impl KeptCall {
     ghost use Rattle.std.specs.Prelude.{◌≡◌};
 
     /// The call, to be kept.
-    pub(crate) fn new(call: Call) -> Self
+    pub(crate) fn new(call: CallKey) -> Self
         ensures { result ≡ call }
     {
         KeptCall {
@@ -40,10 +40,10 @@ impl KeptCall {
     }
 
     /// The call.
-    pub(crate) fn call(self) -> Call
+    pub(crate) fn call(self) -> CallKey
         ensures { result ≡ self }
     {
-        Call {
+        CallKey {
             callee: self.callee as u8,
             entered: self.entered.word(),
         }

@@ -1,6 +1,6 @@
 //! Calls whose summaries are known.
 
-use crate::edge::{Edge, Site};
+use crate::edge::{PathEdge, Site};
 use crate::frontier::Frontier;
 use crate::kept_call::KeptSite;
 use crate::kept_exit::KeptExit;
@@ -11,7 +11,7 @@ use std::alloc::Allocator;
 
 impl<'e, 'p, A: Allocator, S: PathSet<A>> Frontier<'e, 'p, A, S> {
     ghost use Rattle.summaries.specs.Grows.{OfSome, IsBehind};
-    ghost use Rattle.summaries.specs.Frontiers.{Reaches, IsWithin};
+    ghost use Rattle.summaries.specs.Frontiers.{Extends, IsWithin};
 
     /// Continues after the call of a site, for what it has left; nowhere if there is no such call. After an error
     /// the edge may have been added.
@@ -22,7 +22,7 @@ impl<'e, 'p, A: Allocator, S: PathSet<A>> Frontier<'e, 'p, A, S> {
         left: Exit,
     ) -> Result<(), TableFault>
         requires { IsWithin S.members self.old }
-        ensures { Reaches S.members (IsBehind graph.now site left) result self.old self.new }
+        ensures { Extends S.members (IsBehind graph.now site left) result self.old self.new }
     {
         if site.point >= graph.points() {
             return Ok(());
@@ -30,7 +30,7 @@ impl<'e, 'p, A: Allocator, S: PathSet<A>> Frontier<'e, 'p, A, S> {
         let Flow::Call(call) = graph.flow(site.point) else {
             return Ok(());
         };
-        let edge = Edge {
+        let edge = PathEdge {
             entry: site.asked,
             point: call.back(),
             values: call.resumed(site.values, left),
@@ -47,7 +47,7 @@ impl<'e, 'p, A: Allocator, S: PathSet<A>> Frontier<'e, 'p, A, S> {
         summaries: &[KeptExit],
     ) -> Result<(), TableFault>
         requires { IsWithin S.members self.old }
-        ensures { Reaches S.members
+        ensures { Extends S.members
             (OfSome (IsBehind graph.now site) summaries.now) result self.old self.new }
     {
         for left in summaries {
@@ -65,7 +65,7 @@ impl<'e, 'p, A: Allocator, S: PathSet<A>> Frontier<'e, 'p, A, S> {
         left: Exit,
     ) -> Result<(), TableFault>
         requires { IsWithin S.members self.old }
-        ensures { Reaches S.members
+        ensures { Extends S.members
             (OfSome (λ site. IsBehind graph.now site left) sites.now) result self.old self.new }
     {
         for site in sites {

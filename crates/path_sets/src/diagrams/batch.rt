@@ -22,7 +22,7 @@ pub(crate) struct Batch<A: Allocator> {
 }
 
 impl<A: Allocator + Copy> Batch<A> {
-    ghost use Rattle.path_sets.specs.Contents.{AreCovered, batch_masks, Gathers, MayGather};
+    ghost use Rattle.path_sets.specs.Contents.{AreCovered, batch_masks, GathersEdge, MayGather};
     ghost use Rattle.path_sets.specs.Contents.{NoKeyBut};
 
     /// No masks; this takes no memory yet.
@@ -45,7 +45,7 @@ impl<A: Allocator + Copy> Batch<A> {
     ) -> Result<bool, AllocError>
         requires none { lookup (gathered_key_eq key) self.old.masks.entries ≡ None }
         requires may { MayGather merged.now key bit self.old }
-        ensures ok { IfOk result (Gathers merged.now key bit (batch_masks merged.now self.old)
+        ensures ok { IfOk result (GathersEdge merged.now key bit (batch_masks merged.now self.old)
             (batch_masks merged.now self.new)) }
         ensures err { OnErr result (self.new.masks.entries ≡ self.old.masks.entries) }
         ensures covers { AreCovered merged.now (batch_masks merged.now self.new) }
@@ -71,7 +71,7 @@ impl<A: Allocator + Copy> Batch<A> {
         bit: usize,
     ) -> Result<bool, AllocError>
         requires { MayGather merged.now key bit self.old }
-        ensures ok { IfOk result (Gathers merged.now key bit (batch_masks merged.now self.old)
+        ensures ok { IfOk result (GathersEdge merged.now key bit (batch_masks merged.now self.old)
             (batch_masks merged.now self.new)) }
         ensures err { OnErr result (self.new.masks.entries ≡ self.old.masks.entries) }
         ensures covers { AreCovered merged.now (batch_masks merged.now self.new) }

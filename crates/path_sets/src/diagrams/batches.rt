@@ -1,12 +1,11 @@
 //! Path edges that are gathered, in batches, before they go into the diagrams.
 
-ghost use Rattle.std.specs.Prelude.{◌≡◌, ◌<◌, ℕ, [], List, Some, length, slice_get, IfOk, OnErr};
+ghost use Rattle.std.specs.Prelude.{◌≡◌, ◌<◌, ℕ, [], Some, length, slice_get, IfOk, OnErr};
 ghost use Rattle.std.specs.Prelude.{◌≤◌, ◌⊎◌, IfSome, IsNone, IsSome, OnOk};
 ghost use Rattle.std.specs.Map.{keys_of};
 ghost use Rattle.language.specs.Lists.{Member};
-ghost use Rattle.path_sets.specs.declared.diagrams.roots.DiagramKey.{DiagramKey};
-ghost use Rattle.path_sets.specs.Batches.{AllWithin, AreHome, masks_in, gathered_at};
-ghost use Rattle.path_sets.specs.Contents.{EachIsCovered, Gathers, all_masks, diagrams_in};
+ghost use Rattle.path_sets.specs.Batches.{AreHome, KeepMasks, gathered_at};
+ghost use Rattle.path_sets.specs.Contents.{BatchesFit, GathersEdge, all_masks, diagrams_in};
 
 use crate::diagrams::batch::Batch;
 use crate::diagrams::diagrams::Diagrams;
@@ -100,10 +99,7 @@ impl<A: Allocator + Copy> Batches<A> {
             → gathered_at self.old.batches.items k ≡ [] }
         ensures batch { IfOk result (λ k. (slice_get self.new.homes.items diagram ≡ Some k)
             × (k < length self.new.batches.items)) }
-        ensures gathered { (k : ℕ)
-            → gathered_at self.new.batches.items k ≡ gathered_at self.old.batches.items k }
-        ensures masks { (diagrams : List DiagramKey) → masks_in diagrams self.new.batches.items
-            ≡ masks_in diagrams self.old.batches.items }
+        ensures keep { KeepMasks self.old.batches.items self.new.batches.items }
     {
         fill(&mut self.homes, diagram)?;
         let at = batch_with_room(*self.homes.allocator(), &mut self.batches)?;
@@ -115,10 +111,7 @@ impl<A: Allocator + Copy> Batches<A> {
     fn batch_of(&mut self, diagram: usize) -> Result<usize, AllocError>
         ensures batch { IfOk result (λ k. (slice_get self.new.homes.items diagram ≡ Some k)
             × (k < length self.new.batches.items)) }
-        ensures gathered { (k : ℕ)
-            → gathered_at self.new.batches.items k ≡ gathered_at self.old.batches.items k }
-        ensures masks { (diagrams : List DiagramKey) → masks_in diagrams self.new.batches.items
-            ≡ masks_in diagrams self.old.batches.items }
+        ensures keep { KeepMasks self.old.batches.items self.new.batches.items }
     {
         match self.own_batch(diagram) {
             Some(at) => Ok(at),
@@ -135,16 +128,14 @@ impl<A: Allocator + Copy> Batches<A> {
     ) -> Result<bool, AllocError>
         requires bit { bit < 64 }
         requires diagram { key.diagram < length (diagrams_in merged.now) }
-        requires within { AllWithin (diagrams_in merged.now) self.old.batches.items }
-        requires covers { EachIsCovered merged.now self.old.batches.items }
-        ensures ok { IfOk result (Gathers merged.now key bit
+        requires fit { BatchesFit merged.now self.old.batches.items }
+        ensures ok { IfOk result (GathersEdge merged.now key bit
             (all_masks merged.now self.old.batches.items)
             (all_masks merged.now self.new.batches.items)) }
         ensures err { OnErr result
             (all_masks merged.now self.new.batches.items
             ≡ all_masks merged.now self.old.batches.items) }
-        ensures within { AllWithin (diagrams_in merged.now) self.new.batches.items }
-        ensures covers { EachIsCovered merged.now self.new.batches.items }
+        ensures fit { BatchesFit merged.now self.new.batches.items }
     {
         let at = self.batch_of(key.diagram)?;
         self.batches[at].gather(&mut self.last, &mut self.waiting, merged, key, bit)

@@ -5,7 +5,7 @@ ghost use Rattle.std.specs.Prelude.{OnOk, OnErr};
 ghost use Rattle.std.specs.Map.{lookup};
 ghost use Rattle.path_sets.specs.declared.points.mask_key.MaskKey.{MaskKey};
 ghost use Rattle.indexmap.specs.IndexMap.{IsUnique, index_map_len, keys};
-ghost use Rattle.path_sets.specs.Edges.{edges, edge_at, mask_key_eq};
+ghost use Rattle.path_sets.specs.Edges.{mask_edges, edge_at, mask_key_eq};
 ghost use Rattle.path_sets.specs.Inserts.{PutsIn};
 
 use crate::points::mask::add_point;
@@ -57,7 +57,7 @@ pub(crate) fn add_point_at<A: Allocator + Copy>(masks: &mut Masks<A>, at: usize,
     requires within { at < index_map_len masks.old }
     requires unique { IsUnique mask_key_eq masks.old }
     ensures settles { (p : MaskKey) → slice_get (keys masks.old) at ≡ Some p
-        → PutsIn (edge_at p bit) (edges masks.old.entries) (edges masks.new.entries) result }
+        → PutsIn (edge_at p bit) (mask_edges masks.old.entries) (mask_edges masks.new.entries) result }
     ensures keys { keys masks.new ≡ keys masks.old }
     ensures unique { IsUnique mask_key_eq masks.new }
 {

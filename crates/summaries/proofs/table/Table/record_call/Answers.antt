@@ -7,7 +7,7 @@ use Rattle.flow_graph.specs.declared.flow.Flow.TheVariants as flow
 use Rattle.language.specs.Lists.{Member}
 use Rattle.language.specs.Sequential.{caller}
 use Rattle.flow_graph.specs.Numbers.{numbered_entry}
-use Rattle.summaries.specs.declared.edge.Call.{Call}
+use Rattle.summaries.specs.declared.edge.CallKey.{CallKey}
 use Rattle.summaries.specs.Under.{under}
 use Rattle.indexmap.specs.IndexMap.{keys}
 use Rattle.summaries.specs.Found.{HasSite, IsIndexed, call_eq, site, entry_mail, mails_in}
@@ -26,8 +26,8 @@ asked : (g : given.Over) (c : goal.After-resume_site g) →
     (c.new-key.result.callee ≡ called_procedure c.args.call.now)
     × (c.new-key.result.entered ≡ entered_from c.args.call.now c.args.edge.values)
 asked g c = (
-  ap (λ (k : Call). k.callee) c.new-key.ensures ∙ c.callee.ensures,
-  ap (λ (k : Call). k.entered) c.new-key.ensures ∙ c.entry.ensures,
+  ap (λ (k : CallKey). k.callee) c.new-key.ensures ∙ c.callee.ensures,
+  ap (λ (k : CallKey). k.entered) c.new-key.ensures ∙ c.entry.ensures,
 )
 
 -- the flow is a call of this procedure

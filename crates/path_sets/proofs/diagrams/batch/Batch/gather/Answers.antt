@@ -3,7 +3,7 @@ use Rattle.std.specs.Map.{keys_of}
 use Rattle.indexmap.specs.IndexMap.{keys}
 use Rattle.language.specs.Lists.{Member}
 use Rattle.path_sets.specs.declared.points.mask_key.MaskKey.{MaskKey}
-use Rattle.path_sets.specs.Edges.{edge_at, edges}
+use Rattle.path_sets.specs.Edges.{edge_at, mask_edges}
 use Rattle.path_sets.specs.Inserts.{PutsIn}
 use Rattle.path_sets.specs.GatheredKeys.{mask_key_at, masks_of}
 use Rattle.path_sets.proofs.CoverLemmas.{covers_marked, puts_marked}
@@ -20,8 +20,8 @@ module _ (g : given.Over) (c : After-add_point_at g) where
   there : Member c.args.key (keys_of c.args.self.now.masks.entries)
   there = at_index (keys_of c.args.self.now.masks.entries) c.args.key c.in-Some.at c.in-Some.ensures.here
 
-  puts : PutsIn (edge_at mask_key c.args.bit) (edges (masks_of (keys c.args.merged.now.roots) c.args.self.now.masks.entries))
-      (edges (masks_of (keys c.args.merged.now.roots) c.add_point_at.new.masks.entries)) c.add_point_at.result
+  puts : PutsIn (edge_at mask_key c.args.bit) (mask_edges (masks_of (keys c.args.merged.now.roots) c.args.self.now.masks.entries))
+      (mask_edges (masks_of (keys c.args.merged.now.roots) c.add_point_at.new.masks.entries)) c.add_point_at.result
   puts =
       marked_masks (keys c.args.merged.now.roots) c.args.merged.now.unique c.args.self.now.masks.entries
       c.add_point_at.new.masks.entries c.in-Some.at c.args.key c.args.bit c.requires.small c.requires.within c.args.self.now.unique
