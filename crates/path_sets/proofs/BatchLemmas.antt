@@ -151,7 +151,8 @@ module _ {A : Type 0} where
         (member_right t (mask_edges (masks_of diagrams b.masks.entries)) (mask_edges (masks_in diagrams bs)) (of_batch bs k t m))
 
     -- a batch with a path edge is there
-    pub batch_within : (bs : List (Batch A)) (k : ℕ) (t : Triple) → Member t (mask_edges (masks_of diagrams (gathered_at bs k))) → k < length bs
+    pub batch_within : (bs : List (Batch A)) (k : ℕ) (t : Triple) → Member t (mask_edges (masks_of diagrams (gathered_at bs k)))
+        → k < length bs
     batch_within [] k t m = elim m [ ]
     batch_within (b ∷ bs) zero t m = omega arith
     batch_within (b ∷ bs) (suc k) t m = let less = batch_within bs k t m in omega (arith, less)
@@ -279,7 +280,8 @@ module _ {A : Type 0} where
         → all_edges ms qs (masks_in diagrams ss) ≡ all_edges ns rs (masks_in diagrams ss)
     members_still ss k ns ms rs qs takes =
         members_stay ns ms rs qs (masks_in diagrams ss) (masks_in diagrams ss)
-        (takes_of (λ t. Member t (mask_edges (masks_of diagrams (gathered_at ss k)))) (λ t. Member t (mask_edges (masks_in diagrams ss))) ns ms rs qs
+        (takes_of (λ t. Member t (mask_edges (masks_of diagrams (gathered_at ss k))))
+        (λ t. Member t (mask_edges (masks_in diagrams ss))) ns ms rs qs
         (of_batch ss k) takes)
         (λ t m. m) (λ t m. inr m)
 

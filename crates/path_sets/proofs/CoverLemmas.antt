@@ -34,7 +34,8 @@ module _ (ns : List Quad) (rs : List (DiagramKey × ℕ)) (p : MaskKey) (bit : �
   x = edge_at p bit
 
   -- a point that is put into a mask leaves all that was gathered
-  more_edges : (added : Bool) → PutsIn x (mask_edges old) (mask_edges new) added → (t : Triple) → Member t (mask_edges old) → Member t (mask_edges new)
+  more_edges : (added : Bool) → PutsIn x (mask_edges old) (mask_edges new) added → (t : Triple) → Member t (mask_edges old)
+      → Member t (mask_edges new)
   more_edges true (more, apart) t m = stays_in x t (mask_edges old) (mask_edges new) more m
   more_edges false (same, there) t m = subst (λ es. Member t es) (sym same) m
 
@@ -44,13 +45,15 @@ module _ (ns : List Quad) (rs : List (DiagramKey × ℕ)) (p : MaskKey) (bit : �
       member_any (edge_at q b) (mask_edges new) (more_edges added settles (edge_at q b) (any_member (edge_at q b) (mask_edges old)
       (covers q b less (subst (λ ks. Member q ks) same key) has)))
 
-  pub puts_marked : Member p (keys_of old) → (added : Bool) → PutsIn x (mask_edges old) (mask_edges new) added → PutsEdge ns rs x old new added
+  pub puts_marked : Member p (keys_of old) → (added : Bool) → PutsIn x (mask_edges old) (mask_edges new) added
+      → PutsEdge ns rs x old new added
   puts_marked key true (more, apart) = (
     λ is. elim is [ inl merged ↦ apart (any_member x (mask_edges old) (covers p bit small key merged)) | inr gathered ↦ apart gathered ],
     λ t. (
       λ is. elim is [
         | inl merged ↦ inr (inl merged)
-        | inr gathered ↦ elim (is_new_or_old x t (mask_edges old) (mask_edges new) more gathered) [ inl own ↦ inl own | inr was ↦ inr (inr was) ]
+        | inr gathered ↦
+            elim (is_new_or_old x t (mask_edges old) (mask_edges new) more gathered) [ inl own ↦ inl own | inr was ↦ inr (inr was) ]
       ],
       λ is. elim is [
         | inl own ↦ inr (subst (λ k. Member k (mask_edges new)) (sym own) (is_in x (mask_edges old) (mask_edges new) more))
@@ -62,10 +65,6 @@ module _ (ns : List Quad) (rs : List (DiagramKey × ℕ)) (p : MaskKey) (bit : �
 
   module _ (known mask : ℕ) (none : lookup (mask_key_eq p) old ≡ None)
       (knows : (b : ℕ) → b < 64 → bit_of known b ≡ merged_has ns rs (edge_at p b)) where
-    -- the diagrams have it
-    pub puts_none : AddsPoint bit known mask false → new ≡ old → PutsEdge ns rs x old new false
-    puts_none (set, unchanged) same = (inl (sym (knows bit small) ∙ set), ap mask_edges same)
-
     module _ (marks : AddsPoint bit known mask true) (made : new ≡ old ++ (p, mask) ∷ []) where
       parts : mask_edges new ≡ mask_edges old ++ (edges_in p mask ++ [])
       parts = ap mask_edges made ∙ edges_append old ((p, mask) ∷ [])

@@ -1,5 +1,5 @@
 -- The masks that keys stand for.
-use Rattle.std.proofs.Common.{◌≡◌, ◌⊎◌, ◌<◌, ℕ, zero, suc, Bool, true, false, cond, ◌&&◌, nat_eq}
+use Rattle.std.proofs.Common.{◌≡◌, ◌⊎◌, ◌<◌, ℕ, zero, suc, Bool, true, false, cond, ◌&&◌}
 use Rattle.std.proofs.Common.{List, [], ◌∷◌, ◌++◌, length}
 use Rattle.std.proofs.Common.{None, Some, map, take, slice_get, inl, inr, refl, sym, ap, ap₂, ◌∙◌}
 use Rattle.std.proofs.Common.{subst, true≢false, eq-eqb, arith}
@@ -8,7 +8,6 @@ use Rattle.std.specs.List.{AllByRecursion, IsDistinct}
 use Rattle.std.specs.Map.{keys_of, lookup, values_of}
 use Rattle.std.proofs.lemmas.Bool.{cases_eq}
 use Rattle.std.proofs.lemmas.Map.Keys.{apart_from_distinct}
-use Rattle.std.proofs.lemmas.Map.Views.{exact_unsigned_eq}
 use Rattle.std.proofs.lemmas.Option.{get_or_from_slice_get, none-some, same_Some, slice_get_within}
 use Rattle.indexmap.specs.IndexMap.{set_value_at}
 use Rattle.language.specs.Lists.{Member}
@@ -18,11 +17,12 @@ use Rattle.path_sets.specs.declared.diagrams.gathered_key.GatheredKey.{GatheredK
 use Rattle.path_sets.specs.Diagrams.{diagram_eq}
 use Rattle.path_sets.specs.Edges.{edge_at, mask_edges, mask_key_eq}
 use Rattle.path_sets.specs.Inserts.{PutsIn}
-use Rattle.path_sets.specs.GatheredKeys.{AreWithin, AddsPointAt, mask_key_at, mask_key_in, masks_of, gathered_key_eq}
+use Rattle.path_sets.specs.Masks.{AddsPointAt}
+use Rattle.path_sets.specs.GatheredKeys.{AreWithin, mask_key_at, mask_key_in, masks_of, gathered_key_eq}
 use Rattle.path_sets.specs.Triples.{Triple}
 use Rattle.path_sets.proofs.InsertionLemmas.{in_mask_key, IsOf}
 use Rattle.path_sets.proofs.EdgesLemmas.{pair_at}
-use Rattle.path_sets.proofs.MaskKeyLemmas.{both, same_mask_key}
+use Rattle.path_sets.proofs.MaskKeyLemmas.{same_mask_key, same_two}
 use Rattle.path_sets.proofs.RootLemmas.{diagram_self}
 use Rattle.path_sets.proofs.PointLemmas.{settled}
 
@@ -37,10 +37,8 @@ gathered_key_self x = ap₂ ◌&&◌ (eq-eqb x.diagram x.diagram refl) (eq-eqb x
 
 pub same_gathered_key : (x y : GatheredKey) → gathered_key_eq x y ≡ true → x ≡ y
 same_gathered_key x y h =
-    let (diagram, values) = both (nat_eq x.diagram y.diagram) (nat_eq x.values y.values) h in
-    let r : x.diagram ≡ y.diagram = exact_unsigned_eq x.diagram y.diagram diagram in
-    let v : x.values ≡ y.values = exact_unsigned_eq x.values y.values values in
-    λ j. record { diagram = r j; values = v j }
+    let (diagram, values) = same_two x.diagram y.diagram x.values y.values h in
+    λ j. record { diagram = diagram j; values = values j }
 
 -- a test that is not true
 pub not_true : (b : Bool) → (b ≡ true → ⊥) → b ≡ false

@@ -12,7 +12,7 @@ use Rattle.path_sets.specs.Triples.{Triple, triple}
 use Rattle.path_sets.specs.Edges.{mask_edges}
 use Rattle.path_sets.specs.Diagrams.{TakesGiven, merged_has}
 use Rattle.path_sets.specs.Members.{below, each, universe, triple_eq, has_edge, all_edges, IsEdgeThere}
-use Rattle.path_sets.proofs.MaskKeyLemmas.{same_three, eq_three}
+use Rattle.path_sets.proofs.MaskKeyLemmas.{same_three, three_self}
 use Rattle.path_sets.proofs.FilterLemmas.{kept_is, is_kept, same_kept, kept_none_twice, one_more, in_each}
 use Rattle.path_sets.proofs.FilterLemmas.{of_each, each_none_twice, map_none_twice, in_below, of_below, below_none_twice}
 
@@ -65,9 +65,7 @@ same_triple x y h =
     λ j. record { entry = e j; point = p j; values = v j }
 
 pub triple_self : (x y : Triple) → x ≡ y → triple_eq x y ≡ true
-triple_self x y is =
-    eq_three x.entry y.entry x.point y.point x.values y.values (ap (λ (t : Triple). t.entry) is) (ap (λ (t : Triple). t.point) is)
-    (ap (λ (t : Triple). t.values) is)
+triple_self x y is = subst (λ z. triple_eq x z ≡ true) is (three_self x.entry x.point x.values)
 
 -- the test for members of a list
 pub any_member : (t : Triple) (ts : List Triple) → list_any (triple_eq t) ts ≡ true → Member t ts

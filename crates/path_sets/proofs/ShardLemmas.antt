@@ -1,16 +1,14 @@
 -- The path edges of shards when one shard is replaced by another, and when an entry gets a shard.
-use Rattle.std.proofs.Common.{◌≡◌, ◌<◌, ◌⊎◌, ℕ, zero, suc, Bool, true, false, cond, nat_eq, List, [], ◌∷◌, ◌++◌, length}
+use Rattle.std.proofs.Common.{◌≡◌, ◌⊎◌, ℕ, zero, suc, Bool, true, false, nat_eq, List, [], ◌∷◌, ◌++◌}
 use Rattle.std.proofs.Common.{None, Some, Result, Ok, Err, OnErr, slice_get, slice_set, inl, inr, refl, sym, ap, ◌∙◌, subst}
-use Rattle.std.proofs.Common.{eq-eqb}
 use Rattle.std.specs.Map.{lookup}
-use Rattle.std.proofs.lemmas.Map.Views.{exact_unsigned_eq}
 use Rattle.std.proofs.lemmas.Option.{none-some, same_Some}
 use Rattle.language.specs.Lists.{Member}
 use Rattle.language.proofs.Members.{member_left, member_right, member_append}
 use Rattle.path_sets.specs.declared.ordered.shard.Shard.{Shard}
 use Rattle.path_sets.specs.Edges.{mask_edges}
 use Rattle.path_sets.specs.Inserts.{Inserts, PutsIn}
-use Rattle.path_sets.specs.Shards.{edges_at, all_in, AreHome, AreThere}
+use Rattle.path_sets.specs.Shards.{edges_at, all_in, AreHome}
 use Rattle.path_sets.specs.Triples.{Triple}
 use Rattle.path_sets.proofs.InsertsLemmas.{behind, before, is_new_or_old}
 
@@ -130,31 +128,6 @@ module _ {A : Type 0} where
   none_without homes ss home t none m =
       let (k, there) = all_at ss t m in
       none-some k (sym none ∙ home k t there)
-
-module _ (old new : List (ℕ × ℕ)) (e k : ℕ) (none : lookup (nat_eq e) old ≡ None)
-    (updates : (q : ℕ) → lookup (nat_eq q) new ≡ cond (nat_eq e q) (Some k) (lookup (nat_eq q) old)) where
-  -- an entry that has a shard keeps it if another one gets its own
-  keeps : (q j : ℕ) → lookup (nat_eq q) old ≡ Some j → lookup (nat_eq q) new ≡ Some j
-  keeps q j is = by (nat_eq e q) refl
-    where
-      by : (b : Bool) → nat_eq e q ≡ b → lookup (nat_eq q) new ≡ Some j
-      by true h = absurd (none-some j (sym none ∙ ap (λ n. lookup (nat_eq n) old) (exact_unsigned_eq e q h) ∙ is))
-      by false h = updates q ∙ ap (λ b. cond b (Some k) (lookup (nat_eq q) old)) h ∙ is
-
-  pub settled_home : {A : Type 0} (ss : List (Shard A)) → AreHome old ss → AreHome new ss
-  settled_home ss home j t m = keeps t.entry j (home j t m)
-
-  pub settled_there : {A : Type 0} (ss : List (Shard A)) → AreThere old ss → k < length ss → AreThere new ss
-  settled_there ss there within q j is = by (nat_eq e q) refl
-    where
-      by : (b : Bool) → nat_eq e q ≡ b → j < length ss
-      by true h =
-          subst (λ n. n < length ss)
-          (same_Some k j (sym (updates q ∙ ap (λ b. cond b (Some k) (lookup (nat_eq q) old)) h) ∙ is)) within
-      by false h = there q j (sym (updates q ∙ ap (λ b. cond b (Some k) (lookup (nat_eq q) old)) h) ∙ is)
-
-  pub settled_own : lookup (nat_eq e) new ≡ Some k
-  settled_own = updates e ∙ ap (λ b. cond b (Some k) (lookup (nat_eq e) old)) (eq-eqb e e refl)
 
 -- what holds before holds after an error
 pub at_error : {T E P : Type 0} (r : Result T E) → P → OnErr r P

@@ -52,8 +52,8 @@ module _ {Alloc : Type 0} where
   abbrev pub AreCovered : Diagrams Alloc → List (MaskKey × ℕ) → Type 0
   AreCovered merged masks = Covers merged.nodes.kept.keys merged.roots.entries masks
 
-  -- The masks of the batches fit the diagrams: the diagram of each key is there, and what the diagrams have at the keys of
-  -- a batch is among its masks.
+  -- The masks of the batches fit the diagrams: the diagram of each key is there, and what the diagrams have at the keys
+  -- of a batch is among its masks.
   pub record BatchesFit (merged : Diagrams Alloc) (batches : List (Batch Alloc)) : Type 0 where
     pub within : AllWithin (diagrams_in merged) batches
     pub covers : CoversEach merged.nodes.kept.keys merged.roots.entries batches

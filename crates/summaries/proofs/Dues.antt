@@ -35,10 +35,6 @@ is_message : (k : NumberedMessage) → k ≡ message_of (due_of k)
 is_message (numbered_entry from a) = ap (λ c. numbered_entry c a) (is_who from)
 is_message (numbered_summary s a b) = refl
 
-pub message_is : (d : Due) → due_of (message_of d) ≡ d
-message_is (Entry from a) = ap (λ c. Entry c a) (who_is from)
-message_is (Summary s r a b) = refl
-
 -- what a table calls a message determines it
 pub due_told : (k : NumberedMessage) (d : Due) → due_of k ≡ d → k ≡ message_of d
 due_told k d e = is_message k ∙ ap message_of e

@@ -18,7 +18,7 @@ use Rattle.summaries.specs.declared.edge.Expanded.{Expanded}
 use Rattle.summaries.specs.declared.found.Found.{Found}
 use Rattle.summaries.specs.Found.{expanded_at, IsExpanded}
 use Rattle.summaries.specs.Grows.{IsNext, IsExpansionKey}
-use Rattle.summaries.proofs.Mails.{both}
+use Rattle.path_sets.proofs.MaskKeyLemmas.{same_three}
 use Rattle.summaries.proofs.StepLemmas.{Step, taken_as, indexed_as}
 
 -- whether two are the same
@@ -28,10 +28,8 @@ led_eq x y = nat_eq x.entry y.entry && (nat_eq x.point y.point && nat_eq x.value
 -- they then are
 pub same_led : (x y : Expanded) → led_eq x y ≡ true → x ≡ y
 same_led x y e =
-    let (entry, more) = both (nat_eq x.entry y.entry) (nat_eq x.point y.point && nat_eq x.values y.values) e in
-    let (point, values) = both (nat_eq x.point y.point) (nat_eq x.values y.values) more in
-    λ j. expanded_at (exact_unsigned_eq x.entry y.entry entry j) (exact_unsigned_eq x.point y.point point j)
-    (exact_unsigned_eq x.values y.values values j)
+    let (entry, point, values) = same_three x.entry y.entry x.point y.point x.values y.values e in
+    λ j. expanded_at (entry j) (point j) (values j)
 
 -- if an edge was led that choice 0 leads to the same, each choice leads to an edge
 pub all_led : {G : Type 0} (graph : Graph G) (es : List Triple) (e : PathEdge) (x : Expanded) (flow : Flow G)

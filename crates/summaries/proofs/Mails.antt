@@ -14,11 +14,6 @@ use Rattle.summaries.specs.declared.due.Caller.TheVariants.{Starter, Proc}
 use Rattle.summaries.specs.contracts.due.CallerPartialEq.TheImpl.{eq-value}
 use Rattle.summaries.specs.contracts.due.CallerEq.TheImpl.Laws.{laws-law}
 
--- a conjunction's parts
-pub both : (a b : Bool) → (a && b) ≡ true → (a ≡ true) × (b ≡ true)
-both true b h = (refl, h)
-both false b h = absurd (true≢false (sym h))
-
 -- callers that compare as equal are the same
 same_caller : (x y : Caller) → eq-value.it x y ≡ true → x ≡ y
 same_caller Starter Starter e = refl

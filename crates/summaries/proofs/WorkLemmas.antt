@@ -20,14 +20,6 @@ use Rattle.summaries.proofs.StepLemmas.{has_more}
 use Rattle.summaries.specs.Tables.{answers_of, HasMore, Holds, IsReached, IsAnswer, StaysAs, Worked}
 use Rattle.path_sets.specs.EdgeLimits.{most_of}
 
--- a message that is answered, by its parts
-pub answer_is : {G A S : Type 0} (old new : Table G A S) (r : Option (ℕ × Due)) →
-    IfSome r (λ m. answers_of new ≡ answers_of old ++ mail m.0 m.1 ∷ [])
-    → IfSome r (λ m. (k : NumberedMessage) → due_of k ≡ m.1 → Sends new.graph.now new.procedure (TookMessage new.found) m.0 k)
-    → IfSome r (λ m. Member (mail m.0 m.1) (answers_of old) → ⊥) → IfSome r (λ m. IsAnswer old new m.0 m.1)
-answer_is old new None behind due once = tt
-answer_is old new (Some _) behind due once = record { behind = behind; due = due; once = once }
-
 module _ {G A S : Type 0} (members : S → List Triple) where
   module _ {T : Type 0} (Aside : Triple → Type 0) (r : Result T TableFault) (old new : Table G A S)
       (edges : (x : Triple) → Member x (members new.edges) → IsReached new x)

@@ -9,15 +9,16 @@ ghost use Rattle.path_sets.specs.GatheredKeys.{gathered_key_eq};
 
 use crate::diagrams::diagrams::Diagrams;
 use crate::diagrams::gathered_key::GatheredKey;
-use crate::diagrams::gathered_masks::{GatheredMasks, add_point_at, find, insert_new};
 use crate::points::mask::add_point;
+use crate::points::masks::{Masks, add_point_at};
+use crate::points::seek::{find, insert_new};
 use indexmap::IndexMap;
 use std::alloc::{AllocError, Allocator};
 
 /// Masks for some diagrams that were gathered one after another.
 #[derive(Drop)]
 pub(crate) struct Batch<A: Allocator> {
-    pub(crate) masks: GatheredMasks<A>,
+    pub(crate) masks: Masks<GatheredKey, A>,
     ghost unique: { IsUnique gathered_key_eq masks } by { IsDistinct-prop gathered_key_eq (keys masks) },
 }
 

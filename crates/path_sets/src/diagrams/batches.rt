@@ -4,7 +4,7 @@ ghost use Rattle.std.specs.Prelude.{◌≡◌, ◌<◌, ℕ, [], Some, length, s
 ghost use Rattle.std.specs.Prelude.{◌≤◌, ◌⊎◌, IfSome, IsNone, IsSome, OnOk};
 ghost use Rattle.std.specs.Map.{keys_of};
 ghost use Rattle.language.specs.Lists.{Member};
-ghost use Rattle.path_sets.specs.Batches.{AreHome, KeepMasks, gathered_at};
+ghost use Rattle.path_sets.specs.Batches.{AreHome, HasBatch, HasNoMasks, KeepMasks, gathered_at};
 ghost use Rattle.path_sets.specs.Contents.{BatchesFit, GathersEdge, all_masks, diagrams_in};
 
 use crate::diagrams::batch::Batch;
@@ -75,10 +75,10 @@ impl<A: Allocator + Copy> Batches<A> {
 
     /// The number of a diagram's batch, if that has any masks.
     fn own_batch(&self, diagram: usize) -> Option<usize>
-        ensures some { IfSome result (λ k. (slice_get self.now.homes.items diagram ≡ Some k)
-            × (k < length self.now.batches.items)) }
-        ensures none { IsNone result → (k : ℕ) → slice_get self.now.homes.items diagram ≡ Some k
-            → gathered_at self.now.batches.items k ≡ [] }
+        ensures some { IfSome result
+            (HasBatch self.now.homes.items self.now.batches.items diagram) }
+        ensures none { IsNone result
+            → HasNoMasks self.now.homes.items self.now.batches.items diagram }
     {
         if diagram >= self.homes.len() {
             return None;
@@ -95,10 +95,8 @@ impl<A: Allocator + Copy> Batches<A> {
 
     /// Gives a diagram whose batch has no masks the batch that new diagrams go to, and returns its number.
     fn settle(&mut self, diagram: usize) -> Result<usize, AllocError>
-        requires { (k : ℕ) → slice_get self.old.homes.items diagram ≡ Some k
-            → gathered_at self.old.batches.items k ≡ [] }
-        ensures batch { IfOk result (λ k. (slice_get self.new.homes.items diagram ≡ Some k)
-            × (k < length self.new.batches.items)) }
+        requires { HasNoMasks self.old.homes.items self.old.batches.items diagram }
+        ensures batch { IfOk result (HasBatch self.new.homes.items self.new.batches.items diagram) }
         ensures keep { KeepMasks self.old.batches.items self.new.batches.items }
     {
         fill(&mut self.homes, diagram)?;
@@ -109,8 +107,7 @@ impl<A: Allocator + Copy> Batches<A> {
 
     /// The number of the batch that a diagram's masks go to.
     fn batch_of(&mut self, diagram: usize) -> Result<usize, AllocError>
-        ensures batch { IfOk result (λ k. (slice_get self.new.homes.items diagram ≡ Some k)
-            × (k < length self.new.batches.items)) }
+        ensures batch { IfOk result (HasBatch self.new.homes.items self.new.batches.items diagram) }
         ensures keep { KeepMasks self.old.batches.items self.new.batches.items }
     {
         match self.own_batch(diagram) {

@@ -16,12 +16,15 @@ ghost use Rattle.path_sets.specs.GatheredKeys.{AreWithin, masks_of};
 use crate::diagrams::batch::Batch;
 use crate::diagrams::diagrams::Diagrams;
 use crate::diagrams::gathered_key::GatheredKey;
-use crate::diagrams::gathered_masks::GatheredMasks;
 use crate::diagrams::insertion::{Insertion, insertion_at, insertion_of, sort_key};
+use crate::points::masks::Masks;
 use std::alloc::{AllocError, Allocator};
 
 /// The key at an index, and its mask.
-fn gathered_key_at<A: Allocator + Copy>(masks: &GatheredMasks<A>, at: usize) -> (GatheredKey, u64)
+fn gathered_key_at<A: Allocator + Copy>(
+    masks: &Masks<GatheredKey, A>,
+    at: usize,
+) -> (GatheredKey, u64)
     requires { at < length masks.now.entries }
     ensures { slice_get masks.now.entries at ≡ Some result }
 {
@@ -33,7 +36,7 @@ fn gathered_key_at<A: Allocator + Copy>(masks: &GatheredMasks<A>, at: usize) -> 
 
 /// The insertions of the keys.
 fn insertions_of<A: Allocator + Copy>(
-    masks: &GatheredMasks<A>,
+    masks: &Masks<GatheredKey, A>,
 ) -> Result<Vec<Insertion, A>, AllocError>
     ensures { IfOk result
         (λ insertions. (diagrams : List DiagramKey) → AreWithin diagrams masks.now.entries
@@ -100,11 +103,12 @@ fn put_insertions<A: Allocator + Copy>(
 /// Puts all path edges of the masks into the diagrams. If memory is refused, some of them may be in.
 pub(crate) fn put_all<A: Allocator + Copy>(
     merged: &mut Diagrams<A>,
-    masks: &GatheredMasks<A>,
+    masks: &Masks<GatheredKey, A>,
 ) -> Result<(), AllocError>
     requires { AreWithin (diagrams_in merged.old) masks.now.entries }
     ensures keys { keys merged.new.roots ≡ keys merged.old.roots }
-    ensures takes { let gathered = mask_edges (masks_of (diagrams_in merged.old) masks.now.entries) in
+    ensures takes { let gathered =
+        mask_edges (masks_of (diagrams_in merged.old) masks.now.entries) in
         DiagramsTake (λ edge. Member edge gathered) merged.old merged.new }
     ensures all { let gathered = mask_edges (masks_of (diagrams_in merged.old) masks.now.entries) in
         OnOk result (HasAll (λ edge. Member edge gathered) merged.new) }

@@ -9,14 +9,15 @@ ghost use Rattle.path_sets.specs.Inserts.{PutsIn};
 
 use crate::points::mask::{has_point, mask_of_point};
 use crate::points::mask_key::MaskKey;
-use crate::points::masks::{Masks, add_point_at, find, insert_new};
+use crate::points::masks::{Masks, add_point_at};
+use crate::points::seek::{find, insert_new};
 use indexmap::IndexMap;
 use std::alloc::{AllocError, Allocator};
 
 /// The masks of some entries that were first met one after another.
 #[derive(Drop)]
 pub(crate) struct Shard<A: Allocator> {
-    pub(crate) masks: Masks<A>,
+    pub(crate) masks: Masks<MaskKey, A>,
     ghost unique: { IsUnique mask_key_eq masks } by { IsDistinct-prop mask_key_eq (keys masks) },
 }
 
@@ -42,7 +43,8 @@ impl<A: Allocator + Copy> Shard<A> {
         ensures ok { IfOk result
             (PutsIn (edge_at mask_key bit) (mask_edges self.old.masks.entries)
             (mask_edges self.new.masks.entries)) }
-        ensures err { OnErr result (mask_edges self.new.masks.entries ≡ mask_edges self.old.masks.entries) }
+        ensures err { OnErr result
+            (mask_edges self.new.masks.entries ≡ mask_edges self.old.masks.entries) }
     {
         match find(&self.masks, *last, &mask_key) {
             Some(at) => {
@@ -60,7 +62,8 @@ impl<A: Allocator + Copy> Shard<A> {
     /// Whether the mask of a key has a point; the key at the index `last` is tried first.
     pub(crate) fn contains(&self, last: usize, mask_key: &MaskKey, bit: usize) -> bool
         requires { bit < 64 }
-        ensures { IsTrue result ↔ Member (edge_at mask_key.now bit) (mask_edges self.now.masks.entries) }
+        ensures { IsTrue result
+            ↔ Member (edge_at mask_key.now bit) (mask_edges self.now.masks.entries) }
     {
         match find(&self.masks, last, mask_key) {
             Some(at) => has_point(self.masks[at], bit),

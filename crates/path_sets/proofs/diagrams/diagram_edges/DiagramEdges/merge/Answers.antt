@@ -52,14 +52,16 @@ module _ (g : given.Over) (c : After-put_all g)
       s.merged.roots.entries m.roots.entries takes
 
   within : AllWithin (keys c.put_all.new.merged.roots) c.args.self.now.gathered.batches.items
-  within = subst (λ diagrams. AllWithin diagrams c.args.self.now.gathered.batches.items) (sym c.put_all.ensures.keys) c.args.self.now.fit.within
+  within =
+      subst (λ diagrams. AllWithin diagrams c.args.self.now.gathered.batches.items) (sym c.put_all.ensures.keys) c.args.self.now.fit.within
 
   covers : CoversEach c.put_all.new.merged.nodes.kept.keys c.put_all.new.merged.roots.entries c.args.self.now.gathered.batches.items
   covers =
       let s = c.args.self.now in
       let m = c.put_all.new.merged in
       covers_merged s.gathered.homes.items s.gathered.batches.items s.merged.nodes.kept.keys m.nodes.kept.keys
-      s.merged.roots.entries m.roots.entries c.args.at s.gathered.home s.fit.within s.merged.unique c.put_all.ensures.keys s.fit.covers takes
+      s.merged.roots.entries m.roots.entries c.args.at s.gathered.home s.fit.within s.merged.unique c.put_all.ensures.keys s.fit.covers
+      takes
 
 -- and if those of the batch no longer are
 cleared : (g : given.Over) (c : After-clear g) →

@@ -99,7 +99,8 @@ returns-in-None g c =
       λ h. is_member ns rs gs x fits (inl (sym same ∙ h)),
       λ there. elim (member_is ns rs gs x there) [
         | inl merged ↦ same ∙ merged
-        | inr gathered ↦ absurd (not_gathered s.gathered.homes.items ns rs bs s.gathered.home s.fit.within s.merged.unique s.fit.covers key b
+        | inr gathered ↦
+            absurd (not_gathered s.gathered.homes.items ns rs bs s.gathered.home s.fit.within s.merged.unique s.fit.covers key b
             small (slice_get_within (keys s.merged.roots) c.in-Some.diagram c.diagram_of.result c.in-Some.ensures.here)
             (c.in-None.ensures.none refl)
             (subst (λ t. Member t (mask_edges gs)) (sym edge) gathered))
