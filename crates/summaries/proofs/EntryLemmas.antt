@@ -33,7 +33,8 @@ use Rattle.summaries.proofs.TellLemmas.{gives_kept, gives_as, told_mail, mail_to
 abbrev pub IsExitTold : {A : Type 0} → ℕ → Found A → ℕ → rust.Caller → AddressedMail → Type 0
 IsExitTold q f a from m = (b : Exit) × HasExit f a b × IsSummaryTold q a b from m
 
-module _ {A G : Type 0} (graph : Graph G) (q : ℕ) (f : Found A) (entries : Groups ℕ rust.Caller A) (given : Outbox A) (pending : Vec PathEdge A)
+module _ {A G : Type 0} (graph : Graph G) (q : ℕ) (f : Found A) (entries : Groups ℕ rust.Caller A) (given : Outbox A)
+    (pending : Vec PathEdge A)
     (a : ℕ) (from : rust.Caller)
     (added : under nat_eq entries.by_key a ≡ under nat_eq f.entries.by_key a ++ from ∷ [])
     (others : (k : ℕ) → nat_eq a k ≡ false → under nat_eq entries.by_key k ≡ under nat_eq f.entries.by_key k) where

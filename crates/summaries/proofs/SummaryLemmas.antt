@@ -17,7 +17,7 @@ use Rattle.summaries.specs.declared.groups.Groups.{Groups}
 use Rattle.summaries.specs.Under.{under}
 use Rattle.summaries.specs.Mails.{summary_due}
 use Rattle.summaries.specs.Dues.{caller_of}
-use Rattle.summaries.specs.Found.{call, call_eq, site, TookMessage, IsGrounded}
+use Rattle.summaries.specs.Found.{call, call_eq, path_edge, TookMessage, IsGrounded}
 use Rattle.summaries.specs.Grows.{Grows, OfSome, IsBehind}
 use Rattle.summaries.specs.Tables.{TookAlso}
 use Rattle.summaries.proofs.AddLemmas.{same_call, added_or, added_keeps, added_is}
@@ -73,14 +73,14 @@ module _ {A G : Type 0} (graph : Graph G) (q : ℕ) (f : Found A) (summaries : G
     pub resumed_reached : (t : Triple) → OfSome (λ y. IsBehind graph y b) (under call_eq f.sites.by_key k) t →
         GraphReaches graph M t.entry t.point t.values
     resumed_reached t (y, m, (s, x, n, (fl, at, en), is)) =
-        let (reached, (back, (flow, here, enters))) = sound.site k.callee k.entered y.asked y.point y.values m in
+        let (reached, (back, (flow, here, enters))) = sound.site k.callee k.entered y.entry y.point y.values m in
         let call : (s, x, n) ≡ (k.callee, k.entered, back) =
         same_Some (s, x, n) (k.callee, k.entered, back)
         (sym en ∙ ap (λ w. entered_by w y.values) (same_Some fl flow (sym at ∙ here)) ∙ enters) in
         subst (λ u. GraphReaches graph M u.entry u.point u.values)
-        (sym (is ∙ ap (λ (c : ℕ × ℕ × ℕ). triple y.asked c.2 (resumed_at graph y.point y.values b)) call))
-        (returns y.asked y.point y.values k.callee k.entered back b flow
-        (reaches_more graph (TookMessage f) M taken_resumed y.asked y.point y.values reached) here enters left_so)
+        (sym (is ∙ ap (λ (c : ℕ × ℕ × ℕ). triple y.entry c.2 (resumed_at graph y.point y.values b)) call))
+        (returns y.entry y.point y.values k.callee k.entered back b flow
+        (reaches_more graph (TookMessage f) M taken_resumed y.entry y.point y.values reached) here enters left_so)
 
     -- so all edges are, if nothing else is added
     pub resume_only : ((t : Triple) → Member t ds →
@@ -99,8 +99,8 @@ module _ {A G : Type 0} (graph : Graph G) (q : ℕ) (f : Found A) (summaries : G
         (λ s x y c n v back at enters taken. elim (summary_or (call s x) y taken) [
           | inl was ↦ inl was
           | inr is ↦ inr (grown.all (triple c back (resumed_at graph n v y)) (
-            site c n v,
-            subst (λ j. Member (site c n v) (under call_eq f.sites.by_key j)) (sym is.0) at,
+            path_edge c n v,
+            subst (λ j. Member (path_edge c n v) (under call_eq f.sites.by_key j)) (sym is.0) at,
             (s, x, back, enters, ap (λ z. triple c back (resumed_at graph n v z)) (sym is.1)),
           ))
         ])

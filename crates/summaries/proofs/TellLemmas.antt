@@ -126,5 +126,6 @@ module _ (q : ℕ) (cs : List CallKey) (ps : List Pair) (a : ℕ) (b : Exit) (at
   told_mail from x (c, is, same) = (c, is, ap (mail_of cs ps q) same ∙ told_of c)
 
   -- and nothing else is
-  pub mail_told : (from : Caller) (m : AddressedMail) → IsSummaryTold q a b from m → (x : Outgoing) × IsTold at from x × (m ≡ mail_of cs ps q x)
+  pub mail_told : (from : Caller) (m : AddressedMail) → IsSummaryTold q a b from m
+      → (x : Outgoing) × IsTold at from x × (m ≡ mail_of cs ps q x)
   mail_told from m (c, is, same) = (SummaryFor c at, (c, is, refl), same ∙ sym (told_of c))

@@ -19,8 +19,6 @@ use Rattle.summaries.specs.declared.due.Due.{Due}
 use Rattle.summaries.specs.declared.due.Due.TheVariants.{Entry, Summary}
 use Rattle.summaries.specs.declared.edge.PathEdge.{PathEdge}
 use Rattle.summaries.specs.declared.edge.CallKey.{CallKey}
-use Rattle.summaries.specs.declared.edge.Expanded.{Expanded}
-use Rattle.summaries.specs.declared.edge.Site.{Site}
 use Rattle.summaries.specs.declared.pair.Pair.{Pair}
 use Rattle.summaries.specs.declared.found.Found.{Found}
 use Rattle.summaries.specs.declared.outbox.Outgoing.{Outgoing}
@@ -39,21 +37,13 @@ call_eq x y = nat_eq x.callee y.callee && nat_eq x.entered y.entered
 abbrev pub pair_eq : Pair → Pair → Bool
 pair_eq x y = nat_eq x.a y.a && (nat_eq x.b y.b && beq x.r y.r)
 
--- the edge of these three
-abbrev pub edge : ℕ → ℕ → ℕ → PathEdge
-edge entry point values = record { entry = entry; point = point; values = values }
+-- the path edge of these three; a call stands at one, its site
+abbrev pub path_edge : ℕ → ℕ → ℕ → PathEdge
+path_edge entry point values = record { entry = entry; point = point; values = values }
 
 -- the call of this procedure with this entry valuation
 abbrev pub call : ℕ → ℕ → CallKey
 call callee entered = record { callee = callee; entered = entered }
-
--- where a call stands that was asked for by this entry, at the point with these values
-abbrev pub site : ℕ → ℕ → ℕ → Site
-site entry point values = record { asked = entry; point = point; values = values }
-
--- choice 0 led to these values from an edge with this entry, at the point
-abbrev pub expanded_at : ℕ → ℕ → ℕ → Expanded
-expanded_at entry point values = record { entry = entry; point = point; values = values }
 
 -- this is left if the entry valuation was this
 abbrev pub pair : ℕ → Exit → Pair
@@ -107,7 +97,7 @@ module _ {Alloc : Type 0} (found : Found Alloc) where
   TookMessage message = TookDue (due_of message)
 
   -- a call of this procedure with this entry valuation stands at this site
-  abbrev pub HasSite : ℕ → ℕ → Site → Type 0
+  abbrev pub HasSite : ℕ → ℕ → PathEdge → Type 0
   HasSite callee entered place = Member place (under call_eq found.sites.by_key (call callee entered))
 
   -- this is left if the entry valuation was this
@@ -121,13 +111,13 @@ module _ {Alloc : Type 0} (found : Found Alloc) where
   -- The message of these numbers is owed to a procedure by the one with this number: an entry, for a site of that
   -- call, or a summary, for an exit of it and the caller's entry.
   abbrev pub IsOwed : ℕ → ℕ → NumberedMessage → Type 0
-  IsOwed procedure to (numbered_entry from entered) = (from ≡ caller procedure) × ((item : Site) × HasSite to entered item)
+  IsOwed procedure to (numbered_entry from entered) = (from ≡ caller procedure) × ((item : PathEdge) × HasSite to entered item)
   IsOwed procedure to (numbered_summary callee entry exit) = (callee ≡ procedure) × HasExit entry exit
       × TookMessage (numbered_entry (caller to) entry)
 
   -- the edge is still to be worked on
   abbrev pub IsPending : ℕ → ℕ → ℕ → Type 0
-  IsPending entry point values = Member (edge entry point values) found.pending.items
+  IsPending entry point values = Member (path_edge entry point values) found.pending.items
 
   -- What is kept by place: each message given has one; no call and no pair has two; an entry's exits are the places of
   -- its pairs, each once.
@@ -142,7 +132,7 @@ module _ {Alloc : Type 0} (found : Found Alloc) where
         → (at : ℕ) × Member at (under nat_eq found.exits.by_key own) × (slice_get found.pairs.keys at ≡ Some (pair own b))
 
 -- from some valuation that choice 0 leads to this one each choice leads to an edge
-abbrev pub IsExpanded : {GraphAlloc : Type 0} → Graph GraphAlloc → List Triple → Expanded → Type 0
+abbrev pub IsExpanded : {GraphAlloc : Type 0} → Graph GraphAlloc → List Triple → PathEdge → Type 0
 IsExpanded {GraphAlloc} graph edges led =
     (flow : Flow GraphAlloc) × (from : ℕ) × (n : ℕ) × (slice_get (flows_of graph) led.point ≡ Some flow)
     × (next_of flow from 0 ≡ Some (n, led.values))
@@ -154,7 +144,7 @@ module _ {Alloc GraphAlloc : Type 0} (graph : Graph GraphAlloc) (procedure : ℕ
   -- is pending is an edge; no caller enters twice with a valuation.
   pub record IsGrounded : Type 0 where
     pub edge : (own point values : ℕ) → Member (triple own point values) edges → GraphReaches graph (TookMessage found) own point values
-    pub site : (other entered own point values : ℕ) → HasSite found other entered (site own point values) →
+    pub site : (other entered own point values : ℕ) → HasSite found other entered (path_edge own point values) →
         GraphReaches graph (TookMessage found) own point values × ((back : ℕ) × EntersAt graph point values other entered back)
     pub exit : (own : ℕ) (b : Exit) → HasExit found own b → Leaves graph (TookMessage found) own b
     pub given : (other : ℕ) (message : NumberedMessage) → HasGiven found procedure other message → IsOwed found procedure other message
@@ -171,7 +161,7 @@ module _ {Alloc GraphAlloc : Type 0} (graph : Graph GraphAlloc) (procedure : ℕ
         Member (triple entry next next_values) edges
     pub calls : (flow : Flow GraphAlloc) (other entered next : ℕ) → slice_get (flows_of graph) point ≡ Some flow
         → entered_by flow values ≡ Some (other, entered, next) →
-        HasSite found other entered (site entry point values)
+        HasSite found other entered (path_edge entry point values)
     pub leaves : point ≡ 0 → HasExit found entry (left_by graph values)
 
   -- The start of each entry is an edge; each edge is pending, worked on, or one of those left aside; where a site and
@@ -181,14 +171,14 @@ module _ {Alloc GraphAlloc : Type 0} (graph : Graph GraphAlloc) (procedure : ℕ
     pub begun : (from : Caller) (own : ℕ) → TookMessage found (numbered_entry from own) → Member (triple own (start_of graph) own) edges
     pub worked : (own point values : ℕ) → Member (triple own point values) edges
         → Aside (triple own point values) ⊎ (IsPending found own point values ⊎ IsWorked own point values)
-    pub ended : (other entered : ℕ) (exit : Exit) (own point values back : ℕ) → HasSite found other entered (site own point values)
+    pub ended : (other entered : ℕ) (exit : Exit) (own point values back : ℕ) → HasSite found other entered (path_edge own point values)
         → EntersAt graph point values other entered back →
         TookMessage found (numbered_summary other entered exit) → Member (triple own back (resumed_at graph point values exit)) edges
-    pub asks : (other entered own point values : ℕ) → HasSite found other entered (site own point values)
+    pub asks : (other entered own point values : ℕ) → HasSite found other entered (path_edge own point values)
         → HasGiven found procedure other (numbered_entry (caller procedure) entered)
     pub tells : (own : ℕ) (exit : Exit) (c : ℕ) → HasExit found own exit → TookMessage found (numbered_entry (caller c) own)
         → HasGiven found procedure c (numbered_summary procedure own exit)
-    pub led : (item : Expanded) → Member item found.expanded.keys → IsExpanded graph edges item
+    pub led : (item : PathEdge) → Member item found.expanded.keys → IsExpanded graph edges item
 
 -- no edge is still to be worked on
 abbrev pub IsWorkedOff : {Alloc : Type 0} → Found Alloc → Type 0

@@ -14,8 +14,6 @@ use Rattle.flow_graph.specs.declared.exit.Exit.{Exit}
 use Rattle.summaries.specs.declared.due.Caller.{Caller}
 use Rattle.summaries.specs.declared.due.Caller.TheVariants.{Proc}
 use Rattle.summaries.specs.declared.edge.PathEdge.{PathEdge}
-use Rattle.summaries.specs.declared.edge.Expanded.{Expanded}
-use Rattle.summaries.specs.declared.edge.Site.{Site}
 use Rattle.summaries.specs.declared.outbox.Outbox.{Outbox}
 use Rattle.summaries.specs.declared.outbox.Outgoing.{Outgoing}
 use Rattle.summaries.specs.declared.outbox.Outgoing.TheVariants.{SummaryFor}
@@ -80,10 +78,10 @@ EntersAt {GraphAlloc} graph point values callee entered back =
     (flow : Flow GraphAlloc) × (slice_get (flows_of graph) point ≡ Some flow) × (entered_by flow values ≡ Some (callee, entered, back))
 
 -- A triple is the edge after the call of a site, if it has left this.
-abbrev pub IsBehind : {GraphAlloc : Type 0} → Graph GraphAlloc → Site → Exit → Triple → Type 0
+abbrev pub IsBehind : {GraphAlloc : Type 0} → Graph GraphAlloc → PathEdge → Exit → Triple → Type 0
 IsBehind graph site exit edge =
     (other : ℕ) × (entered : ℕ) × (back : ℕ) × EntersAt graph site.point site.values other entered back
-    × (edge ≡ triple site.asked back (resumed_at graph site.point site.values exit))
+    × (edge ≡ triple site.entry back (resumed_at graph site.point site.values exit))
 
 -- The items for which W holds are there after, beside those before, and no others; they come after those before.
 pub record AddsTo {Item : Type 0} (W : Item → Type 0) (old new : List Item) : Type 0 where
@@ -112,7 +110,7 @@ abbrev pub IsNoCall : {GraphAlloc : Type 0} → Flow GraphAlloc → Type 0
 IsNoCall {GraphAlloc} flow = (call : rust.Call GraphAlloc) → flow ≡ Call call → ⊥
 
 -- A flow has more than two choices, of which the first leads from the edge to what it is remembered by.
-abbrev pub IsExpansionKey : {GraphAlloc : Type 0} → Flow GraphAlloc → PathEdge → Expanded → Type 0
+abbrev pub IsExpansionKey : {GraphAlloc : Type 0} → Flow GraphAlloc → PathEdge → PathEdge → Type 0
 IsExpansionKey flow edge led =
     (2 ≤ last_of flow) × (led.entry ≡ edge.entry) × (led.point ≡ edge.point)
     × ((n : ℕ) × (next_of flow edge.values 0 ≡ Some (n, led.values)))

@@ -19,7 +19,7 @@ use Rattle.summaries.specs.declared.table_fault.TableFault.TheVariants.{EdgeLimi
 use Rattle.summaries.specs.Grows.{IsNext}
 use Rattle.summaries.specs.Mails.{AddressedMail, mail}
 use Rattle.summaries.specs.Dues.{due_of}
-use Rattle.summaries.specs.Found.{pair, site, answers_in, TookMessage, HasSite, HasExit, IsGrounded, IsSaturated}
+use Rattle.summaries.specs.Found.{pair, answers_in, TookMessage, HasSite, HasExit, IsGrounded, IsSaturated}
 use Rattle.path_sets.specs.EdgeLimits.{most_of}
 
 module _ {GraphAlloc Alloc Edges : Type 0} where
@@ -92,7 +92,7 @@ HasItsExit table edge = edge.point ≡ 0 → HasExit table.found edge.entry (lef
 -- the call stands as a site at the edge
 abbrev pub HasAsked : {GraphAlloc Alloc Edges : Type 0} → Table GraphAlloc Alloc Edges → PathEdge → Call GraphAlloc → Type 0
 HasAsked table edge call =
-    HasSite table.found (called_procedure call) (entered_from call edge.values) (site edge.entry edge.point edge.values)
+    HasSite table.found (called_procedure call) (entered_from call edge.values) edge
 
 -- The table is that of the same procedure, with the same limit.
 pub record StaysAs {GraphAlloc Alloc Edges : Type 0} (old new : Table GraphAlloc Alloc Edges) : Type 0 where

@@ -3,12 +3,13 @@
 ghost use Rattle.std.specs.Prelude.{IfSome};
 ghost use Rattle.summaries.specs.Grows.{IsExpansionKey};
 
-use crate::edge::{Expanded, PathEdge};
+use crate::edge::PathEdge;
 use crate::frontier::Frontier;
+use crate::kept_edge::KeptEdge;
 use crate::table_fault::TableFault;
 use flow_graph::Flow;
 use language::{Point, Word};
-use path_sets::{Halves, PathSet};
+use path_sets::PathSet;
 use std::alloc::Allocator;
 
 /// A flow with at least this number of choices is expanded once for all valuations that it leads alike. With fewer,
@@ -17,18 +18,19 @@ const MANY: Word = 8;
 
 /// What an edge is remembered by when its choices are expanded, if there are many.
 #[inline(always)]
-pub(crate) fn expansion_key<G: Allocator>(flow: &Flow<G>, edge: PathEdge) -> Option<Expanded>
+pub(crate) fn expansion_key<G: Allocator>(flow: &Flow<G>, edge: PathEdge) -> Option<KeptEdge>
     ensures { IfSome result (λ led. IsExpansionKey flow.now edge led) }
 {
     if flow.last() < MANY - 1 {
         return None;
     }
     let (_, values) = flow.next(edge.values, 0)?;
-    Some(Expanded {
-        entry: Halves::new(edge.entry),
+    let first = PathEdge {
+        entry: edge.entry,
         point: edge.point,
-        values: Halves::new(values),
-    })
+        values,
+    };
+    Some(KeptEdge::new(first))
 }
 
 impl<'e, 'p, A: Allocator, S: PathSet<A>> Frontier<'e, 'p, A, S> {

@@ -1,7 +1,6 @@
-//! Calls and their sites, as they are kept.
+//! Calls as they are kept.
 
-use crate::edge::{CallKey, Site};
-use language::Point;
+use crate::edge::CallKey;
 use path_sets::Halves;
 use std::marker::Model;
 
@@ -46,50 +45,6 @@ impl KeptCall {
         CallKey {
             callee: self.callee as u8,
             entered: self.entered.word(),
-        }
-    }
-}
-
-/// A site as a table keeps it, which takes 40 bytes instead of 48. Contracts see it as the site.
-#[derive(Clone, Copy)]
-pub(crate) struct KeptSite {
-    asked: Halves,
-    point: Point,
-    values: Halves,
-}
-
-impl Model for KeptSite {
-    ghost use Rattle.summaries.specs.declared.edge.Site.{Site};
-
-    ghost Value = { Site };
-
-    ghost view = { λ k. record { asked = k.asked; point = k.point; values = k.values } };
-
-    ghost inverse = { λ s. record { asked = s.asked; point = s.point; values = s.values } };
-}
-
-impl KeptSite {
-    ghost use Rattle.std.specs.Prelude.{◌≡◌};
-
-    /// The site, to be kept.
-    pub(crate) fn new(site: Site) -> Self
-        ensures { result ≡ site }
-    {
-        KeptSite {
-            asked: Halves::new(site.asked),
-            point: site.point,
-            values: Halves::new(site.values),
-        }
-    }
-
-    /// The site.
-    pub(crate) fn site(self) -> Site
-        ensures { result ≡ self }
-    {
-        Site {
-            asked: self.asked.word(),
-            point: self.point,
-            values: self.values.word(),
         }
     }
 }

@@ -1,8 +1,8 @@
 //! Calls whose summaries are known.
 
-use crate::edge::{PathEdge, Site};
+use crate::edge::PathEdge;
 use crate::frontier::Frontier;
-use crate::kept_call::KeptSite;
+use crate::kept_edge::KeptEdge;
 use crate::kept_exit::KeptExit;
 use crate::table_fault::TableFault;
 use flow_graph::{Exit, Flow, Graph};
@@ -18,7 +18,7 @@ impl<'e, 'p, A: Allocator, S: PathSet<A>> Frontier<'e, 'p, A, S> {
     fn reach_after_call<G: Allocator>(
         &mut self,
         graph: &Graph<G>,
-        site: Site,
+        site: PathEdge,
         left: Exit,
     ) -> Result<(), TableFault>
         requires { IsWithin S.members self.old }
@@ -31,7 +31,7 @@ impl<'e, 'p, A: Allocator, S: PathSet<A>> Frontier<'e, 'p, A, S> {
             return Ok(());
         };
         let edge = PathEdge {
-            entry: site.asked,
+            entry: site.entry,
             point: call.back(),
             values: call.resumed(site.values, left),
         };
@@ -43,7 +43,7 @@ impl<'e, 'p, A: Allocator, S: PathSet<A>> Frontier<'e, 'p, A, S> {
     pub(crate) fn resume_site<G: Allocator>(
         &mut self,
         graph: &Graph<G>,
-        site: Site,
+        site: PathEdge,
         summaries: &[KeptExit],
     ) -> Result<(), TableFault>
         requires { IsWithin S.members self.old }
@@ -61,7 +61,7 @@ impl<'e, 'p, A: Allocator, S: PathSet<A>> Frontier<'e, 'p, A, S> {
     pub(crate) fn resume_sites<G: Allocator>(
         &mut self,
         graph: &Graph<G>,
-        sites: &[KeptSite],
+        sites: &[KeptEdge],
         left: Exit,
     ) -> Result<(), TableFault>
         requires { IsWithin S.members self.old }
@@ -69,7 +69,7 @@ impl<'e, 'p, A: Allocator, S: PathSet<A>> Frontier<'e, 'p, A, S> {
             (OfSome (λ site. IsBehind graph.now site left) sites.now) result self.old self.new }
     {
         for site in sites {
-            self.reach_after_call(graph, site.site(), left)?;
+            self.reach_after_call(graph, site.edge(), left)?;
         }
         Ok(())
     }

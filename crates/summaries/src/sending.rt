@@ -51,7 +51,8 @@ pub(crate) fn send_summaries<A: Allocator + Copy>(
     requires once { NoneTwice pairs.now }
     requires new { (x : Outgoing) → OfSome (λ pair. IsTold pair caller) pairs.now x
         → ¬ Member x outbox.old.sent.items }
-    ensures { SendsAll (OfSome (λ pair. IsTold pair caller) pairs.now) result outbox.old outbox.new }
+    ensures { SendsAll
+        (OfSome (λ pair. IsTold pair caller) pairs.now) result outbox.old outbox.new }
 {
     for pair in pairs {
         send_summary(outbox, *pair, caller)?;

@@ -13,10 +13,11 @@ ghost use Rattle.summaries.specs.Tables.{HasAllNext, Worked, StaysAs, IsLess, To
 ghost use Rattle.summaries.specs.Tables.{TookOnly, TookSame};
 
 use crate::due::Caller;
-use crate::edge::{CallKey, Expanded, PathEdge, Site};
+use crate::edge::{CallKey, PathEdge};
 use crate::expanding::expansion_key;
 use crate::frontier::Frontier;
-use crate::kept_call::{KeptCall, KeptSite};
+use crate::kept_call::KeptCall;
+use crate::kept_edge::KeptEdge;
 use crate::kept_exit::KeptExit;
 use crate::kept_pair::KeptPair;
 use crate::outbox::index_in_32_bits;
@@ -80,19 +81,14 @@ impl<'g, G: Allocator, A: Allocator + Copy, S: PathSet<A>> Table<'g, G, A, S> {
             callee: call.callee(),
             entered: call.entry(edge.values),
         });
-        let site = Site {
-            asked: edge.entry,
-            point: edge.point,
-            values: edge.values,
-        };
-        let added = self.found.sites.add(key, KeptSite::new(site))?;
+        let added = self.found.sites.add(key, KeptEdge::new(edge))?;
         self.found.outbox.send_entry(added.had, added.at)?;
         let mut frontier = Frontier {
             edges: &mut self.edges,
             pending: &mut self.found.pending,
             limit: self.limit,
         };
-        frontier.resume_site(self.graph, site, self.found.summaries.of(key))
+        frontier.resume_site(self.graph, edge, self.found.summaries.of(key))
     }
 
     /// Works on an edge that is no longer pending: adds the edges that it leads to, and gives the messages that it
@@ -147,7 +143,7 @@ impl<'g, G: Allocator, A: Allocator + Copy, S: PathSet<A>> Table<'g, G, A, S> {
         &mut self,
         flow: &Flow<G>,
         edge: PathEdge,
-        led: Expanded,
+        led: KeptEdge,
     ) -> Result<(), TableFault>
         requires flow { slice_get (flows_of (graph_of self.old)) edge.point ≡ Some flow.now }
         requires no_call { IsNoCall flow.now }
