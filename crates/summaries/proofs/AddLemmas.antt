@@ -1,6 +1,6 @@
 -- What is found by keys after one more value was added to a key.
 use Rattle.std.proofs.Common.{◌≡◌, ◌⊎◌, ◌&&◌, Bool, true, false, List, [], ◌∷◌, ◌++◌, inl, inr, refl, sym, subst}
-use Rattle.std.proofs.Common.{nat_eq, true≢false}
+use Rattle.std.proofs.Common.{nat_eq}
 use Rattle.std.specs.Bool.{beq}
 use Rattle.std.proofs.lemmas.Map.Views.{exact_unsigned_eq}
 use Rattle.language.specs.Lists.{Member, NoneTwice}

@@ -1,5 +1,5 @@
 -- The messages given, of which none occurs twice, and callers that are known.
-use Rattle.std.proofs.Common.{zero, suc, take, drop, ◌≡◌, ◌≤◌, ◌<◌, ℕ, Bool, true, false, ◌&&◌, List, [], ◌∷◌}
+use Rattle.std.proofs.Common.{zero, suc, take, drop, ◌≡◌, ◌≤◌, ◌<◌, ℕ, Bool, true, false, List, [], ◌∷◌}
 use Rattle.std.proofs.Common.{◌++◌, length, if◌then◌else◌, inl, inr, refl, sym, ap, ◌∙◌, subst, true≢false, not, Result}
 use Rattle.std.proofs.Common.{Ok, Err, is_ok, arith}
 use Rattle.std.proofs.lemmas.List.{take-append-drop, take-append-le, length-take-le}

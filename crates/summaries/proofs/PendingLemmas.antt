@@ -12,7 +12,7 @@ use Rattle.flow_graph.specs.declared.flow.Flow.TheVariants.{Assign, Test, Assume
 use Rattle.flow_graph.specs.declared.graph.Graph.{Graph}
 use Rattle.summaries.specs.declared.edge.PathEdge.{PathEdge}
 use Rattle.summaries.specs.declared.found.Found.{Found}
-use Rattle.summaries.specs.Found.{path_edge, HasSite, HasExit, IsWorked}
+use Rattle.summaries.specs.Found.{HasSite, HasExit, IsWorked}
 use Rattle.summaries.specs.Grows.{IsNext}
 
 module _ {A G : Type 0} (graph : Graph G) (q : ℕ) (f : Found A) (es : List Triple) (e : PathEdge)

@@ -1,23 +1,17 @@
 -- What a table's work comes to, by its answer.
-use Rattle.std.proofs.Common.{◌≡◌, ◌≤◌, ◌++◌, ◌∷◌, [], ℕ, List, Option, Some, None, Result, Err, length, ◌∙◌}
-use Rattle.std.specs.Option.{IfSome}
+use Rattle.std.proofs.Common.{◌≡◌, ◌≤◌, List, Result, Err, length, ◌∙◌}
 use Rattle.std.specs.Result.{IsErrAnd, OnOk}
 use Rattle.std.proofs.lemmas.Result.{IfOk-weaker}
 use Rattle.language.specs.Lists.{Member, NoneTwice}
 use Rattle.path_sets.specs.Triples.{Triple}
-use Rattle.flow_graph.specs.Numbers.{NumberedMessage, Sends}
-use Rattle.summaries.specs.declared.due.Due.{Due}
 use Rattle.summaries.specs.declared.edge.PathEdge.{PathEdge}
 use Rattle.summaries.specs.declared.table.Table.{Table}
 use Rattle.summaries.specs.declared.table_fault.TableFault.{TableFault}
 use Rattle.summaries.specs.declared.table_fault.TableFault.TheVariants.{Memory, EdgeLimit}
 use Rattle.summaries.specs.Grows.{Adds}
-use Rattle.summaries.specs.Mails.{mail}
-use Rattle.summaries.specs.Dues.{due_of}
-use Rattle.summaries.specs.Found.{TookMessage}
 use Rattle.summaries.proofs.FrontierLemmas.{no_limit, failed_ok}
 use Rattle.summaries.proofs.StepLemmas.{has_more}
-use Rattle.summaries.specs.Tables.{answers_of, HasMore, Holds, IsReached, IsAnswer, StaysAs, Worked}
+use Rattle.summaries.specs.Tables.{answers_of, HasMore, Holds, IsReached, StaysAs, Worked}
 use Rattle.path_sets.specs.EdgeLimits.{most_of}
 
 module _ {G A S : Type 0} (members : S → List Triple) where

@@ -10,7 +10,7 @@ use Rattle.flow_graph.specs.Numbers.{numbered_entry}
 use Rattle.summaries.specs.declared.edge.CallKey.{CallKey}
 use Rattle.summaries.specs.Under.{under}
 use Rattle.indexmap.specs.IndexMap.{keys}
-use Rattle.summaries.specs.Found.{HasSite, IsIndexed, call_eq, path_edge, entry_mail, mails_in}
+use Rattle.summaries.specs.Found.{HasSite, IsIndexed, call_eq, entry_mail, mails_in}
 use Rattle.summaries.specs.Grows.{AddsTo, Grows, OfSome, IsBehind, triple_of}
 use Rattle.summaries.proofs.CallLemmas.{asked_to, ask_step, ask_only, behind_reached, asked_site, taken_there}
 use Rattle.summaries.proofs.CallLemmas.{stands_there, was_given, asked_indexed, asked_gave}
