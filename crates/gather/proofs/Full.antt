@@ -30,7 +30,7 @@ use Rattle.summaries.specs.declared.table.Table.{Table}
 use Rattle.summaries.specs.Fitting.{FitsIn}
 use Rattle.summaries.specs.Found.{TookMessage}
 use Rattle.path_sets.specs.EdgeLimits.{most_of}
-use Rattle.summaries.specs.Mails.{Mail, mail}
+use Rattle.summaries.specs.Mails.{AddressedMail, mail}
 use Rattle.summaries.specs.Tables.{graph_of, procedure_of, limit_of, answers_of, failure, IsTable, IsQuiet}
 use Rattle.summaries.specs.Together.{opening, IsTaken, IsReceived, HaveLimit, AreFull}
 use Rattle.summaries.proofs.Steps.{get_map}
@@ -57,7 +57,7 @@ got_map f (x ∷ xs) zero y e = (x, refl, same_Some (f x) y e)
 got_map f (x ∷ xs) (suc q) y e = got_map f xs q y e
 
 -- a mail is that of a post
-got_mail : (sent : List (ℕ × Due)) (x : Mail) → Member x (mails_of sent)
+got_mail : (sent : List (ℕ × Due)) (x : AddressedMail) → Member x (mails_of sent)
     → (y : ℕ × Due) × Member y sent × (x ≡ mail y.0 y.1)
 got_mail [] x h = absurd h
 got_mail (y ∷ sent) x (inl is) = (y, inl refl, is)
@@ -252,7 +252,7 @@ module _ {G A S : Type 0} where
             received (length (graphs_of graphs)) 0 opening.due 0
             (subst (Member e) (sym begins) (member_left e v.pass.seen.order rest seen))
 
-        answer_received : (q : ℕ) (o : Outcome G A S) (v : Served q o) (x : Mail) → Member x (answers_of v.table)
+        answer_received : (q : ℕ) (o : Outcome G A S) (v : Served q o) (x : AddressedMail) → Member x (answers_of v.table)
             → IsReceived ts x
         answer_received q o v x there =
             let sent = v.served.0 in

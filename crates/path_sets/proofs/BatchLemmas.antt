@@ -20,7 +20,7 @@ use Rattle.path_sets.specs.declared.diagrams.gathered_key.GatheredKey.{GatheredK
 use Rattle.path_sets.specs.Batches.{AllWithin, AreHome, CoversEach, masks_in, gathered_at}
 use Rattle.path_sets.specs.Insertions.{diagram_at, RootsStay}
 use Rattle.path_sets.specs.Diagrams.{merged_has, diagram_eq, TakesGiven}
-use Rattle.path_sets.specs.Edges.{edge_at, edges}
+use Rattle.path_sets.specs.Edges.{edge_at, mask_edges}
 use Rattle.path_sets.specs.Masks.{bit_of}
 use Rattle.path_sets.specs.Members.{all_edges, Covers, IsEdgeThere, PutsEdge}
 use Rattle.path_sets.specs.Quads.{points_of}
@@ -129,29 +129,30 @@ module _ {A : Type 0} where
     one_more_masks (b ∷ bs) w none = ap (λ gs. masks_of diagrams b.masks.entries ++ gs) (one_more_masks bs w none)
 
     -- each path edge of the masks is in a batch
-    pub in_batch : (bs : List (Batch A)) (t : Triple) → Member t (edges (masks_in diagrams bs))
-        → (k : ℕ) × Member t (edges (masks_of diagrams (gathered_at bs k)))
+    pub in_batch : (bs : List (Batch A)) (t : Triple) → Member t (mask_edges (masks_in diagrams bs))
+        → (k : ℕ) × Member t (mask_edges (masks_of diagrams (gathered_at bs k)))
     in_batch [] t m = elim m [ ]
     in_batch (b ∷ bs) t m =
-        elim (member_append t (edges (masks_of diagrams b.masks.entries)) (edges (masks_in diagrams bs))
+        elim (member_append t (mask_edges (masks_of diagrams b.masks.entries)) (mask_edges (masks_in diagrams bs))
         (subst (Member t) (edges_append (masks_of diagrams b.masks.entries) (masks_in diagrams bs)) m)) [
           | inl first ↦ (0, first)
           | inr later ↦ let (k, there) = in_batch bs t later in (suc k, there)
         ]
 
     -- and what is in a batch is one of them
-    pub of_batch : (bs : List (Batch A)) (k : ℕ) (t : Triple) → Member t (edges (masks_of diagrams (gathered_at bs k)))
-        → Member t (edges (masks_in diagrams bs))
+    pub of_batch : (bs : List (Batch A)) (k : ℕ) (t : Triple) → Member t (mask_edges (masks_of diagrams (gathered_at bs k)))
+        → Member t (mask_edges (masks_in diagrams bs))
     of_batch [] k t m = m
     of_batch (b ∷ bs) zero t m =
         subst (Member t) (sym (edges_append (masks_of diagrams b.masks.entries) (masks_in diagrams bs)))
-        (member_left t (edges (masks_of diagrams b.masks.entries)) (edges (masks_in diagrams bs)) m)
+        (member_left t (mask_edges (masks_of diagrams b.masks.entries)) (mask_edges (masks_in diagrams bs)) m)
     of_batch (b ∷ bs) (suc k) t m =
         subst (Member t) (sym (edges_append (masks_of diagrams b.masks.entries) (masks_in diagrams bs)))
-        (member_right t (edges (masks_of diagrams b.masks.entries)) (edges (masks_in diagrams bs)) (of_batch bs k t m))
+        (member_right t (mask_edges (masks_of diagrams b.masks.entries)) (mask_edges (masks_in diagrams bs)) (of_batch bs k t m))
 
     -- a batch with a path edge is there
-    pub batch_within : (bs : List (Batch A)) (k : ℕ) (t : Triple) → Member t (edges (masks_of diagrams (gathered_at bs k))) → k < length bs
+    pub batch_within : (bs : List (Batch A)) (k : ℕ) (t : Triple) → Member t (mask_edges (masks_of diagrams (gathered_at bs k)))
+        → k < length bs
     batch_within [] k t m = elim m [ ]
     batch_within (b ∷ bs) zero t m = omega arith
     batch_within (b ∷ bs) (suc k) t m = let less = batch_within bs k t m in omega (arith, less)
@@ -165,23 +166,23 @@ module _ {A : Type 0} where
     same_masks (c ∷ bs) (suc k) b w at same = ap (λ gs. masks_of diagrams c.masks.entries ++ gs) (same_masks bs k b w at same)
 
     pub same_edges : (bs : List (Batch A)) (k : ℕ) (b w : Batch A) → slice_get bs k ≡ Some b
-        → edges (masks_of diagrams w.masks.entries) ≡ edges (masks_of diagrams b.masks.entries)
-        → edges (masks_in diagrams (slice_set bs k w)) ≡ edges (masks_in diagrams bs)
+        → mask_edges (masks_of diagrams w.masks.entries) ≡ mask_edges (masks_of diagrams b.masks.entries)
+        → mask_edges (masks_in diagrams (slice_set bs k w)) ≡ mask_edges (masks_in diagrams bs)
     same_edges [] k b w at same = refl
     same_edges (c ∷ bs) zero b w at same =
         edges_append (masks_of diagrams w.masks.entries) (masks_in diagrams bs)
-        ∙ ap (λ ts. ts ++ edges (masks_in diagrams bs))
-        (same ∙ sym (ap (λ (h : Batch A). edges (masks_of diagrams h.masks.entries)) (same_Some c b at)))
+        ∙ ap (λ ts. ts ++ mask_edges (masks_in diagrams bs))
+        (same ∙ sym (ap (λ (h : Batch A). mask_edges (masks_of diagrams h.masks.entries)) (same_Some c b at)))
         ∙ sym (edges_append (masks_of diagrams c.masks.entries) (masks_in diagrams bs))
     same_edges (c ∷ bs) (suc k) b w at same =
         edges_append (masks_of diagrams c.masks.entries) (masks_in diagrams (slice_set bs k w))
-        ∙ ap (λ ts. edges (masks_of diagrams c.masks.entries) ++ ts) (same_edges bs k b w at same)
+        ∙ ap (λ ts. mask_edges (masks_of diagrams c.masks.entries) ++ ts) (same_edges bs k b w at same)
         ∙ sym (edges_append (masks_of diagrams c.masks.entries) (masks_in diagrams bs))
 
     module _ (homes : List ℕ) (bs : List (Batch A)) (home : AreHome homes bs) (within : AllWithin diagrams bs)
         (distinct : IsDistinct diagram_eq diagrams) where
       -- a path edge of a batch is of a diagram that has this batch, so it is in no other
-      pub one_home : (j k i : ℕ) (t : Triple) → Member t (edges (masks_of diagrams (gathered_at bs j)))
+      pub one_home : (j k i : ℕ) (t : Triple) → Member t (mask_edges (masks_of diagrams (gathered_at bs j)))
           → slice_get diagrams i ≡ Some (diagram_at t) → slice_get homes i ≡ Some k → j ≡ k
       one_home j k i t m there own =
           let (c, mem, is) = in_gathered_key diagrams (gathered_at bs j) t m in
@@ -198,28 +199,28 @@ module _ {A : Type 0} where
     -- one batch is replaced by another
     module _ (ss ts : List (Batch A)) (k : ℕ) (others : (j : ℕ) → (j ≡ k → ⊥) → gathered_at ts j ≡ gathered_at ss j) where
       -- a path edge of the masks then is one of the new batch, or was one of the others
-      pub new_or_old : (t : Triple) → Member t (edges (masks_in diagrams ts))
-          → Member t (edges (masks_of diagrams (gathered_at ts k))) ⊎ Member t (edges (masks_in diagrams ss))
+      pub new_or_old : (t : Triple) → Member t (mask_edges (masks_in diagrams ts))
+          → Member t (mask_edges (masks_of diagrams (gathered_at ts k))) ⊎ Member t (mask_edges (masks_in diagrams ss))
       new_or_old t m =
           let (j, there) = in_batch ts t m in elim (cases_eq j k) [
-            | inl is ↦ inl (subst (λ n. Member t (edges (masks_of diagrams (gathered_at ts n)))) is there)
-            | inr ne ↦ inr (of_batch ss j t (subst (λ es. Member t (edges (masks_of diagrams es))) (others j ne) there))
+            | inl is ↦ inl (subst (λ n. Member t (mask_edges (masks_of diagrams (gathered_at ts n)))) is there)
+            | inr ne ↦ inr (of_batch ss j t (subst (λ es. Member t (mask_edges (masks_of diagrams es))) (others j ne) there))
           ]
 
       -- and one that was there was one of the old batch, or is still
-      pub gone_or_still : (t : Triple) → Member t (edges (masks_in diagrams ss))
-          → Member t (edges (masks_of diagrams (gathered_at ss k))) ⊎ Member t (edges (masks_in diagrams ts))
+      pub gone_or_still : (t : Triple) → Member t (mask_edges (masks_in diagrams ss))
+          → Member t (mask_edges (masks_of diagrams (gathered_at ss k))) ⊎ Member t (mask_edges (masks_in diagrams ts))
       gone_or_still t m =
           let (j, there) = in_batch ss t m in elim (cases_eq j k) [
-            | inl is ↦ inl (subst (λ n. Member t (edges (masks_of diagrams (gathered_at ss n)))) is there)
-            | inr ne ↦ inr (of_batch ts j t (subst (λ es. Member t (edges (masks_of diagrams es))) (sym (others j ne)) there))
+            | inl is ↦ inl (subst (λ n. Member t (mask_edges (masks_of diagrams (gathered_at ss n)))) is there)
+            | inr ne ↦ inr (of_batch ts j t (subst (λ es. Member t (mask_edges (masks_of diagrams es))) (sym (others j ne)) there))
           ]
 
       -- what is put into the only batch that may have it is put into all
       pub puts_all : (ns : List Quad) (rs : List (DiagramKey × ℕ)) (x : Triple)
-          → ((j : ℕ) → Member x (edges (masks_of diagrams (gathered_at ss j))) → j ≡ k)
-          → (edges (masks_of diagrams (gathered_at ts k)) ≡ edges (masks_of diagrams (gathered_at ss k))
-          → edges (masks_in diagrams ts) ≡ edges (masks_in diagrams ss))
+          → ((j : ℕ) → Member x (mask_edges (masks_of diagrams (gathered_at ss j))) → j ≡ k)
+          → (mask_edges (masks_of diagrams (gathered_at ts k)) ≡ mask_edges (masks_of diagrams (gathered_at ss k))
+          → mask_edges (masks_in diagrams ts) ≡ mask_edges (masks_in diagrams ss))
           → (b : Bool) → PutsEdge ns rs x (masks_of diagrams (gathered_at ss k)) (masks_of diagrams (gathered_at ts k)) b
           → PutsEdge ns rs x (masks_in diagrams ss) (masks_in diagrams ts) b
       puts_all ns rs x only same true (new, all) = (
@@ -227,7 +228,7 @@ module _ {A : Type 0} where
           | inl merged ↦ inl merged
           | inr there ↦
               let (j, m) = in_batch ss x there in
-              inr (subst (λ n. Member x (edges (masks_of diagrams (gathered_at ss n)))) (only j m) m)
+              inr (subst (λ n. Member x (mask_edges (masks_of diagrams (gathered_at ss n)))) (only j m) m)
         ]),
         λ t. (
           λ is. elim is [
@@ -259,27 +260,28 @@ module _ {A : Type 0} where
 
       -- a batch that is in the diagrams may be emptied
       pub members_merged : (ns ms : List Quad) (rs qs : List (DiagramKey × ℕ)) → gathered_at ts k ≡ []
-          → TakesGiven (λ t. Member t (edges (masks_of diagrams (gathered_at ss k)))) ns ms rs qs
-          → ((t : Triple) → Member t (edges (masks_of diagrams (gathered_at ss k))) → merged_has ms qs t ≡ true)
+          → TakesGiven (λ t. Member t (mask_edges (masks_of diagrams (gathered_at ss k)))) ns ms rs qs
+          → ((t : Triple) → Member t (mask_edges (masks_of diagrams (gathered_at ss k))) → merged_has ms qs t ≡ true)
           → all_edges ms qs (masks_in diagrams ts) ≡ all_edges ns rs (masks_in diagrams ss)
       members_merged ns ms rs qs none takes done =
           members_stay ns ms rs qs (masks_in diagrams ss) (masks_in diagrams ts)
-          (takes_of (λ t. Member t (edges (masks_of diagrams (gathered_at ss k))))
-          (λ t. Member t (edges (masks_in diagrams ss))) ns ms rs qs
+          (takes_of (λ t. Member t (mask_edges (masks_of diagrams (gathered_at ss k))))
+          (λ t. Member t (mask_edges (masks_in diagrams ss))) ns ms rs qs
           (of_batch ss k) takes)
           (λ t m. elim (new_or_old t m) [
-            | inl never ↦ absurd (subst (λ es. Member t (edges (masks_of diagrams es)) → ⊥) (sym none) (λ n. elim n [ ]) never)
+            | inl never ↦ absurd (subst (λ es. Member t (mask_edges (masks_of diagrams es)) → ⊥) (sym none) (λ n. elim n [ ]) never)
             | inr old ↦ old
           ])
           (λ t m. elim (gone_or_still t m) [ inl gone ↦ inl (done t gone) | inr still ↦ inr still ])
 
     -- and if all stay gathered, the members are the same
     pub members_still : (ss : List (Batch A)) (k : ℕ) (ns ms : List Quad) (rs qs : List (DiagramKey × ℕ))
-        → TakesGiven (λ t. Member t (edges (masks_of diagrams (gathered_at ss k)))) ns ms rs qs
+        → TakesGiven (λ t. Member t (mask_edges (masks_of diagrams (gathered_at ss k)))) ns ms rs qs
         → all_edges ms qs (masks_in diagrams ss) ≡ all_edges ns rs (masks_in diagrams ss)
     members_still ss k ns ms rs qs takes =
         members_stay ns ms rs qs (masks_in diagrams ss) (masks_in diagrams ss)
-        (takes_of (λ t. Member t (edges (masks_of diagrams (gathered_at ss k)))) (λ t. Member t (edges (masks_in diagrams ss))) ns ms rs qs
+        (takes_of (λ t. Member t (mask_edges (masks_of diagrams (gathered_at ss k))))
+        (λ t. Member t (mask_edges (masks_in diagrams ss))) ns ms rs qs
         (of_batch ss k) takes)
         (λ t m. m) (λ t m. inr m)
 
@@ -395,8 +397,8 @@ module _ {A : Type 0} where
         puts_all diagrams bs set k (set_others bs k w) ns rs x
         (λ j m. one_home diagrams homes bs home within distinct j k s.diagram x m diagram own)
         (λ e. same_edges diagrams bs k b w at
-        (ap (λ es. edges (masks_of diagrams es)) (sym (set_here bs k b w at)) ∙ e
-        ∙ ap (λ es. edges (masks_of diagrams es)) (gathered_is bs k b at)))
+        (ap (λ es. mask_edges (masks_of diagrams es)) (sym (set_here bs k b w at)) ∙ e
+        ∙ ap (λ es. mask_edges (masks_of diagrams es)) (gathered_is bs k b at)))
         added
         (subst (λ es. PutsEdge ns rs x (masks_of diagrams es) (masks_of diagrams (gathered_at set k)) added) (sym (gathered_is bs k b at))
         (subst (λ es. PutsEdge ns rs x (masks_of diagrams b.masks.entries) (masks_of diagrams es) added) (sym (set_here bs k b w at)) puts))
@@ -405,7 +407,7 @@ module _ {A : Type 0} where
   pub covers_merged : (homes : List ℕ) (bs : List (Batch A)) (ns ms : List Quad) (rs qs : List (DiagramKey × ℕ)) (k : ℕ)
       → AreHome homes bs → AllWithin (keys_of rs) bs → IsDistinct diagram_eq (keys_of rs) → keys_of qs ≡ keys_of rs
       → CoversEach ns rs bs
-      → TakesGiven (λ t. Member t (edges (masks_of (keys_of rs) (gathered_at bs k)))) ns ms rs qs → CoversEach ms qs bs
+      → TakesGiven (λ t. Member t (mask_edges (masks_of (keys_of rs) (gathered_at bs k)))) ns ms rs qs → CoversEach ms qs bs
   covers_merged homes bs ns ms rs qs k home within distinct same covers takes j =
       subst (λ diagrams. Covers ms qs (masks_of diagrams (gathered_at bs j))) (sym same) (λ p bit small key has.
       elim (takes.sound (edge_at p bit) has) [
@@ -416,8 +418,8 @@ module _ {A : Type 0} where
             let mask_key = is ∙ mask_key_is (keys_of rs) s r at in
             let diagram = at ∙ ap Some (sym (ap (λ x. diagram_at (edge_at x bit)) mask_key ∙ diagram_of_edge r s.values bit small)) in
             let one = one_home (keys_of rs) homes bs home within distinct k j s.diagram (edge_at p bit) given diagram (home j s own) in
-            member_any (edge_at p bit) (edges (masks_of (keys_of rs) (gathered_at bs j)))
-            (subst (λ n. Member (edge_at p bit) (edges (masks_of (keys_of rs) (gathered_at bs n)))) one given)
+            member_any (edge_at p bit) (mask_edges (masks_of (keys_of rs) (gathered_at bs j)))
+            (subst (λ n. Member (edge_at p bit) (mask_edges (masks_of (keys_of rs) (gathered_at bs n)))) one given)
       ])
 
   -- more diagrams
@@ -443,7 +445,7 @@ module _ {A : Type 0} where
     members_as_they_were bs within =
         ap (all_edges ns qs) (all_stay bs within)
         ∙ members_stay ns ns rs qs (masks_in (keys_of rs) bs) (masks_in (keys_of rs) bs)
-        (takes_nothing (λ t. Member t (edges (masks_in (keys_of rs) bs))) ns rs qs stay) (λ t m. m) (λ t m. inr m)
+        (takes_nothing (λ t. Member t (mask_edges (masks_in (keys_of rs) bs))) ns rs qs stay) (λ t m. m) (λ t m. inr m)
 
   -- no key occurs twice in a batch
   gathered_once : (bs : List (Batch A)) (k : ℕ) → IsDistinct gathered_key_eq (keys_of (gathered_at bs k))
@@ -471,7 +473,7 @@ module _ {A : Type 0} where
       found : (i : ℕ) × (slice_get here i ≡ Some (mask_key_at (keys_of rs) s, m))
       found = let (i, at) = index_of (gathered_at bs k) (s, m) own in (i, at_masks (keys_of rs) (gathered_at bs k) i (s, m) at)
 
-      in_here : Member x (edges here) → bit_of m bit ≡ true
+      in_here : Member x (mask_edges here) → bit_of m bit ≡ true
       in_here there =
           (bits_known m bit 64 (only_in_group here found.0 (mask_key_at (keys_of rs) s) m bit small
           (distinct_masks (keys_of rs) distinct (gathered_at bs k) (within k) (gathered_once bs k)) found.1 there)).1
@@ -486,19 +488,19 @@ module _ {A : Type 0} where
         λ set. inr (of_batch (keys_of rs) bs k x
             (in_group here found.0 (mask_key_at (keys_of rs) s) m bit found.1 (bits_hold m bit 64 small set))),
         λ is. elim is [
-          | inl merged ↦ in_here (any_member x (edges here)
+          | inl merged ↦ in_here (any_member x (mask_edges here)
               (covers k (mask_key_at (keys_of rs) s) bit small (key_masks (keys_of rs) (gathered_at bs k) s key) merged))
           | inr gathered ↦
               let (j, there) = in_batch (keys_of rs) bs x gathered in
               let one = one_home (keys_of rs) homes bs home within distinct j k s.diagram x there of_diagram (home k s key) in
-              in_here (subst (λ n. Member x (edges (masks_of (keys_of rs) (gathered_at bs n)))) one there)
+              in_here (subst (λ n. Member x (mask_edges (masks_of (keys_of rs) (gathered_at bs n)))) one there)
         ],
       )
 
     -- a key without a mask has no path edge
     pub not_gathered : (s : GatheredKey) (bit : ℕ) → bit < 64 → s.diagram < length (keys_of rs)
         → ((k : ℕ) → Member s (keys_of (gathered_at bs k)) → ⊥)
-        → Member (edge_at (mask_key_at (keys_of rs) s) bit) (edges all) → ⊥
+        → Member (edge_at (mask_key_at (keys_of rs) s) bit) (mask_edges all) → ⊥
     not_gathered s bit small inside none there =
         let diagrams = keys_of rs in
         let p = mask_key_at diagrams s in

@@ -10,7 +10,7 @@ use Rattle.path_sets.specs.declared.diagrams.quad.Quad.{Quad}
 use Rattle.path_sets.specs.declared.diagrams.roots.DiagramKey.{DiagramKey}
 use Rattle.path_sets.specs.Masks.{bit_of, bits_below, AddsPoint}
 use Rattle.path_sets.specs.Triples.{Triple}
-use Rattle.path_sets.specs.Edges.{edge_at, edges, edges_in, mask_key_eq}
+use Rattle.path_sets.specs.Edges.{edge_at, mask_edges, edges_in, mask_key_eq}
 use Rattle.path_sets.specs.Inserts.{PutsIn}
 use Rattle.path_sets.specs.Diagrams.{merged_has}
 use Rattle.path_sets.specs.Members.{all_edges, Covers, IsEdgeThere, PutsEdge}
@@ -34,27 +34,30 @@ module _ (ns : List Quad) (rs : List (DiagramKey × ℕ)) (p : MaskKey) (bit : �
   x = edge_at p bit
 
   -- a point that is put into a mask leaves all that was gathered
-  more_edges : (added : Bool) → PutsIn x (edges old) (edges new) added → (t : Triple) → Member t (edges old) → Member t (edges new)
-  more_edges true (more, apart) t m = stays_in x t (edges old) (edges new) more m
+  more_edges : (added : Bool) → PutsIn x (mask_edges old) (mask_edges new) added → (t : Triple) → Member t (mask_edges old)
+      → Member t (mask_edges new)
+  more_edges true (more, apart) t m = stays_in x t (mask_edges old) (mask_edges new) more m
   more_edges false (same, there) t m = subst (λ es. Member t es) (sym same) m
 
   -- a point is put into the mask of a key that is gathered
-  pub covers_marked : (added : Bool) → PutsIn x (edges old) (edges new) added → keys_of new ≡ keys_of old → Covers ns rs new
+  pub covers_marked : (added : Bool) → PutsIn x (mask_edges old) (mask_edges new) added → keys_of new ≡ keys_of old → Covers ns rs new
   covers_marked added settles same q b less key has =
-      member_any (edge_at q b) (edges new) (more_edges added settles (edge_at q b) (any_member (edge_at q b) (edges old)
+      member_any (edge_at q b) (mask_edges new) (more_edges added settles (edge_at q b) (any_member (edge_at q b) (mask_edges old)
       (covers q b less (subst (λ ks. Member q ks) same key) has)))
 
-  pub puts_marked : Member p (keys_of old) → (added : Bool) → PutsIn x (edges old) (edges new) added → PutsEdge ns rs x old new added
+  pub puts_marked : Member p (keys_of old) → (added : Bool) → PutsIn x (mask_edges old) (mask_edges new) added
+      → PutsEdge ns rs x old new added
   puts_marked key true (more, apart) = (
-    λ is. elim is [ inl merged ↦ apart (any_member x (edges old) (covers p bit small key merged)) | inr gathered ↦ apart gathered ],
+    λ is. elim is [ inl merged ↦ apart (any_member x (mask_edges old) (covers p bit small key merged)) | inr gathered ↦ apart gathered ],
     λ t. (
       λ is. elim is [
         | inl merged ↦ inr (inl merged)
-        | inr gathered ↦ elim (is_new_or_old x t (edges old) (edges new) more gathered) [ inl own ↦ inl own | inr was ↦ inr (inr was) ]
+        | inr gathered ↦
+            elim (is_new_or_old x t (mask_edges old) (mask_edges new) more gathered) [ inl own ↦ inl own | inr was ↦ inr (inr was) ]
       ],
       λ is. elim is [
-        | inl own ↦ inr (subst (λ k. Member k (edges new)) (sym own) (is_in x (edges old) (edges new) more))
-        | inr was ↦ elim was [ inl merged ↦ inl merged | inr gathered ↦ inr (stays_in x t (edges old) (edges new) more gathered) ]
+        | inl own ↦ inr (subst (λ k. Member k (mask_edges new)) (sym own) (is_in x (mask_edges old) (mask_edges new) more))
+        | inr was ↦ elim was [ inl merged ↦ inl merged | inr gathered ↦ inr (stays_in x t (mask_edges old) (mask_edges new) more gathered) ]
       ],
     ),
   )
@@ -62,28 +65,24 @@ module _ (ns : List Quad) (rs : List (DiagramKey × ℕ)) (p : MaskKey) (bit : �
 
   module _ (known mask : ℕ) (none : lookup (mask_key_eq p) old ≡ None)
       (knows : (b : ℕ) → b < 64 → bit_of known b ≡ merged_has ns rs (edge_at p b)) where
-    -- the diagrams have it
-    pub puts_none : AddsPoint bit known mask false → new ≡ old → PutsEdge ns rs x old new false
-    puts_none (set, unchanged) same = (inl (sym (knows bit small) ∙ set), ap edges same)
-
     module _ (marks : AddsPoint bit known mask true) (made : new ≡ old ++ (p, mask) ∷ []) where
-      parts : edges new ≡ edges old ++ (edges_in p mask ++ [])
-      parts = ap edges made ∙ edges_append old ((p, mask) ∷ [])
+      parts : mask_edges new ≡ mask_edges old ++ (edges_in p mask ++ [])
+      parts = ap mask_edges made ∙ edges_append old ((p, mask) ∷ [])
 
       -- what is gathered now is at the key, or it was gathered
-      now : (t : Triple) → Member t (edges new) → Member t (edges old) ⊎ Member t (edges_in p mask)
-      now t m = elim (member_append t (edges old) (edges_in p mask ++ []) (subst (λ es. Member t es) parts m)) [
+      now : (t : Triple) → Member t (mask_edges new) → Member t (mask_edges old) ⊎ Member t (edges_in p mask)
+      now t m = elim (member_append t (mask_edges old) (edges_in p mask ++ []) (subst (λ es. Member t es) parts m)) [
         | inl was ↦ inl was
         | inr own ↦ elim (member_append t (edges_in p mask) [] own) [ inl here ↦ inr here | inr never ↦ elim never [ ] ]
       ]
 
-      was : (t : Triple) → Member t (edges old) → Member t (edges new)
-      was t m = subst (λ es. Member t es) (sym parts) (member_left t (edges old) (edges_in p mask ++ []) m)
+      was : (t : Triple) → Member t (mask_edges old) → Member t (mask_edges new)
+      was t m = subst (λ es. Member t es) (sym parts) (member_left t (mask_edges old) (edges_in p mask ++ []) m)
 
-      own : (b : ℕ) → b < 64 → bit_of mask b ≡ true → Member (edge_at p b) (edges new)
+      own : (b : ℕ) → b < 64 → bit_of mask b ≡ true → Member (edge_at p b) (mask_edges new)
       own b less set =
           subst (λ es. Member (edge_at p b) es) (sym parts)
-          (member_right (edge_at p b) (edges old) (edges_in p mask ++ []) (member_left (edge_at p b) (edges_in p mask) []
+          (member_right (edge_at p b) (mask_edges old) (edges_in p mask ++ []) (member_left (edge_at p b) (edges_in p mask) []
           (member_map (edge_at p) (bits_below mask 64) b (bits_hold mask b 64 less set))))
 
       -- the mask has the new point and those that the diagrams have
@@ -91,12 +90,12 @@ module _ (ns : List Quad) (rs : List (DiagramKey × ℕ)) (p : MaskKey) (bit : �
       marked b set = elim (cases_eq b bit) [ inl is ↦ inl is | inr ne ↦ inr (sym (marks.2 b ne) ∙ set) ]
 
       pub covers_begun : Covers ns rs new
-      covers_begun q b less key has = member_any (edge_at q b) (edges new)
+      covers_begun q b less key has = member_any (edge_at q b) (mask_edges new)
           (elim (one_more_key old p q mask (subst (λ es. Member q (keys_of es)) made key)) [
-            | inl before ↦ was (edge_at q b) (any_member (edge_at q b) (edges old) (covers q b less before has))
+            | inl before ↦ was (edge_at q b) (any_member (edge_at q b) (mask_edges old) (covers q b less before has))
             | inr is ↦
                 let set = knows b less ∙ ap (λ k. merged_has ns rs (edge_at k b)) (sym is) ∙ has in
-                subst (λ k. Member (edge_at k b) (edges new)) (sym is) (own b less (elim (cases_eq b bit) [
+                subst (λ k. Member (edge_at k b) (mask_edges new)) (sym is) (own b less (elim (cases_eq b bit) [
                   | inl same ↦ ap (bit_of mask) same ∙ marks.1
                   | inr ne ↦ marks.2 b ne ∙ set
                 ]))
@@ -123,7 +122,7 @@ module _ (ns : List Quad) (rs : List (DiagramKey × ℕ)) (p : MaskKey) (bit : �
             ]
           ],
           λ is. elim is [
-            | inl same ↦ inr (subst (λ k. Member k (edges new)) (sym same) (own bit small marks.1))
+            | inl same ↦ inr (subst (λ k. Member k (mask_edges new)) (sym same) (own bit small marks.1))
             | inr had ↦ elim had [ inl merged ↦ inl merged | inr gathered ↦ inr (was t gathered) ]
           ],
         ),

@@ -9,7 +9,7 @@ use Rattle.indexmap.specs.IndexMap.{set_value_at}
 use Rattle.language.specs.Lists.{Member}
 use Rattle.language.proofs.Members.{member_left, member_right, member_append, member_map}
 use Rattle.path_sets.specs.declared.points.mask_key.MaskKey.{MaskKey}
-use Rattle.path_sets.specs.Edges.{edge_at, edges_in, edges, mask_key_eq}
+use Rattle.path_sets.specs.Edges.{edge_at, edges_in, mask_edges, mask_key_eq}
 use Rattle.path_sets.specs.Inserts.{Inserts}
 use Rattle.path_sets.specs.Masks.{bits_below}
 use Rattle.path_sets.proofs.InsertsLemmas.{behind, before, mapped}
@@ -35,41 +35,41 @@ of_each P (g ∷ gs) (suc i) p m at all = of_each P gs i p m at all.1
 
 -- an edge of a mask is an edge
 pub in_group : (gs : Groups) (i : ℕ) (p : MaskKey) (m b : ℕ) → slice_get gs i ≡ Some (p, m) → Member b (bits_below m 64) →
-    Member (edge_at p b) (edges gs)
+    Member (edge_at p b) (mask_edges gs)
 in_group [] i p m b at h = absurd (true≢false (ap is_some (sym at)))
 in_group (g ∷ gs) zero p m b at h =
-    subst (λ (h : MaskKey × ℕ). Member (edge_at p b) (edges_in h.0 h.1 ++ edges gs)) (sym (same_Some g (p, m) at))
-    (member_left (edge_at p b) (edges_in p m) (edges gs) (member_map (edge_at p) (bits_below m 64) b h))
+    subst (λ (h : MaskKey × ℕ). Member (edge_at p b) (edges_in h.0 h.1 ++ mask_edges gs)) (sym (same_Some g (p, m) at))
+    (member_left (edge_at p b) (edges_in p m) (mask_edges gs) (member_map (edge_at p) (bits_below m 64) b h))
 in_group (g ∷ gs) (suc i) p m b at h =
-    member_right (edge_at p b) (edges_in g.0 g.1) (edges gs) (in_group gs i p m b at h)
+    member_right (edge_at p b) (edges_in g.0 g.1) (mask_edges gs) (in_group gs i p m b at h)
 
 -- a key with no mask has no edges
 pub no_edge : (gs : Groups) (p : MaskKey) (b : ℕ) → b < 64 → AllByRecursion (λ k. mask_key_eq p k ≡ false) (keys_of gs) →
-    Member (edge_at p b) (edges gs) → ⊥
+    Member (edge_at p b) (mask_edges gs) → ⊥
 no_edge [] p b small all h = elim h [ ]
 no_edge (g ∷ gs) p b small (apart, all) h =
-    elim (member_append (edge_at p b) (edges_in g.0 g.1) (edges gs) h) [
+    elim (member_append (edge_at p b) (edges_in g.0 g.1) (mask_edges gs) h) [
       | inl here' ↦ true≢false (sym (eq_mask_key p g.0 (own_edge p g.0 b g.1 small here').0) ∙ apart)
       | inr later ↦ no_edge gs p b small all later
     ]
 
 -- an edge is in its key's mask, if no key occurs twice
 pub only_in_group : (gs : Groups) (i : ℕ) (p : MaskKey) (m b : ℕ) → b < 64 → IsDistinct mask_key_eq (keys_of gs) →
-    slice_get gs i ≡ Some (p, m) → Member (edge_at p b) (edges gs) → Member b (bits_below m 64)
+    slice_get gs i ≡ Some (p, m) → Member (edge_at p b) (mask_edges gs) → Member b (bits_below m 64)
 only_in_group [] i p m b small d at h = absurd (true≢false (ap is_some (sym at)))
 only_in_group (g ∷ gs) zero p m b small d at h =
     let same : g ≡ (p, m) = same_Some g (p, m) at in
-    let h' : Member (edge_at p b) (edges_in p m ++ edges gs) =
-    subst (λ (h : MaskKey × ℕ). Member (edge_at p b) (edges_in h.0 h.1 ++ edges gs)) same h in
+    let h' : Member (edge_at p b) (edges_in p m ++ mask_edges gs) =
+    subst (λ (h : MaskKey × ℕ). Member (edge_at p b) (edges_in h.0 h.1 ++ mask_edges gs)) same h in
     let apart : AllByRecursion (λ k. mask_key_eq p k ≡ false) (keys_of gs) =
     subst (λ (h : MaskKey × ℕ). AllByRecursion (λ k. mask_key_eq h.0 k ≡ false) (keys_of gs)) same
     (IsDistinct-head mask_key_eq g.0 (keys_of gs) d) in
-    elim (member_append (edge_at p b) (edges_in p m) (edges gs) h') [
+    elim (member_append (edge_at p b) (edges_in p m) (mask_edges gs) h') [
       | inl own ↦ (own_edge p p b m small own).1
       | inr later ↦ absurd (no_edge gs p b small apart later)
     ]
 only_in_group (g ∷ gs) (suc i) p m b small d at h =
-    elim (member_append (edge_at p b) (edges_in g.0 g.1) (edges gs) h) [
+    elim (member_append (edge_at p b) (edges_in g.0 g.1) (mask_edges gs) h) [
       | inl first ↦ absurd (true≢false (sym (eq_mask_key g.0 p (sym (own_edge p g.0 b g.1 small first).0))
           ∙ of_each (λ k. mask_key_eq g.0 k ≡ false) gs i p m at (IsDistinct-head mask_key_eq g.0 (keys_of gs) d)))
       | inr later ↦ only_in_group gs i p m b small (IsDistinct-tail mask_key_eq g.0 (keys_of gs) d) at later
@@ -77,23 +77,23 @@ only_in_group (g ∷ gs) (suc i) p m b small d at h =
 
 -- one more bit of a mask is one more edge
 pub put_in_group : (gs : Groups) (i : ℕ) (p : MaskKey) (m w b : ℕ) → slice_get gs i ≡ Some (p, m) →
-    Inserts b (bits_below m 64) (bits_below w 64) → Inserts (edge_at p b) (edges gs) (edges (set_value_at gs i w))
+    Inserts b (bits_below m 64) (bits_below w 64) → Inserts (edge_at p b) (mask_edges gs) (mask_edges (set_value_at gs i w))
 put_in_group [] i p m w b at more = absurd (true≢false (ap is_some (sym at)))
 put_in_group (g ∷ gs) zero p m w b at more =
-    subst (λ (h : MaskKey × ℕ). Inserts (edge_at p b) (edges_in h.0 h.1 ++ edges gs)
-    (edges_in h.0 w ++ edges gs)) (sym (same_Some g (p, m) at))
-    (before (edge_at p b) (edges_in p m) (edges_in p w) (edges gs)
+    subst (λ (h : MaskKey × ℕ). Inserts (edge_at p b) (edges_in h.0 h.1 ++ mask_edges gs)
+    (edges_in h.0 w ++ mask_edges gs)) (sym (same_Some g (p, m) at))
+    (before (edge_at p b) (edges_in p m) (edges_in p w) (mask_edges gs)
     (mapped (edge_at p) b (bits_below m 64) (bits_below w 64) more))
 put_in_group (g ∷ gs) (suc i) p m w b at more =
-    behind (edge_at p b) (edges_in g.0 g.1) (edges gs) (edges (set_value_at gs i w))
+    behind (edge_at p b) (edges_in g.0 g.1) (mask_edges gs) (mask_edges (set_value_at gs i w))
     (put_in_group gs i p m w b at more)
 
 -- the same mask has the same edges
 pub same_group : (gs : Groups) (i m w : ℕ) → slice_get (values_of gs) i ≡ Some m → w ≡ m →
-    edges (set_value_at gs i w) ≡ edges gs
+    mask_edges (set_value_at gs i w) ≡ mask_edges gs
 same_group [] i m w at same = refl
 same_group (g ∷ gs) zero m w at same =
-    ap (λ k. edges_in g.0 k ++ edges gs) (same ∙ sym (same_Some g.1 m at))
+    ap (λ k. edges_in g.0 k ++ mask_edges gs) (same ∙ sym (same_Some g.1 m at))
 same_group (g ∷ gs) (suc i) m w at same = ap (λ es. edges_in g.0 g.1 ++ es) (same_group gs i m w at same)
 
 -- a key that is not found is not one of those kept
@@ -110,8 +110,8 @@ absent (g ∷ gs) p h = by (mask_key_eq p g.0) refl h (absent gs p)
 
 -- the first edge of a key comes last
 pub put_last : (gs : Groups) (p : MaskKey) (w b : ℕ) → Inserts b [] (bits_below w 64) →
-    Inserts (edge_at p b) (edges gs) (edges (gs ++ (p, w) ∷ []))
+    Inserts (edge_at p b) (mask_edges gs) (mask_edges (gs ++ (p, w) ∷ []))
 put_last [] p w b one =
     before (edge_at p b) [] (edges_in p w) [] (mapped (edge_at p) b [] (bits_below w 64) one)
 put_last (g ∷ gs) p w b one =
-    behind (edge_at p b) (edges_in g.0 g.1) (edges gs) (edges (gs ++ (p, w) ∷ [])) (put_last gs p w b one)
+    behind (edge_at p b) (edges_in g.0 g.1) (mask_edges gs) (mask_edges (gs ++ (p, w) ∷ [])) (put_last gs p w b one)

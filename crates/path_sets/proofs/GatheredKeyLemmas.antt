@@ -1,5 +1,5 @@
 -- The masks that keys stand for.
-use Rattle.std.proofs.Common.{◌≡◌, ◌⊎◌, ◌<◌, ℕ, zero, suc, Bool, true, false, cond, ◌&&◌, nat_eq}
+use Rattle.std.proofs.Common.{◌≡◌, ◌⊎◌, ◌<◌, ℕ, zero, suc, Bool, true, false, cond, ◌&&◌}
 use Rattle.std.proofs.Common.{List, [], ◌∷◌, ◌++◌, length}
 use Rattle.std.proofs.Common.{None, Some, map, take, slice_get, inl, inr, refl, sym, ap, ap₂, ◌∙◌}
 use Rattle.std.proofs.Common.{subst, true≢false, eq-eqb, arith}
@@ -8,7 +8,6 @@ use Rattle.std.specs.List.{AllByRecursion, IsDistinct}
 use Rattle.std.specs.Map.{keys_of, lookup, values_of}
 use Rattle.std.proofs.lemmas.Bool.{cases_eq}
 use Rattle.std.proofs.lemmas.Map.Keys.{apart_from_distinct}
-use Rattle.std.proofs.lemmas.Map.Views.{exact_unsigned_eq}
 use Rattle.std.proofs.lemmas.Option.{get_or_from_slice_get, none-some, same_Some, slice_get_within}
 use Rattle.indexmap.specs.IndexMap.{set_value_at}
 use Rattle.language.specs.Lists.{Member}
@@ -16,13 +15,14 @@ use Rattle.path_sets.specs.declared.points.mask_key.MaskKey.{MaskKey}
 use Rattle.path_sets.specs.declared.diagrams.roots.DiagramKey.{DiagramKey}
 use Rattle.path_sets.specs.declared.diagrams.gathered_key.GatheredKey.{GatheredKey}
 use Rattle.path_sets.specs.Diagrams.{diagram_eq}
-use Rattle.path_sets.specs.Edges.{edge_at, edges, mask_key_eq}
+use Rattle.path_sets.specs.Edges.{edge_at, mask_edges, mask_key_eq}
 use Rattle.path_sets.specs.Inserts.{PutsIn}
-use Rattle.path_sets.specs.GatheredKeys.{AreWithin, AddsPointAt, mask_key_at, mask_key_in, masks_of, gathered_key_eq}
+use Rattle.path_sets.specs.Masks.{AddsPointAt}
+use Rattle.path_sets.specs.GatheredKeys.{AreWithin, mask_key_at, mask_key_in, masks_of, gathered_key_eq}
 use Rattle.path_sets.specs.Triples.{Triple}
 use Rattle.path_sets.proofs.InsertionLemmas.{in_mask_key, IsOf}
 use Rattle.path_sets.proofs.EdgesLemmas.{pair_at}
-use Rattle.path_sets.proofs.MaskKeyLemmas.{both, same_mask_key}
+use Rattle.path_sets.proofs.MaskKeyLemmas.{same_mask_key, same_two}
 use Rattle.path_sets.proofs.RootLemmas.{diagram_self}
 use Rattle.path_sets.proofs.PointLemmas.{settled}
 
@@ -37,10 +37,8 @@ gathered_key_self x = ap₂ ◌&&◌ (eq-eqb x.diagram x.diagram refl) (eq-eqb x
 
 pub same_gathered_key : (x y : GatheredKey) → gathered_key_eq x y ≡ true → x ≡ y
 same_gathered_key x y h =
-    let (diagram, values) = both (nat_eq x.diagram y.diagram) (nat_eq x.values y.values) h in
-    let r : x.diagram ≡ y.diagram = exact_unsigned_eq x.diagram y.diagram diagram in
-    let v : x.values ≡ y.values = exact_unsigned_eq x.values y.values values in
-    λ j. record { diagram = r j; values = v j }
+    let (diagram, values) = same_two x.diagram y.diagram x.values y.values h in
+    λ j. record { diagram = diagram j; values = values j }
 
 -- a test that is not true
 pub not_true : (b : Bool) → (b ≡ true → ⊥) → b ≡ false
@@ -115,7 +113,7 @@ module _ (diagrams : List DiagramKey) where
   gathered_key_of (c ∷ masks) p (inr later) = let (d, there, is) = gathered_key_of masks p later in (d, inr there, is)
 
   -- each path edge of the masks is of one of the keys
-  pub in_gathered_key : (masks : List (GatheredKey × ℕ)) (t : Triple) → Member t (edges (masks_of diagrams masks))
+  pub in_gathered_key : (masks : List (GatheredKey × ℕ)) (t : Triple) → Member t (mask_edges (masks_of diagrams masks))
       → (c : GatheredKey × ℕ) × Member c masks × IsOf (mask_key_at diagrams c.0, c.1) t
   in_gathered_key masks t m =
       let (p, there, is) = in_mask_key (masks_of diagrams masks) t m in
@@ -205,10 +203,10 @@ pub marked_masks : (diagrams : List DiagramKey) → IsDistinct diagram_eq diagra
     → (old new : List (GatheredKey × ℕ)) (i : ℕ) (s : GatheredKey) (bit : ℕ)
     → bit < 64 → AreWithin diagrams old → IsDistinct gathered_key_eq (keys_of old) → slice_get (keys_of old) i ≡ Some s → (added : Bool)
     → AddsPointAt i bit old new added
-    → PutsIn (edge_at (mask_key_at diagrams s) bit) (edges (masks_of diagrams old)) (edges (masks_of diagrams new)) added
+    → PutsIn (edge_at (mask_key_at diagrams s) bit) (mask_edges (masks_of diagrams old)) (mask_edges (masks_of diagrams new)) added
 marked_masks diagrams distinct old new i s bit small within once here added marks =
     let at = pair_at old i s marks.mask here marks.was in
-    subst (λ ps. PutsIn (edge_at (mask_key_at diagrams s) bit) (edges (masks_of diagrams old)) (edges ps) added)
+    subst (λ ps. PutsIn (edge_at (mask_key_at diagrams s) bit) (mask_edges (masks_of diagrams old)) (mask_edges ps) added)
     (sym (ap (masks_of diagrams) marks.is ∙ set_masks diagrams old i marks.marked))
     (settled (masks_of diagrams old) i (mask_key_at diagrams s) marks.mask marks.marked bit small
     (distinct_masks diagrams distinct old within once)

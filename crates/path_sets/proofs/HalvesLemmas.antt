@@ -63,7 +63,3 @@ module _ (low high l : ℕ) (small : low < 2 ^ 64) (least : 32 ≤ l) where
   high_goes some =
       let is = high_rest low high l small least in
       (omega (arith, is), λ none. some (sym is ∙ none))
-
--- and nothing is left of a valuation of 128 bits at last
-pub all_ends : (low high l : ℕ) → low < 2 ^ 64 → high < 2 ^ 64 → l ≡ 64 → (low + 2 ^ 64 * high) / 4 ^ l ≡ 0
-all_ends low high l small small' last = ap (λ k. (low + 2 ^ 64 * high) / 4 ^ k) last ∙ omega (arith, small, small')

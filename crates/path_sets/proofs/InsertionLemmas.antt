@@ -17,7 +17,7 @@ use Rattle.path_sets.specs.declared.diagrams.quad.Quad.{Quad}
 use Rattle.path_sets.specs.declared.diagrams.roots.DiagramKey.{DiagramKey}
 use Rattle.path_sets.specs.Masks.{bit_of, bits_below}
 use Rattle.path_sets.specs.Triples.{Triple}
-use Rattle.path_sets.specs.Edges.{edge_at, edges_in, edges}
+use Rattle.path_sets.specs.Edges.{edge_at, edges_in, mask_edges}
 use Rattle.path_sets.specs.Diagrams.{InRun, TakesGiven, merged_has, diagram_of}
 use Rattle.path_sets.specs.Insertions.{AreInsertions, InInsertions, IsInsertionOf, diagram_at}
 use Rattle.path_sets.proofs.TakesLemmas.{takes_on, takes_of}
@@ -56,16 +56,16 @@ edges_own c t h =
     )
 
 -- a path edge of one of the masks is among the edges
-pub placed : (gs : Groups) (c : MaskKey × ℕ) (t : Triple) → Member c gs → IsOf c t → Member t (edges gs)
+pub placed : (gs : Groups) (c : MaskKey × ℕ) (t : Triple) → Member c gs → IsOf c t → Member t (mask_edges gs)
 placed [] c t there is = elim there [ ]
 placed (g ∷ gs) c t (inl same) is =
-    member_left t (edges_in g.0 g.1) (edges gs) (own_edges g t (subst (λ k. IsOf k t) same is))
-placed (g ∷ gs) c t (inr later) is = member_right t (edges_in g.0 g.1) (edges gs) (placed gs c t later is)
+    member_left t (edges_in g.0 g.1) (mask_edges gs) (own_edges g t (subst (λ k. IsOf k t) same is))
+placed (g ∷ gs) c t (inr later) is = member_right t (edges_in g.0 g.1) (mask_edges gs) (placed gs c t later is)
 
 -- and each of the edges is of one of the masks
-pub in_mask_key : (gs : Groups) (t : Triple) → Member t (edges gs) → (c : MaskKey × ℕ) × Member c gs × IsOf c t
+pub in_mask_key : (gs : Groups) (t : Triple) → Member t (mask_edges gs) → (c : MaskKey × ℕ) × Member c gs × IsOf c t
 in_mask_key [] t h = elim h [ ]
-in_mask_key (g ∷ gs) t h = elim (member_append t (edges_in g.0 g.1) (edges gs) h) [
+in_mask_key (g ∷ gs) t h = elim (member_append t (edges_in g.0 g.1) (mask_edges gs) h) [
   | inl own ↦ (g, inl refl, edges_own g t own)
   | inr later ↦ let r = in_mask_key gs t later in (r.0, inr r.1, r.2)
 ]
@@ -83,10 +83,10 @@ at_index (y ∷ xs) x zero h = inl (sym (same_Some y x h))
 at_index (y ∷ xs) x (suc i) h = inr (at_index xs x i h)
 
 -- the edges of masks and of more masks are the edges of all of them
-pub edges_append : (gs hs : Groups) → edges (gs ++ hs) ≡ edges gs ++ edges hs
+pub edges_append : (gs hs : Groups) → mask_edges (gs ++ hs) ≡ mask_edges gs ++ mask_edges hs
 edges_append [] hs = refl
 edges_append (g ∷ gs) hs =
-    ap (λ es. edges_in g.0 g.1 ++ es) (edges_append gs hs) ∙ sym (append_assoc (edges_in g.0 g.1) (edges gs) (edges hs))
+    ap (λ es. edges_in g.0 g.1 ++ es) (edges_append gs hs) ∙ sym (append_assoc (edges_in g.0 g.1) (mask_edges gs) (mask_edges hs))
 
 -- what is among items is among them in another order
 pub reordered : {A : Type 0} (xs ys : List A) (x : A) → IsPermutation xs ys → Member x xs → Member x ys
@@ -107,7 +107,7 @@ insertions_reordered diagrams gs cs ds order are = record {
 
 -- the path edges of insertions are those of their masks
 module _ (diagrams : List DiagramKey) (gs : Groups) (cs : List Insertion) (are : AreInsertions diagrams gs cs) where
-  pub of_insertions : (t : Triple) → InInsertions diagrams cs t → Member t (edges gs)
+  pub of_insertions : (t : Triple) → InInsertions diagrams cs t → Member t (mask_edges gs)
   of_insertions t (c, there, diagram, values, set) =
       let (p, m, (at, whole, mask)) = are.no_more c there in
       let same : diagram_at t ≡ diagram_of p.0 = same_Some (diagram_at t) (diagram_of p.0) (sym diagram ∙ at) in
@@ -118,7 +118,7 @@ module _ (diagrams : List DiagramKey) (gs : Groups) (cs : List Insertion) (are :
         ap (λ k. bit_of k (t.point % 64)) (sym mask) ∙ set,
       )
 
-  pub in_insertions : (t : Triple) → Member t (edges gs) → InInsertions diagrams cs t
+  pub in_insertions : (t : Triple) → Member t (mask_edges gs) → InInsertions diagrams cs t
   in_insertions t h =
       let (p, m, (entry, block, values, set)) = in_mask_key gs t h in
       let (c, there, (at, whole, mask)) = are.each p m in

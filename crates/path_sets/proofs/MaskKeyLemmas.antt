@@ -1,6 +1,7 @@
 -- Places that compare as equal, and the edges of a key.
 use Rattle.std.proofs.Common.{◌≡◌, ℕ, ◌+◌, ◌*◌, ◌<◌, Bool, true, false, ◌&&◌, nat_eq, refl, sym}
 use Rattle.std.proofs.Common.{ap, ap₂, subst, true≢false, eq-eqb, arith}
+use Rattle.std.specs.Bool.{beq}
 use Rattle.std.proofs.lemmas.Map.Views.{exact_unsigned_eq}
 use Rattle.language.specs.Lists.{Member}
 use Rattle.language.proofs.Members.{map_member}
@@ -15,16 +16,28 @@ pub both : (a b : Bool) → (a && b) ≡ true → (a ≡ true) × (b ≡ true)
 both true b h = (refl, h)
 both false b h = absurd (true≢false (sym h))
 
--- three numbers that compare as equal, each with its own, are the same, and the same compare as equal
+-- values that compare as equal are the same
+pub same_flag : (a b : Bool) → beq a b ≡ true → a ≡ b
+same_flag true true h = refl
+same_flag true false h = absurd (true≢false (sym h))
+same_flag false true h = absurd (true≢false (sym h))
+same_flag false false h = refl
+
+-- two or three numbers that compare as equal, each with its own, are the same, and the same compare as equal
+pub same_two : (a a' b b' : ℕ) → (nat_eq a a' && nat_eq b b') ≡ true → (a ≡ a') × (b ≡ b')
+same_two a a' b b' h =
+    let (first, second) = both (nat_eq a a') (nat_eq b b') h in
+    (exact_unsigned_eq a a' first, exact_unsigned_eq b b' second)
+
 pub same_three : (a a' b b' c c' : ℕ) → (nat_eq a a' && (nat_eq b b' && nat_eq c c')) ≡ true
     → (a ≡ a') × (b ≡ b') × (c ≡ c')
 same_three a a' b b' c c' h =
     let (first, rest) = both (nat_eq a a') (nat_eq b b' && nat_eq c c') h in
-    let (second, third) = both (nat_eq b b') (nat_eq c c') rest in
-    (exact_unsigned_eq a a' first, exact_unsigned_eq b b' second, exact_unsigned_eq c c' third)
+    let (second, third) = same_two b b' c c' rest in
+    (exact_unsigned_eq a a' first, second, third)
 
-pub eq_three : (a a' b b' c c' : ℕ) → a ≡ a' → b ≡ b' → c ≡ c' → (nat_eq a a' && (nat_eq b b' && nat_eq c c')) ≡ true
-eq_three a a' b b' c c' x y z = ap₂ ◌&&◌ (eq-eqb a a' x) (ap₂ ◌&&◌ (eq-eqb b b' y) (eq-eqb c c' z))
+pub three_self : (a b c : ℕ) → (nat_eq a a && (nat_eq b b && nat_eq c c)) ≡ true
+three_self a b c = ap₂ ◌&&◌ (eq-eqb a a refl) (ap₂ ◌&&◌ (eq-eqb b b refl) (eq-eqb c c refl))
 
 -- masks that compare as equal are the same
 pub same_mask_key : (x y : MaskKey) → mask_key_eq x y ≡ true → x ≡ y
@@ -34,9 +47,7 @@ same_mask_key x y h =
 
 -- the same key compares as equal
 pub eq_mask_key : (x y : MaskKey) → x ≡ y → mask_key_eq x y ≡ true
-eq_mask_key x y is =
-    eq_three x.entry y.entry x.values y.values x.block y.block (ap (λ (p : MaskKey). p.entry) is) (ap (λ (p : MaskKey). p.values) is)
-    (ap (λ (p : MaskKey). p.block) is)
+eq_mask_key x y is = subst (λ z. mask_key_eq x z ≡ true) is (three_self x.entry x.values x.block)
 
 -- an edge among those of a mask is of its key, and its bit is 1
 pub own_edge : (p q : MaskKey) (b m : ℕ) → b < 64 → Member (edge_at p b) (edges_in q m) →

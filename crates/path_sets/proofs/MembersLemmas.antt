@@ -9,10 +9,10 @@ use Rattle.path_sets.specs.declared.diagrams.quad.Quad.{Quad}
 use Rattle.path_sets.specs.declared.points.mask_key.MaskKey.{MaskKey}
 use Rattle.path_sets.specs.declared.diagrams.roots.DiagramKey.{DiagramKey}
 use Rattle.path_sets.specs.Triples.{Triple, triple}
-use Rattle.path_sets.specs.Edges.{edges}
+use Rattle.path_sets.specs.Edges.{mask_edges}
 use Rattle.path_sets.specs.Diagrams.{TakesGiven, merged_has}
 use Rattle.path_sets.specs.Members.{below, each, universe, triple_eq, has_edge, all_edges, IsEdgeThere}
-use Rattle.path_sets.proofs.MaskKeyLemmas.{same_three, eq_three}
+use Rattle.path_sets.proofs.MaskKeyLemmas.{same_three, three_self}
 use Rattle.path_sets.proofs.FilterLemmas.{kept_is, is_kept, same_kept, kept_none_twice, one_more, in_each}
 use Rattle.path_sets.proofs.FilterLemmas.{of_each, each_none_twice, map_none_twice, in_below, of_below, below_none_twice}
 
@@ -65,9 +65,7 @@ same_triple x y h =
     λ j. record { entry = e j; point = p j; values = v j }
 
 pub triple_self : (x y : Triple) → x ≡ y → triple_eq x y ≡ true
-triple_self x y is =
-    eq_three x.entry y.entry x.point y.point x.values y.values (ap (λ (t : Triple). t.entry) is) (ap (λ (t : Triple). t.point) is)
-    (ap (λ (t : Triple). t.values) is)
+triple_self x y is = subst (λ z. triple_eq x z ≡ true) is (three_self x.entry x.point x.values)
 
 -- the test for members of a list
 pub any_member : (t : Triple) (ts : List Triple) → list_any (triple_eq t) ts ≡ true → Member t ts
@@ -112,15 +110,15 @@ module _ (nodes : List Quad) (diagrams : List (DiagramKey × ℕ)) (masks : List
   Has t = IsEdgeThere nodes diagrams masks t
 
   pub has_is : (t : Triple) → has_edge nodes diagrams masks t ≡ true → Has t
-  has_is t h = elim (or_is (merged_has nodes diagrams t) (list_any (triple_eq t) (edges masks)) h) [
+  has_is t h = elim (or_is (merged_has nodes diagrams t) (list_any (triple_eq t) (mask_edges masks)) h) [
     | inl in_sets ↦ inl in_sets
-    | inr gathered ↦ inr (any_member t (edges masks) gathered)
+    | inr gathered ↦ inr (any_member t (mask_edges masks) gathered)
   ]
 
   pub is_had : (t : Triple) → Has t → has_edge nodes diagrams masks t ≡ true
-  is_had t (inl in_sets) = or_left (merged_has nodes diagrams t) (list_any (triple_eq t) (edges masks)) in_sets
+  is_had t (inl in_sets) = or_left (merged_has nodes diagrams t) (list_any (triple_eq t) (mask_edges masks)) in_sets
   is_had t (inr gathered) =
-      or_right (merged_has nodes diagrams t) (list_any (triple_eq t) (edges masks)) (member_any t (edges masks) gathered)
+      or_right (merged_has nodes diagrams t) (list_any (triple_eq t) (mask_edges masks)) (member_any t (mask_edges masks) gathered)
 
   -- a path edge of words is a member exactly if it is had
   pub member_is : (t : Triple) → Member t (all_edges nodes diagrams masks) → Has t
@@ -154,9 +152,9 @@ module _ (ns ms : List Quad) (rs ss : List (DiagramKey × ℕ)) (masks masks' : 
       (λ had. is_had ms ss masks' t (f.0 (has_is ns rs masks t had))))
 
   -- path edges that go from those gathered into the sets are still there
-  pub members_stay : TakesGiven (λ t. Member t (edges masks)) ns ms rs ss
-      → ((t : Triple) → Member t (edges masks') → Member t (edges masks))
-      → ((t : Triple) → Member t (edges masks) → (merged_has ms ss t ≡ true) ⊎ Member t (edges masks'))
+  pub members_stay : TakesGiven (λ t. Member t (mask_edges masks)) ns ms rs ss
+      → ((t : Triple) → Member t (mask_edges masks') → Member t (mask_edges masks))
+      → ((t : Triple) → Member t (mask_edges masks) → (merged_has ms ss t ≡ true) ⊎ Member t (mask_edges masks'))
       → all_edges ms ss masks' ≡ all_edges ns rs masks
   members_stay takes fewer all = same_members (λ t. (
     λ h. elim h [ inl was ↦ inl (takes.kept t was) | inr gathered ↦ all t gathered ],
@@ -167,7 +165,7 @@ module _ (ns ms : List Quad) (rs ss : List (DiagramKey × ℕ)) (masks masks' : 
   ))
 
 -- the same is gathered
-pub same_gathered : (ns : List Quad) (rs : List (DiagramKey × ℕ)) (masks masks' : List (MaskKey × ℕ)) → edges masks' ≡ edges masks
+pub same_gathered : (ns : List Quad) (rs : List (DiagramKey × ℕ)) (masks masks' : List (MaskKey × ℕ)) → mask_edges masks' ≡ mask_edges masks
     → all_edges ns rs masks' ≡ all_edges ns rs masks
 same_gathered ns rs masks masks' same =
     ap (λ es. filter (λ t. merged_has ns rs t || list_any (triple_eq t) es) universe) same
@@ -205,7 +203,7 @@ module _ (ns : List Quad) (rs : List (DiagramKey × ℕ)) (masks masks' : List (
 -- sets with nothing have no members
 pub no_members : (ns : List Quad) (rs : List (DiagramKey × ℕ)) (masks : List (MaskKey × ℕ))
     → ((t : Triple) → merged_has ns rs t ≡ false)
-    → edges masks ≡ []
+    → mask_edges masks ≡ []
     → all_edges ns rs masks ≡ []
 no_members ns rs masks none empty = by (all_edges ns rs masks) refl
   where

@@ -1,7 +1,7 @@
 -- The diagram of one point, made of nodes that test one bit.
 use Rattle.std.proofs.Common.{◌≡◌, ℕ, zero, suc, ◌+◌, ◌*◌, ◌/◌, ◌%◌, ◌^◌, ◌<◌, ◌≤◌, ◌==◌, Bool}
 use Rattle.std.proofs.Common.{true, false, cond, ◌&&◌, nat_eq}
-use Rattle.std.proofs.Common.{List, Some, inl, inr, refl, sym, ap, ◌∙◌, subst, arith, true≢false, eq-eqb}
+use Rattle.std.proofs.Common.{List, Some, inl, inr, refl, sym, ap, ◌∙◌, subst, arith, eq-eqb}
 use Rattle.std.specs.Prelude.{Result, Ok, Err, IfOk}
 use Rattle.std.specs.Bool.{beq}
 use Rattle.std.specs.Map.{lookup}
@@ -18,7 +18,7 @@ use Rattle.path_sets.specs.Quads.{is_at, levels, points_of, sees, quad_child}
 use Rattle.path_sets.specs.Diagrams.{accepts, child, KeepsNodes, level_of}
 use Rattle.path_sets.specs.OneBitDiagrams.{Solves, AreSolved, subproblem_eq}
 use Rattle.path_sets.proofs.GrowthLemmas.{keeps_on}
-use Rattle.path_sets.proofs.MaskKeyLemmas.{both}
+use Rattle.path_sets.proofs.MaskKeyLemmas.{both, same_flag}
 use Rattle.path_sets.proofs.ShiftLemmas.{down_bit, four_pow, next_rest}
 use Rattle.path_sets.proofs.QuadLemmas.{no_points}
 use Rattle.path_sets.proofs.WalkLemmas.{at_leaf}
@@ -78,13 +78,7 @@ leaf_level ns zero h = refl
 leaf_level ns (suc zero) h = refl
 leaf_level ns (suc (suc n)) h = absurd (omega (arith, h))
 
--- what is subproblem for compares as equal only if it is
-same_flag : (a b : Bool) → beq a b ≡ true → a ≡ b
-same_flag true true h = refl
-same_flag true false h = absurd (true≢false (sym h))
-same_flag false true h = absurd (true≢false (sym h))
-same_flag false false h = refl
-
+-- subproblems that compare as equal are the same
 same_subproblem : (x y : Subproblem) → subproblem_eq x y ≡ true → x ≡ y
 same_subproblem x y h =
     let (number, rest) = both (nat_eq x.number y.number) (beq x.zero y.zero && nat_eq x.level y.level) h in

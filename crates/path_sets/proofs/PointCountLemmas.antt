@@ -8,7 +8,7 @@ use Rattle.path_sets.specs.declared.diagrams.quad.Quad.{Quad}
 use Rattle.path_sets.specs.declared.points.mask_key.MaskKey.{MaskKey}
 use Rattle.path_sets.specs.declared.diagrams.roots.DiagramKey.{DiagramKey}
 use Rattle.path_sets.specs.Triples.{Triple, triple}
-use Rattle.path_sets.specs.Edges.{edge_at, edges}
+use Rattle.path_sets.specs.Edges.{edge_at, mask_edges}
 use Rattle.path_sets.specs.Masks.{bit_of}
 use Rattle.path_sets.specs.Quads.{points_of}
 use Rattle.path_sets.specs.Diagrams.{accepts, merged_has, root_of, TakesGiven}
@@ -80,8 +80,8 @@ point_nodes qs rs e b i root ns n r small at same has =
 module _ (ns ms os : List Quad) (rs ss ts : List (DiagramKey × ℕ)) (masks : List (MaskKey × ℕ)) (e p : ℕ) (entry : e < 2 ^ word_bits)
     (point : p < 2 ^ 64)
     (alone : (v : ℕ) → merged_has ms ss (triple e p v) ≡ merged_has ns rs (triple e p v))
-    (takes : TakesGiven (λ t. Member t (edges masks)) ms os ss ts)
-    (all : (t : Triple) → Member t (edges masks) → merged_has os ts t ≡ true) where
+    (takes : TakesGiven (λ t. Member t (mask_edges masks)) ms os ss ts)
+    (all : (t : Triple) → Member t (mask_edges masks) → merged_has os ts t ≡ true) where
   -- a point's set alone, with what is gathered put in, has the members at that point
   members_there : (v : ℕ)
       → ((v < 2 ^ word_bits) × (merged_has os ts (triple e p v) ≡ true)) ↔ Member (triple e p v) (all_edges ns rs masks)
@@ -110,8 +110,8 @@ pub member_nodes : (ns ms os : List Quad) (rs ss ts : List (DiagramKey × ℕ)) 
     → edge_at mask_key i ≡ triple e p v
     → ((j v : ℕ) → j < 64
     → merged_has ms ss (triple e (64 * mask_key.block + j) v) ≡ merged_has ns rs (triple e (64 * mask_key.block + j) v))
-    → TakesGiven (λ t. Member t (edges masks)) ms os ss ts
-    → ((t : Triple) → Member t (edges masks) → merged_has os ts t ≡ true)
+    → TakesGiven (λ t. Member t (mask_edges masks)) ms os ss ts
+    → ((t : Triple) → Member t (mask_edges masks) → merged_has os ts t ≡ true)
     → IfOk r (HasNodes word_bits (λ v. (v < 2 ^ word_bits) × (merged_has os ts (triple e (64 * mask_key.block + i) v) ≡ true)))
     → IfOk r (HasNodes word_bits (λ v. Member (triple e p v) (all_edges ns rs masks)))
 member_nodes ns ms os rs ss ts masks mask_key i e p v r entry point small at alone takes all has =

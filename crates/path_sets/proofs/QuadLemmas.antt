@@ -146,10 +146,6 @@ keeps_on ns ms os a b =
       same = λ n v inside. b.same n v (omega (arith, inside, la)) ∙ a.same n v inside;
     }
 
--- a number stays one, and so do a node's children
-pub stays_number : (ns ms : List Quad) (n : ℕ) → KeepQuads ns ms → IsNumber ns n → IsNumber ms n
-stays_number ns ms n keeps inside = let longer = keeps.longer in omega (arith, inside, longer)
-
 pub stays_inside : (ns ms : List Quad) (x : Quad) → KeepQuads ns ms → AreInside ns x → AreInside ms x
 stays_inside ns ms x keeps inside =
     let longer = keeps.longer in

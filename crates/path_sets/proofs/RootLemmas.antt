@@ -1,5 +1,5 @@
 -- The numbers of diagrams after one is given, and their indexes.
-use Rattle.std.proofs.Common.{◌≡◌, ℕ, zero, suc, ◌<◌, Bool, true, false, cond, ◌&&◌, nat_eq, List, [], ◌∷◌, ◌++◌}
+use Rattle.std.proofs.Common.{◌≡◌, ℕ, zero, suc, ◌<◌, Bool, true, false, cond, ◌&&◌, List, [], ◌∷◌, ◌++◌}
 use Rattle.std.proofs.Common.{Option, None}
 use Rattle.std.proofs.Common.{Some, IfSome, get_or, length, is_some, ◌⊎◌, inl, inr, subst, arith}
 use Rattle.std.proofs.Common.{slice_get, position, refl, sym, ap, ap₂, ◌∙◌, true≢false, eq-eqb}
@@ -8,13 +8,12 @@ use Rattle.std.specs.Option.{option_map, option_map_or}
 use Rattle.std.proofs.lemmas.Bool.{cases_eq}
 use Rattle.std.specs.Map.{keys_of, lookup}
 use Rattle.std.specs.Cmp.{IsEquivalence}
-use Rattle.std.proofs.lemmas.Map.Views.{exact_unsigned_eq}
 use Rattle.path_sets.specs.declared.diagrams.roots.DiagramKey.{DiagramKey}
 use Rattle.path_sets.specs.Diagrams.{diagram_eq, root_of, GivesRoot}
 use Rattle.path_sets.specs.Insertions.{RootsStay}
 use Rattle.std.proofs.lemmas.List.Quantifiers.{position-Some}
 use Rattle.std.proofs.lemmas.Option.{slice_get-get_or}
-use Rattle.path_sets.proofs.MaskKeyLemmas.{both}
+use Rattle.path_sets.proofs.MaskKeyLemmas.{same_two}
 
 -- a test that tells values apart is an equivalence
 module _ {K : Type 0} (eq : K → K → Bool) (self : (x : K) → eq x x ≡ true) (same : (x y : K) → eq x y ≡ true → x ≡ y) where
@@ -45,10 +44,8 @@ diagram_self x = ap₂ ◌&&◌ (eq-eqb x.entry x.entry refl) (eq-eqb x.block x.
 
 pub same_diagram : (x y : DiagramKey) → diagram_eq x y ≡ true → x ≡ y
 same_diagram x y h =
-    let (entry, block) = both (nat_eq x.entry y.entry) (nat_eq x.block y.block) h in
-    let e : x.entry ≡ y.entry = exact_unsigned_eq x.entry y.entry entry in
-    let b : x.block ≡ y.block = exact_unsigned_eq x.block y.block block in
-    λ j. record { entry = e j; block = b j }
+    let (entry, block) = same_two x.entry y.entry x.block y.block h in
+    λ j. record { entry = entry j; block = block j }
 
 pub diagram_laws : IsEquivalence diagram_eq
 diagram_laws = equivalence diagram_eq diagram_self same_diagram

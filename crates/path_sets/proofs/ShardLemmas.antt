@@ -1,62 +1,60 @@
 -- The path edges of shards when one shard is replaced by another, and when an entry gets a shard.
-use Rattle.std.proofs.Common.{◌≡◌, ◌<◌, ◌⊎◌, ℕ, zero, suc, Bool, true, false, cond, nat_eq, List, [], ◌∷◌, ◌++◌, length}
+use Rattle.std.proofs.Common.{◌≡◌, ◌⊎◌, ℕ, zero, suc, Bool, true, false, nat_eq, List, [], ◌∷◌, ◌++◌}
 use Rattle.std.proofs.Common.{None, Some, Result, Ok, Err, OnErr, slice_get, slice_set, inl, inr, refl, sym, ap, ◌∙◌, subst}
-use Rattle.std.proofs.Common.{eq-eqb}
 use Rattle.std.specs.Map.{lookup}
-use Rattle.std.proofs.lemmas.Map.Views.{exact_unsigned_eq}
 use Rattle.std.proofs.lemmas.Option.{none-some, same_Some}
 use Rattle.language.specs.Lists.{Member}
 use Rattle.language.proofs.Members.{member_left, member_right, member_append}
 use Rattle.path_sets.specs.declared.ordered.shard.Shard.{Shard}
-use Rattle.path_sets.specs.Edges.{edges}
+use Rattle.path_sets.specs.Edges.{mask_edges}
 use Rattle.path_sets.specs.Inserts.{Inserts, PutsIn}
-use Rattle.path_sets.specs.Shards.{edges_at, all_in, AreHome, AreThere}
+use Rattle.path_sets.specs.Shards.{edges_at, all_in, AreHome}
 use Rattle.path_sets.specs.Triples.{Triple}
 use Rattle.path_sets.proofs.InsertsLemmas.{behind, before, is_new_or_old}
 
 module _ {A : Type 0} where
   -- a shard's path edges are those of its masks
-  pub at_is : (ss : List (Shard A)) (k : ℕ) (s : Shard A) → slice_get ss k ≡ Some s → edges_at ss k ≡ edges s.masks.entries
+  pub at_is : (ss : List (Shard A)) (k : ℕ) (s : Shard A) → slice_get ss k ≡ Some s → edges_at ss k ≡ mask_edges s.masks.entries
   at_is [] k s at = absurd (none-some s at)
-  at_is (r ∷ ss) zero s at = ap (λ (h : Shard A). edges h.masks.entries) (same_Some r s at)
+  at_is (r ∷ ss) zero s at = ap (λ (h : Shard A). mask_edges h.masks.entries) (same_Some r s at)
   at_is (r ∷ ss) (suc k) s at = at_is ss k s at
 
   -- a path edge of a shard is one of all
   pub at_all : (ss : List (Shard A)) (k : ℕ) (t : Triple) → Member t (edges_at ss k) → Member t (all_in ss)
   at_all [] k t m = m
-  at_all (s ∷ ss) zero t m = member_left t (edges s.masks.entries) (all_in ss) m
-  at_all (s ∷ ss) (suc k) t m = member_right t (edges s.masks.entries) (all_in ss) (at_all ss k t m)
+  at_all (s ∷ ss) zero t m = member_left t (mask_edges s.masks.entries) (all_in ss) m
+  at_all (s ∷ ss) (suc k) t m = member_right t (mask_edges s.masks.entries) (all_in ss) (at_all ss k t m)
 
   -- each path edge is in a shard
   pub all_at : (ss : List (Shard A)) (t : Triple) → Member t (all_in ss) → (k : ℕ) × Member t (edges_at ss k)
   all_at [] t m = (0, m)
   all_at (s ∷ ss) t m =
-      elim (member_append t (edges s.masks.entries) (all_in ss) m) [
+      elim (member_append t (mask_edges s.masks.entries) (all_in ss) m) [
         | inl first ↦ (0, first)
         | inr later ↦ let (k, there) = all_at ss t later in (suc k, there)
       ]
 
   -- one more path edge in a shard is one more in all
   put_in_all : (ss : List (Shard A)) (k : ℕ) (s w : Shard A) (x : Triple) → slice_get ss k ≡ Some s
-      → Inserts x (edges s.masks.entries) (edges w.masks.entries) → Inserts x (all_in ss) (all_in (slice_set ss k w))
+      → Inserts x (mask_edges s.masks.entries) (mask_edges w.masks.entries) → Inserts x (all_in ss) (all_in (slice_set ss k w))
   put_in_all [] k s w x at more = absurd (none-some s at)
   put_in_all (r ∷ ss) zero s w x at more =
-      before x (edges r.masks.entries) (edges w.masks.entries) (all_in ss)
-      (subst (λ (h : Shard A). Inserts x (edges h.masks.entries) (edges w.masks.entries)) (sym (same_Some r s at)) more)
+      before x (mask_edges r.masks.entries) (mask_edges w.masks.entries) (all_in ss)
+      (subst (λ (h : Shard A). Inserts x (mask_edges h.masks.entries) (mask_edges w.masks.entries)) (sym (same_Some r s at)) more)
   put_in_all (r ∷ ss) (suc k) s w x at more =
-      behind x (edges r.masks.entries) (all_in ss) (all_in (slice_set ss k w)) (put_in_all ss k s w x at more)
+      behind x (mask_edges r.masks.entries) (all_in ss) (all_in (slice_set ss k w)) (put_in_all ss k s w x at more)
 
   -- a shard with the same path edges makes no difference
   pub same_all : (ss : List (Shard A)) (k : ℕ) (s w : Shard A) → slice_get ss k ≡ Some s
-      → edges w.masks.entries ≡ edges s.masks.entries → all_in (slice_set ss k w) ≡ all_in ss
+      → mask_edges w.masks.entries ≡ mask_edges s.masks.entries → all_in (slice_set ss k w) ≡ all_in ss
   same_all [] k s w at same = refl
   same_all (r ∷ ss) zero s w at same =
-      ap (λ ts. ts ++ all_in ss) (same ∙ sym (ap (λ (h : Shard A). edges h.masks.entries) (same_Some r s at)))
-  same_all (r ∷ ss) (suc k) s w at same = ap (λ ts. edges r.masks.entries ++ ts) (same_all ss k s w at same)
+      ap (λ ts. ts ++ all_in ss) (same ∙ sym (ap (λ (h : Shard A). mask_edges h.masks.entries) (same_Some r s at)))
+  same_all (r ∷ ss) (suc k) s w at same = ap (λ ts. mask_edges r.masks.entries ++ ts) (same_all ss k s w at same)
 
   -- a path edge that is in a shard then is one of the new shard, or was there before
   was_at : (ss : List (Shard A)) (k : ℕ) (w : Shard A) (j : ℕ) (t : Triple) → Member t (edges_at (slice_set ss k w) j)
-      → ((j ≡ k) × Member t (edges w.masks.entries)) ⊎ Member t (edges_at ss j)
+      → ((j ≡ k) × Member t (mask_edges w.masks.entries)) ⊎ Member t (edges_at ss j)
   was_at [] k w j t m = inr m
   was_at (r ∷ ss) zero w zero t m = inl (refl, m)
   was_at (r ∷ ss) zero w (suc j) t m = inr m
@@ -65,11 +63,11 @@ module _ {A : Type 0} where
       elim (was_at ss k w j t m) [ inl h ↦ inl (ap suc h.0, h.1) | inr h ↦ inr h ]
 
   -- one more shard, which is empty, makes no difference
-  pub one_more : (ss : List (Shard A)) (w : Shard A) → edges w.masks.entries ≡ [] → all_in (ss ++ w ∷ []) ≡ all_in ss
+  pub one_more : (ss : List (Shard A)) (w : Shard A) → mask_edges w.masks.entries ≡ [] → all_in (ss ++ w ∷ []) ≡ all_in ss
   one_more [] w none = ap (λ ts. ts ++ []) none
-  one_more (s ∷ ss) w none = ap (λ ts. edges s.masks.entries ++ ts) (one_more ss w none)
+  one_more (s ∷ ss) w none = ap (λ ts. mask_edges s.masks.entries ++ ts) (one_more ss w none)
 
-  pub one_more_at : (ss : List (Shard A)) (w : Shard A) (k : ℕ) → edges w.masks.entries ≡ []
+  pub one_more_at : (ss : List (Shard A)) (w : Shard A) (k : ℕ) → mask_edges w.masks.entries ≡ []
       → edges_at (ss ++ w ∷ []) k ≡ edges_at ss k
   one_more_at [] w zero none = none
   one_more_at [] w (suc k) none = refl
@@ -79,29 +77,29 @@ module _ {A : Type 0} where
   module _ (homes : List (ℕ × ℕ)) (ss : List (Shard A)) (home : AreHome homes ss) (k : ℕ) (s : Shard A) (x : Triple)
       (own : lookup (nat_eq x.entry) homes ≡ Some k) (at : slice_get ss k ≡ Some s) where
     -- a path edge of an entry is one of its shard
-    pub in_own : Member x (all_in ss) → Member x (edges s.masks.entries)
+    pub in_own : Member x (all_in ss) → Member x (mask_edges s.masks.entries)
     in_own m =
         let (j, there) = all_at ss x m in
         let same : j ≡ k = same_Some j k (sym (home j x there) ∙ own) in
         subst (Member x) (at_is ss k s at) (subst (λ n. Member x (edges_at ss n)) same there)
 
-    pub of_own : Member x (edges s.masks.entries) → Member x (all_in ss)
+    pub of_own : Member x (mask_edges s.masks.entries) → Member x (all_in ss)
     of_own m = at_all ss k x (subst (Member x) (sym (at_is ss k s at)) m)
 
     module _ (w : Shard A) where
       -- what is decided in the entry's shard is decided for all
-      pub settles_all : (added : Bool) → PutsIn x (edges s.masks.entries) (edges w.masks.entries) added
+      pub settles_all : (added : Bool) → PutsIn x (mask_edges s.masks.entries) (mask_edges w.masks.entries) added
           → PutsIn x (all_in ss) (all_in (slice_set ss k w)) added
       settles_all true (more, new) = (put_in_all ss k s w x at more, λ m. new (in_own m))
       settles_all false (same, known) = (same_all ss k s w at same, of_own known)
 
-      old_or_new : (added : Bool) → PutsIn x (edges s.masks.entries) (edges w.masks.entries) added → (t : Triple)
-          → Member t (edges w.masks.entries) → (t ≡ x) ⊎ Member t (edges s.masks.entries)
+      old_or_new : (added : Bool) → PutsIn x (mask_edges s.masks.entries) (mask_edges w.masks.entries) added → (t : Triple)
+          → Member t (mask_edges w.masks.entries) → (t ≡ x) ⊎ Member t (mask_edges s.masks.entries)
       old_or_new true (more, new) t m = is_new_or_old x t _ _ more m
       old_or_new false (same, known) t m = inr (subst (Member t) same m)
 
       -- and each path edge is in its entry's shard still
-      pub home_stays : (added : Bool) → PutsIn x (edges s.masks.entries) (edges w.masks.entries) added
+      pub home_stays : (added : Bool) → PutsIn x (mask_edges s.masks.entries) (mask_edges w.masks.entries) added
           → AreHome homes (slice_set ss k w)
       home_stays added settles j t m =
           elim (was_at ss k w j t m) [
@@ -116,7 +114,7 @@ module _ {A : Type 0} where
 
   -- the same if the new shard has the path edges of the old one
   pub home_same : (homes : List (ℕ × ℕ)) (ss : List (Shard A)) → AreHome homes ss → (k : ℕ) (s w : Shard A)
-      → slice_get ss k ≡ Some s → edges w.masks.entries ≡ edges s.masks.entries → AreHome homes (slice_set ss k w)
+      → slice_get ss k ≡ Some s → mask_edges w.masks.entries ≡ mask_edges s.masks.entries → AreHome homes (slice_set ss k w)
   home_same homes ss home k s w at same j t m =
       elim (was_at ss k w j t m) [
         | inl new ↦ subst (λ n. lookup (nat_eq t.entry) homes ≡ Some n) (sym new.0)
@@ -130,31 +128,6 @@ module _ {A : Type 0} where
   none_without homes ss home t none m =
       let (k, there) = all_at ss t m in
       none-some k (sym none ∙ home k t there)
-
-module _ (old new : List (ℕ × ℕ)) (e k : ℕ) (none : lookup (nat_eq e) old ≡ None)
-    (updates : (q : ℕ) → lookup (nat_eq q) new ≡ cond (nat_eq e q) (Some k) (lookup (nat_eq q) old)) where
-  -- an entry that has a shard keeps it if another one gets its own
-  keeps : (q j : ℕ) → lookup (nat_eq q) old ≡ Some j → lookup (nat_eq q) new ≡ Some j
-  keeps q j is = by (nat_eq e q) refl
-    where
-      by : (b : Bool) → nat_eq e q ≡ b → lookup (nat_eq q) new ≡ Some j
-      by true h = absurd (none-some j (sym none ∙ ap (λ n. lookup (nat_eq n) old) (exact_unsigned_eq e q h) ∙ is))
-      by false h = updates q ∙ ap (λ b. cond b (Some k) (lookup (nat_eq q) old)) h ∙ is
-
-  pub settled_home : {A : Type 0} (ss : List (Shard A)) → AreHome old ss → AreHome new ss
-  settled_home ss home j t m = keeps t.entry j (home j t m)
-
-  pub settled_there : {A : Type 0} (ss : List (Shard A)) → AreThere old ss → k < length ss → AreThere new ss
-  settled_there ss there within q j is = by (nat_eq e q) refl
-    where
-      by : (b : Bool) → nat_eq e q ≡ b → j < length ss
-      by true h =
-          subst (λ n. n < length ss)
-          (same_Some k j (sym (updates q ∙ ap (λ b. cond b (Some k) (lookup (nat_eq q) old)) h) ∙ is)) within
-      by false h = there q j (sym (updates q ∙ ap (λ b. cond b (Some k) (lookup (nat_eq q) old)) h) ∙ is)
-
-  pub settled_own : lookup (nat_eq e) new ≡ Some k
-  settled_own = updates e ∙ ap (λ b. cond b (Some k) (lookup (nat_eq e) old)) (eq-eqb e e refl)
 
 -- what holds before holds after an error
 pub at_error : {T E P : Type 0} (r : Result T E) → P → OnErr r P

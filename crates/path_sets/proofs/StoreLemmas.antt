@@ -1,13 +1,13 @@
 -- BitNodes that are put in if they are new.
 use Rattle.std.proofs.Common.{◌≡◌, ℕ, zero, suc, Bool, true, false, ◌&&◌, ◌||◌, nat_eq, List, [], ◌∷◌, ◌++◌}
-use Rattle.std.proofs.Common.{Some, slice_get, inl, inr, refl, sym, ap, ap₂, ◌∙◌, true≢false, is_some, eq-eqb}
+use Rattle.std.proofs.Common.{Some, slice_get, inl, inr, refl, sym, ap, ap₂, ◌∙◌, subst, true≢false, is_some, eq-eqb}
 use Rattle.std.specs.Prelude.{if◌then◌else◌}
 use Rattle.std.specs.List.{list_any}
 use Rattle.std.proofs.lemmas.Option.{same_Some}
 use Rattle.path_sets.specs.declared.counting.bit_node.BitNode.{BitNode}
 use Rattle.path_sets.specs.declared.diagrams.quad.Quad.{Quad}
 use Rattle.path_sets.specs.Walks.{IsGrown}
-use Rattle.path_sets.proofs.MaskKeyLemmas.{both}
+use Rattle.path_sets.proofs.MaskKeyLemmas.{both, same_three, three_self}
 use Rattle.std.proofs.lemmas.Bool.{eqb-true}
 
 -- whether two nodes are the same
@@ -15,9 +15,7 @@ abbrev pub node_eq : BitNode → BitNode → Bool
 node_eq x y = nat_eq x.level y.level && (nat_eq x.low y.low && nat_eq x.high y.high)
 
 node_self : (x y : BitNode) → x ≡ y → node_eq x y ≡ true
-node_self x y is =
-    ap₂ ◌&&◌ (eq-eqb x.level y.level (ap (λ (z : BitNode). z.level) is))
-    (ap₂ ◌&&◌ (eq-eqb x.low y.low (ap (λ (z : BitNode). z.low) is)) (eq-eqb x.high y.high (ap (λ (z : BitNode). z.high) is)))
+node_self x y is = subst (λ z. node_eq x z ≡ true) is (three_self x.level x.low x.high)
 
 -- whether two nodes of two bits are the same
 abbrev pub quad_eq : Quad → Quad → Bool
@@ -26,24 +24,21 @@ quad_eq x y = nat_eq x.points y.points && (nat_eq x.none y.none && (nat_eq x.fir
 
 pub quad_self : (x y : Quad) → x ≡ y → quad_eq x y ≡ true
 quad_self x y is =
-    ap₂ ◌&&◌ (eq-eqb x.points y.points (ap (λ (z : Quad). z.points) is))
-    (ap₂ ◌&&◌ (eq-eqb x.none y.none (ap (λ (z : Quad). z.none) is))
-    (ap₂ ◌&&◌ (eq-eqb x.first y.first (ap (λ (z : Quad). z.first) is))
-    (ap₂ ◌&&◌ (eq-eqb x.second y.second (ap (λ (z : Quad). z.second) is)) (eq-eqb x.both y.both (ap (λ (z : Quad). z.both) is)))))
+    subst (λ z. quad_eq x z ≡ true) is
+    (ap₂ ◌&&◌ (eq-eqb x.points x.points refl) (ap₂ ◌&&◌ (eq-eqb x.none x.none refl) (three_self x.first x.second x.both)))
 
 -- nodes of two bits that compare as equal are the same
 pub same_quad : (x y : Quad) → quad_eq x y ≡ true → x ≡ y
 same_quad x y h =
     let (points, rest) = both (nat_eq x.points y.points) _ h in
     let (none, rest') = both (nat_eq x.none y.none) _ rest in
-    let (first, rest'') = both (nat_eq x.first y.first) _ rest' in
-    let (second, third) = both (nat_eq x.second y.second) (nat_eq x.both y.both) rest'' in
+    let (first, second, last) = same_three x.first y.first x.second y.second x.both y.both rest' in
     λ j. record {
       points = eqb-true x.points y.points points j;
       none = eqb-true x.none y.none none j;
-      first = eqb-true x.first y.first first j;
-      second = eqb-true x.second y.second second j;
-      both = eqb-true x.both y.both third j;
+      first = first j;
+      second = second j;
+      both = last j;
     }
 
 module _ {X : Type 0} (eq : X → X → Bool) (self : (x y : X) → x ≡ y → eq x y ≡ true) where

@@ -35,14 +35,6 @@ numbers_stay ns ms rs keeps numbers e b =
     let was = numbers e b in
     omega (arith, longer, was)
 
--- and its diagram
-pub takes_none : (given : Triple → Type 0) (ns ms : List Quad) (rs : List (DiagramKey × ℕ)) → KeepQuads ns ms → HaveNumbers ns rs
-    → TakesGiven given ns ms rs rs
-takes_none given ns ms rs keeps numbers =
-    let same = λ (t : Triple). ap (λ m. bit_of m (t.point % 64))
-    (keeps.same (root_of rs t.entry (t.point / 64)) t.values (numbers t.entry (t.point / 64))) in
-    record { kept = λ t h. same t ∙ h; sound = λ t h. inl (sym (same t) ∙ h) }
-
 -- a diagram that is given a number has one, and so have the others
 pub numbers_on : (ms : List Quad) (rs ss : List (DiagramKey × ℕ)) (diagram : DiagramKey) (number : ℕ) → HaveNumbers ms rs
     → IsNumber ms number
@@ -100,7 +92,3 @@ pub takes_nothing : (given : Triple → Type 0) (ns : List Quad) (rs ss : List (
 takes_nothing given ns rs ss stay =
     let same = λ (t : Triple). ap (λ n. bit_of (points_of ns n t.values) (t.point % 64)) (stay.numbers t.entry (t.point / 64)) in
     record { kept = λ t h. same t ∙ h; sound = λ t h. inl (sym (same t) ∙ h) }
-
--- and each has a number
-pub numbers_as_they_were : (ns : List Quad) (rs ss : List (DiagramKey × ℕ)) → RootsStay rs ss → HaveNumbers ns rs → HaveNumbers ns ss
-numbers_as_they_were ns rs ss stay have e b = subst (IsNumber ns) (sym (stay.numbers e b)) (have e b)

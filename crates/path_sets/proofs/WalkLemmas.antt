@@ -3,7 +3,7 @@ use Rattle.std.proofs.Common.{◌≡◌, ℕ, zero, suc, ◌+◌, ◌-◌, ◌<�
 use Rattle.std.proofs.Common.{List, Option, Some, None, slice_get, refl, sym, ap, ◌∙◌, subst, arith, true≢false, is_some}
 use Rattle.std.specs.Option.{option_map_or}
 use Rattle.std.proofs.lemmas.Bool.{ltb-true, ltb-false}
-use Rattle.path_sets.specs.Walks.{node_at, walk, reaches, Descends, IsNumber}
+use Rattle.path_sets.specs.Walks.{node_at, walk, reaches, Descends}
 
 -- a number with a node is at least 2, and its node is two masks before
 pub has_node : {X : Type 0} (ns : List X) (n : ℕ) (x : X) → node_at ns n ≡ Some x → (1 < n) × (slice_get ns (n - 2) ≡ Some x)
@@ -62,12 +62,3 @@ unfolding reaches walk
 at_leaf next ns zero v h = refl
 at_leaf next ns (suc zero) v h = refl
 at_leaf next ns (suc (suc n)) v h = absurd (omega (arith, h))
-
-module _ {X : Type 0} (next : X → ℕ → ℕ) (ns : List X) (down : Descends next ns) (n v : ℕ) (x : X) (big : 1 < n)
-    (inside : IsNumber ns n)
-    (h : slice_get ns (n - 2) ≡ Some x) where
-  pub next_inside : IsNumber ns (next x v)
-  next_inside = let less = next_below next ns down n v x (node_of ns n x big h) in omega (arith, less, inside)
-
-  pub next_same : reaches next ns (next x v) v ≡ reaches next ns n v
-  next_same = sym (goes_on next ns down n v x (node_of ns n x big h))

@@ -1,5 +1,5 @@
 -- The masks that are gathered for the diagrams, in batches; those of a diagram are in one batch.
-use Rattle.std.specs.Prelude.{◌≡◌, ℕ, zero, suc, List, [], ◌∷◌, ◌++◌, Some, slice_get}
+use Rattle.std.specs.Prelude.{◌≡◌, ◌<◌, ℕ, zero, suc, List, [], ◌∷◌, ◌++◌, Some, length, slice_get}
 use Rattle.std.specs.Map.{keys_of}
 use Rattle.language.specs.Lists.{Member}
 use Rattle.path_sets.specs.declared.diagrams.batch.Batch.{Batch}
@@ -20,6 +20,19 @@ gathered_at (batch ∷ batches) (suc k) = gathered_at batches k
 abbrev pub masks_in : {A : Type 0} → List DiagramKey → List (Batch A) → List (MaskKey × ℕ)
 masks_in diagrams [] = []
 masks_in diagrams (batch ∷ batches) = masks_of diagrams batch.masks.entries ++ masks_in diagrams batches
+
+-- The batches have the masks that they had.
+pub record KeepMasks {A : Type 0} (old new : List (Batch A)) : Type 0 where
+  pub gathered : (k : ℕ) → gathered_at new k ≡ gathered_at old k
+  pub masks : (diagrams : List DiagramKey) → masks_in diagrams new ≡ masks_in diagrams old
+
+-- the diagram at an index has the batch with this number, and the batch is there
+abbrev pub HasBatch : {A : Type 0} → List ℕ → List (Batch A) → ℕ → ℕ → Type 0
+HasBatch homes batches diagram k = (slice_get homes diagram ≡ Some k) × (k < length batches)
+
+-- the batch of the diagram at an index, if it has one, has no masks
+abbrev pub HasNoMasks : {A : Type 0} → List ℕ → List (Batch A) → ℕ → Type 0
+HasNoMasks homes batches diagram = (k : ℕ) → slice_get homes diagram ≡ Some k → gathered_at batches k ≡ []
 
 -- a key of a batch is one of a diagram that has this batch
 abbrev pub AreHome : {A : Type 0} → List ℕ → List (Batch A) → Type 0

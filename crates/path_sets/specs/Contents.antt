@@ -8,7 +8,7 @@ use Rattle.path_sets.specs.declared.diagrams.diagrams.Diagrams.{Diagrams}
 use Rattle.path_sets.specs.declared.diagrams.gathered_key.GatheredKey.{GatheredKey}
 use Rattle.path_sets.specs.declared.diagrams.roots.DiagramKey.{DiagramKey}
 use Rattle.path_sets.specs.declared.points.mask_key.MaskKey.{MaskKey}
-use Rattle.path_sets.specs.Batches.{CoversEach, masks_in}
+use Rattle.path_sets.specs.Batches.{AllWithin, CoversEach, masks_in}
 use Rattle.path_sets.specs.Diagrams.{TakesGiven, merged_has}
 use Rattle.path_sets.specs.Edges.{edge_at}
 use Rattle.path_sets.specs.GatheredKeys.{AreWithin, mask_key_at, masks_of}
@@ -33,8 +33,8 @@ module _ {Alloc : Type 0} where
   HasAll given merged = (edge : Triple) → given edge → is_merged merged edge ≡ true
 
   -- the diagrams keep what they had, and all else that they have is part of what was given
-  abbrev pub Takes : (Triple → Type 0) → Diagrams Alloc → Diagrams Alloc → Type 0
-  Takes given old new = TakesGiven given old.nodes.kept.keys new.nodes.kept.keys old.roots.entries new.roots.entries
+  abbrev pub DiagramsTake : (Triple → Type 0) → Diagrams Alloc → Diagrams Alloc → Type 0
+  DiagramsTake given old new = TakesGiven given old.nodes.kept.keys new.nodes.kept.keys old.roots.entries new.roots.entries
 
   -- the masks of a batch, by the keys of masks
   abbrev pub batch_masks : Diagrams Alloc → Batch Alloc → List (MaskKey × ℕ)
@@ -52,14 +52,16 @@ module _ {Alloc : Type 0} where
   abbrev pub AreCovered : Diagrams Alloc → List (MaskKey × ℕ) → Type 0
   AreCovered merged masks = Covers merged.nodes.kept.keys merged.roots.entries masks
 
-  -- the same of each batch
-  abbrev pub EachIsCovered : Diagrams Alloc → List (Batch Alloc) → Type 0
-  EachIsCovered merged batches = CoversEach merged.nodes.kept.keys merged.roots.entries batches
+  -- The masks of the batches fit the diagrams: the diagram of each key is there, and what the diagrams have at the keys
+  -- of a batch is among its masks.
+  pub record BatchesFit (merged : Diagrams Alloc) (batches : List (Batch Alloc)) : Type 0 where
+    pub within : AllWithin (diagrams_in merged) batches
+    pub covers : CoversEach merged.nodes.kept.keys merged.roots.entries batches
 
   -- the path edge of a key and a bit was nowhere, and now is in the masks; or it was somewhere, and the masks are the
   -- same; the result says which
-  abbrev pub Gathers : Diagrams Alloc → GatheredKey → ℕ → List (MaskKey × ℕ) → List (MaskKey × ℕ) → Bool → Type 0
-  Gathers merged key bit old new added =
+  abbrev pub GathersEdge : Diagrams Alloc → GatheredKey → ℕ → List (MaskKey × ℕ) → List (MaskKey × ℕ) → Bool → Type 0
+  GathersEdge merged key bit old new added =
       PutsEdge merged.nodes.kept.keys merged.roots.entries (edge_at (mask_key_at (diagrams_in merged) key) bit) old new added
 
   -- A point may be put into a mask of the batch: it is one of 64, the diagrams of its key and of all others are there,

@@ -17,6 +17,6 @@ abbrev pub edges_in : MaskKey → ℕ → List Triple
 edges_in mask_key mask = map (edge_at mask_key) (bits_below mask 64)
 
 -- the path edges of all masks
-abbrev pub edges : List (MaskKey × ℕ) → List Triple
-edges [] = []
-edges (mask ∷ masks) = edges_in mask.0 mask.1 ++ edges masks
+abbrev pub mask_edges : List (MaskKey × ℕ) → List Triple
+mask_edges [] = []
+mask_edges (mask ∷ masks) = edges_in mask.0 mask.1 ++ mask_edges masks

@@ -1,13 +1,11 @@
 -- The keys of gathered masks: a diagram by its index, and a valuation.
-use Rattle.std.specs.Prelude.{◌≡◌, ◌<◌, ℕ, Bool, ◌&&◌, nat_eq, List, [], ◌∷◌, Some, length, slice_get}
+use Rattle.std.specs.Prelude.{◌<◌, ℕ, Bool, ◌&&◌, nat_eq, List, [], ◌∷◌, length, slice_get}
 use Rattle.std.specs.Option.{option_map_or}
-use Rattle.std.specs.Map.{keys_of, values_of}
-use Rattle.indexmap.specs.IndexMap.{set_value_at}
+use Rattle.std.specs.Map.{keys_of}
 use Rattle.language.specs.Lists.{Member}
 use Rattle.path_sets.specs.declared.points.mask_key.MaskKey.{MaskKey}
 use Rattle.path_sets.specs.declared.diagrams.roots.DiagramKey.{DiagramKey}
 use Rattle.path_sets.specs.declared.diagrams.gathered_key.GatheredKey.{GatheredKey}
-use Rattle.path_sets.specs.Masks.{AddsPoint}
 
 -- whether two keys are the same
 abbrev pub gathered_key_eq : GatheredKey → GatheredKey → Bool
@@ -31,11 +29,3 @@ masks_of diagrams (mask ∷ masks) = (mask_key_at diagrams mask.0, mask.1) ∷ m
 -- the diagram of each key is there
 abbrev pub AreWithin : List DiagramKey → List (GatheredKey × ℕ) → Type 0
 AreWithin diagrams masks = (s : GatheredKey) → Member s (keys_of masks) → s.diagram < length diagrams
-
--- The mask at an index is another, with a point put into it, and the other masks are as they were.
-pub record AddsPointAt (at bit : ℕ) (old new : List (GatheredKey × ℕ)) (added : Bool) : Type 0 where
-  pub mask : ℕ
-  pub marked : ℕ
-  pub was : slice_get (values_of old) at ≡ Some mask
-  pub is : new ≡ set_value_at old at marked
-  pub marks : AddsPoint bit mask marked added

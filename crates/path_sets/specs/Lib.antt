@@ -2,6 +2,7 @@ pub mod Limits
 pub mod EdgeLimits
 pub mod Triples
 pub mod Inserts
+pub mod Keys
 pub mod Masks
 pub mod Edges
 pub mod Shards

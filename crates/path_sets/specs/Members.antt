@@ -9,7 +9,7 @@ use Rattle.path_sets.specs.declared.diagrams.quad.Quad.{Quad}
 use Rattle.path_sets.specs.declared.points.mask_key.MaskKey.{MaskKey}
 use Rattle.path_sets.specs.declared.diagrams.roots.DiagramKey.{DiagramKey}
 use Rattle.path_sets.specs.Triples.{Triple, triple}
-use Rattle.path_sets.specs.Edges.{edge_at, edges}
+use Rattle.path_sets.specs.Edges.{edge_at, mask_edges}
 use Rattle.path_sets.specs.Diagrams.{merged_has}
 
 -- the numbers below this one, the greatest first
@@ -32,7 +32,7 @@ triple_eq x y = nat_eq x.entry y.entry && (nat_eq x.point y.point && nat_eq x.va
 
 -- whether a path edge is among those that are gathered
 abbrev pub is_gathered : List (MaskKey × ℕ) → Triple → Bool
-is_gathered masks edge = list_any (triple_eq edge) (edges masks)
+is_gathered masks edge = list_any (triple_eq edge) (mask_edges masks)
 
 -- whether a path edge is in the diagrams, or among those that are gathered
 abbrev pub has_edge : List Quad → List (DiagramKey × ℕ) → List (MaskKey × ℕ) → Triple → Bool
@@ -44,7 +44,7 @@ all_edges nodes roots masks = filter (has_edge nodes roots masks) universe
 
 -- a path edge is in the diagrams, or among those that are gathered
 abbrev pub IsEdgeThere : List Quad → List (DiagramKey × ℕ) → List (MaskKey × ℕ) → Triple → Type 0
-IsEdgeThere nodes roots masks edge = (merged_has nodes roots edge ≡ true) ⊎ Member edge (edges masks)
+IsEdgeThere nodes roots masks edge = (merged_has nodes roots edge ≡ true) ⊎ Member edge (mask_edges masks)
 
 -- what the diagrams have at a key that is gathered is among what is gathered
 abbrev pub Covers : List Quad → List (DiagramKey × ℕ) → List (MaskKey × ℕ) → Type 0
@@ -57,4 +57,4 @@ Covers nodes roots masks =
 abbrev pub PutsEdge : List Quad → List (DiagramKey × ℕ) → Triple → List (MaskKey × ℕ) → List (MaskKey × ℕ) → Bool → Type 0
 PutsEdge nodes roots edge old new true =
     (IsEdgeThere nodes roots old edge → ⊥) × ((t : Triple) → IsEdgeThere nodes roots new t ↔ ((t ≡ edge) ⊎ IsEdgeThere nodes roots old t))
-PutsEdge nodes roots edge old new false = IsEdgeThere nodes roots old edge × (edges new ≡ edges old)
+PutsEdge nodes roots edge old new false = IsEdgeThere nodes roots old edge × (mask_edges new ≡ mask_edges old)

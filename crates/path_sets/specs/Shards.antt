@@ -3,19 +3,19 @@ use Rattle.std.specs.Prelude.{◌≡◌, ◌<◌, ℕ, zero, suc, nat_eq, List, 
 use Rattle.std.specs.Map.{lookup}
 use Rattle.language.specs.Lists.{Member}
 use Rattle.path_sets.specs.declared.ordered.shard.Shard.{Shard}
-use Rattle.path_sets.specs.Edges.{edges}
+use Rattle.path_sets.specs.Edges.{mask_edges}
 use Rattle.path_sets.specs.Triples.{Triple}
 
 -- the path edges of the shard with this number; none after the last
 abbrev pub edges_at : {A : Type 0} → List (Shard A) → ℕ → List Triple
 edges_at [] k = []
-edges_at (shard ∷ shards) zero = edges shard.masks.entries
+edges_at (shard ∷ shards) zero = mask_edges shard.masks.entries
 edges_at (shard ∷ shards) (suc k) = edges_at shards k
 
 -- the path edges of all shards
 abbrev pub all_in : {A : Type 0} → List (Shard A) → List Triple
 all_in [] = []
-all_in (shard ∷ shards) = edges shard.masks.entries ++ all_in shards
+all_in (shard ∷ shards) = mask_edges shard.masks.entries ++ all_in shards
 
 -- a path edge of a shard is one of an entry that has this shard
 abbrev pub AreHome : {A : Type 0} → List (ℕ × ℕ) → List (Shard A) → Type 0

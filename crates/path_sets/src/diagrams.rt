@@ -5,7 +5,6 @@ pub(crate) mod batches;
 pub(crate) mod diagram_edges;
 pub(crate) mod diagrams;
 pub(crate) mod gathered_key;
-pub(crate) mod gathered_masks;
 pub(crate) mod insertion;
 pub(crate) mod merging;
 pub(crate) mod newest;

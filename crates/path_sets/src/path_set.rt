@@ -1,10 +1,9 @@
 //! What every set of path edges offers.
 
-ghost use Rattle.std.specs.Prelude.{◌≡◌, ℕ, ◌+◌, ◌<◌, ◌^◌, ◌↔◌, ◌⊎◌, List, [], length, IsTrue};
-ghost use Rattle.std.specs.Prelude.{IfOk, OnOk};
-ghost use Rattle.std.specs.Prelude.{OnErr, if◌then◌else◌};
-ghost use Rattle.std.specs.Bool.{OnTrue, OnFalse};
+ghost use Rattle.std.specs.Prelude.{◌≡◌, ◌<◌, ◌^◌, ◌↔◌, List, [], length, IsTrue, IfOk, OnOk};
+ghost use Rattle.std.specs.Prelude.{OnErr};
 ghost use Rattle.language.specs.Lists.{Member, NoneTwice};
+ghost use Rattle.path_sets.specs.Inserts.{HasAlso, IsLongerIf, IsNewIf};
 ghost use Rattle.path_sets.specs.Triples.{Triple, triple};
 
 use language::{Point, Word};
@@ -22,14 +21,10 @@ pub trait PathSet<A: Allocator>: Sized + Drop {
     /// the set stays as it was.
     fn insert(&mut self, entry: Word, point: Point, values: Word) -> Result<bool, AllocError>
         requires { length (members self.old) < 2 ^ 63 }
-        ensures members { OnOk result ((t : Triple) → Member t (members self.new)
-            ↔ ((t ≡ triple entry point values) ⊎ Member t (members self.old))) }
-        ensures new { IfOk result
-            (λ added. OnTrue added (¬ Member (triple entry point values) (members self.old))) }
-        ensures known { IfOk result
-            (λ added. OnFalse added (Member (triple entry point values) (members self.old))) }
-        ensures len { IfOk result (λ added. length (members self.new)
-            ≡ length (members self.old) + (if added then 1 else 0)) }
+        ensures members { OnOk result
+            (HasAlso (triple entry point values) (members self.old) (members self.new)) }
+        ensures new { IfOk result (IsNewIf (triple entry point values) (members self.old)) }
+        ensures len { IfOk result (IsLongerIf (members self.old) (members self.new)) }
         ensures err { OnErr result (members self.new ≡ members self.old) };
 
     /// Whether the triple is a member.

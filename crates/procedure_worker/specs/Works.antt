@@ -20,7 +20,7 @@ use Rattle.summaries.specs.declared.table_fault.TableFault.{TableFault}
 use Rattle.summaries.specs.declared.table_fault.TableFault.TheVariants as fault
 use Rattle.path_sets.specs.declared.edge_limit.EdgeLimit.{EdgeLimit}
 use Rattle.path_sets.specs.EdgeLimits.{most_of}
-use Rattle.summaries.specs.Mails.{Mail, mail}
+use Rattle.summaries.specs.Mails.{AddressedMail, mail}
 use Rattle.summaries.specs.Dues.{due_of}
 use Rattle.summaries.specs.Fitting.{FitsIn}
 use Rattle.summaries.specs.Found.{TookMessage}
@@ -65,7 +65,7 @@ abbrev pub start_of : {R GraphAlloc B K : Type 0} → (B → TableId) → Desk R
 start_of identity desk = begun_in identity desk.context.now desk.number
 
 -- what was posted, as the table answers it
-abbrev pub mails_of : List (ℕ × Due) → List Mail
+abbrev pub mails_of : List (ℕ × Due) → List AddressedMail
 mails_of posts = map (λ (posted_pair : ℕ × Due). mail posted_pair.0 posted_pair.1) posts
 
 -- why a worker fails, if its table has

@@ -1,34 +1,28 @@
 -- What is found by keys after one more value was added to a key.
 use Rattle.std.proofs.Common.{◌≡◌, ◌⊎◌, ◌&&◌, Bool, true, false, List, [], ◌∷◌, ◌++◌, inl, inr, refl, sym, subst}
-use Rattle.std.proofs.Common.{nat_eq, true≢false}
+use Rattle.std.proofs.Common.{nat_eq}
 use Rattle.std.specs.Bool.{beq}
 use Rattle.std.proofs.lemmas.Map.Views.{exact_unsigned_eq}
 use Rattle.language.specs.Lists.{Member, NoneTwice}
 use Rattle.language.proofs.Members.{member_left, member_right, member_append}
-use Rattle.summaries.specs.declared.edge.Call.{Call}
+use Rattle.summaries.specs.declared.edge.CallKey.{CallKey}
 use Rattle.summaries.specs.declared.pair.Pair.{Pair}
 use Rattle.summaries.specs.Found.{call, call_eq, pair_eq}
-use Rattle.summaries.proofs.Mails.{both, none_twice_with}
+use Rattle.path_sets.proofs.MaskKeyLemmas.{both, same_flag, same_two}
+use Rattle.summaries.proofs.Mails.{none_twice_with}
 
 -- calls that compare as equal are the same
-pub same_call : (x y : Call) → call_eq x y ≡ true → x ≡ y
+pub same_call : (x y : CallKey) → call_eq x y ≡ true → x ≡ y
 same_call x y e =
-    let r = both (nat_eq x.callee y.callee) (nat_eq x.entered y.entered) e in
-    λ j. call (exact_unsigned_eq x.callee y.callee r.0 j) (exact_unsigned_eq x.entered y.entered r.1 j)
-
--- results that compare as equal are the same
-same_result : (x y : Bool) → beq x y ≡ true → x ≡ y
-same_result true true e = refl
-same_result true false e = absurd (true≢false (sym e))
-same_result false true e = absurd (true≢false (sym e))
-same_result false false e = refl
+    let (callee, entered) = same_two x.callee y.callee x.entered y.entered e in
+    λ j. call (callee j) (entered j)
 
 -- pairs that compare as equal are the same
 pub same_pair : (x y : Pair) → pair_eq x y ≡ true → x ≡ y
 same_pair x y e =
     let (a, more) = both (nat_eq x.a y.a) (nat_eq x.b y.b && beq x.r y.r) e in
     let (b, r) = both (nat_eq x.b y.b) (beq x.r y.r) more in
-    λ j. record { a = exact_unsigned_eq x.a y.a a j; b = exact_unsigned_eq x.b y.b b j; r = same_result x.r y.r r j }
+    λ j. record { a = exact_unsigned_eq x.a y.a a j; b = exact_unsigned_eq x.b y.b b j; r = same_flag x.r y.r r j }
 
 module _ {K V : Type 0} (eq : K → K → Bool) (same : (x y : K) → eq x y ≡ true → x ≡ y) (before after : K → List V) (key : K) (value : V)
     (added : after key ≡ before key ++ value ∷ []) (others : (k : K) → eq key k ≡ false → after k ≡ before k) where

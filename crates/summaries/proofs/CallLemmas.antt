@@ -19,20 +19,20 @@ use Rattle.flow_graph.specs.declared.graph.Graph.{Graph}
 use Rattle.flow_graph.proofs.ReachLemmas.{reaches_more}
 use Rattle.summaries.specs.declared.due.Caller.TheVariants.{Proc}
 use Rattle.summaries.specs.declared.due.Due.TheVariants.{Entry}
-use Rattle.summaries.specs.declared.edge.Call.{Call}
-use Rattle.summaries.specs.declared.edge.Edge.{Edge}
-use Rattle.summaries.specs.declared.edge.Site.{Site}
+use Rattle.summaries.specs.declared.edge.CallKey.{CallKey}
+use Rattle.summaries.specs.declared.edge.PathEdge.{PathEdge}
 use Rattle.summaries.specs.declared.found.Found.{Found}
 use Rattle.summaries.specs.declared.outbox.Outbox.{Outbox}
 use Rattle.summaries.specs.declared.outbox.Outgoing.{Outgoing}
 use Rattle.summaries.specs.declared.outbox.Outgoing.TheVariants.{EntryFor}
 use Rattle.summaries.specs.declared.groups.Groups.{Groups}
 use Rattle.summaries.specs.declared.pair.Pair.{Pair}
-use Rattle.summaries.specs.contracts.edge.CallEq.TheImpl.Laws.{laws-law}
+use Rattle.summaries.specs.contracts.edge.CallKeyEq.TheImpl.Laws.{laws-law}
 use Rattle.summaries.specs.Under.{under}
 use Rattle.summaries.specs.Mails.{mail}
 use Rattle.summaries.specs.Dues.{due_of}
-use Rattle.summaries.specs.Found.{call, call_eq, site, calls_in, entry_mail, mail_of, mails_in, TookMessage, HasSite, IsPlaced, IsIndexed}
+use Rattle.summaries.specs.Found.{call, call_eq, path_edge, calls_in, entry_mail, mail_of, mails_in, TookMessage, HasSite, IsPlaced}
+use Rattle.summaries.specs.Found.{IsIndexed}
 use Rattle.summaries.specs.Found.{IsOwed, IsGrounded}
 use Rattle.summaries.specs.Grows.{EntersAt, Grows, AddsTo, OfSome, IsBehind, triple_of}
 use Rattle.summaries.proofs.AddLemmas.{same_call, added_or, added_keeps, added_is}
@@ -43,8 +43,8 @@ use Rattle.summaries.proofs.Mails.{none_twice_with}
 use Rattle.summaries.proofs.PlaceLemmas.{HasMoreBehind, none_behind, placed_still, mails_still}
 use Rattle.summaries.proofs.TellLemmas.{gives_kept, gives_one, gives_known}
 
-module _ {A G : Type 0} (graph : Graph G) (q : ℕ) (f : Found A) (given : Outbox A) (sites : Groups Call Site A)
-    (pending : Vec Edge A) where
+module _ {A G : Type 0} (graph : Graph G) (q : ℕ) (f : Found A) (given : Outbox A) (sites : Groups CallKey PathEdge A)
+    (pending : Vec PathEdge A) where
   -- what is found, with other sites, messages given and edges pending
   abbrev pub asked_to : Found A
   asked_to = record {
@@ -62,7 +62,7 @@ module _ {A G : Type 0} (graph : Graph G) (q : ℕ) (f : Found A) (given : Outbo
   pub taken_there : (k : NumberedMessage) → TookMessage f k → TookMessage asked_to k
   taken_there = taken_as f asked_to (λ a. refl) (λ c. refl)
 
-  module _ (es ds : List Triple) (e : Edge) (s x back : ℕ) (flow : Flow G) (sound : IsGrounded graph q f es)
+  module _ (es ds : List Triple) (e : PathEdge) (s x back : ℕ) (flow : Flow G) (sound : IsGrounded graph q f es)
       (there : Member (triple_of e) es)
       (here : slice_get graph.flows.items e.point ≡ Some flow) (enters : entered_by flow e.values ≡ Some (s, x, back)) where
     reached : GraphReaches graph (TookMessage asked_to) e.entry e.point e.values
@@ -71,7 +71,7 @@ module _ {A G : Type 0} (graph : Graph G) (q : ℕ) (f : Found A) (given : Outbo
 
     -- what is after the call is reached
     pub behind_reached : (t : Triple) →
-        OfSome (IsBehind graph (site e.entry e.point e.values)) (under call_eq f.summaries.by_key (call s x)) t →
+        OfSome (IsBehind graph e) (under call_eq f.summaries.by_key (call s x)) t →
         GraphReaches graph (TookMessage asked_to) t.entry t.point t.values
     behind_reached t (b, m, (s', x', n', (fl, at, en), is)) =
         let call : (s', x', n') ≡ (s, x, back) =
@@ -83,7 +83,7 @@ module _ {A G : Type 0} (graph : Graph G) (q : ℕ) (f : Found A) (given : Outbo
 
     -- so all edges are, if nothing else is added
     pub ask_only : ((t : Triple) → Member t ds →
-        OfSome (IsBehind graph (site e.entry e.point e.values)) (under call_eq f.summaries.by_key (call s x)) t ⊎
+        OfSome (IsBehind graph e) (under call_eq f.summaries.by_key (call s x)) t ⊎
         Member t es) →
         (t : Triple) → Member t ds → GraphReaches graph (TookMessage asked_to) t.entry t.point t.values
     ask_only only t m = elim (only t m) [
@@ -93,27 +93,27 @@ module _ {A G : Type 0} (graph : Graph G) (q : ℕ) (f : Found A) (given : Outbo
     ]
 
     module _ (gave : AddsTo (λ m. m ≡ mail s (Entry (Proc q) x)) (mails_in q f) (mails_in q asked_to))
-        (added : under call_eq sites.by_key (call s x) ≡ under call_eq f.sites.by_key (call s x) ++ site e.entry e.point e.values ∷ [])
-        (others : (k : Call) → call_eq (call s x) k ≡ false → under call_eq sites.by_key k ≡ under call_eq f.sites.by_key k)
-        (grown : Grows (OfSome (IsBehind graph (site e.entry e.point e.values))
+        (added : under call_eq sites.by_key (call s x) ≡ under call_eq f.sites.by_key (call s x) ++ e ∷ [])
+        (others : (k : CallKey) → call_eq (call s x) k ≡ false → under call_eq sites.by_key k ≡ under call_eq f.sites.by_key k)
+        (grown : Grows (OfSome (IsBehind graph e)
         (under call_eq f.summaries.by_key (call s x))) es ds f.pending.items pending.items) where
       abbrev M : NumberedMessage → Type 0
       M = TookMessage asked_to
 
-      pub asked_site : HasSite asked_to s x (site e.entry e.point e.values)
+      pub asked_site : HasSite asked_to s x e
       asked_site = added_is call_eq same_call (under call_eq f.sites.by_key) (under call_eq sites.by_key) (call s x)
-          (site e.entry e.point e.values) added others
+          e added others
 
-      site_or : (k : Call) (y : Site) → Member y (under call_eq sites.by_key k) →
-          Member y (under call_eq f.sites.by_key k) ⊎ ((call s x ≡ k) × (site e.entry e.point e.values ≡ y))
+      site_or : (k : CallKey) (y : PathEdge) → Member y (under call_eq sites.by_key k) →
+          Member y (under call_eq f.sites.by_key k) ⊎ ((call s x ≡ k) × (e ≡ y))
       site_or = added_or call_eq same_call (under call_eq f.sites.by_key) (under call_eq sites.by_key) (call s x)
-          (site e.entry e.point e.values) added others
+          e added others
 
       -- what is reached at the call of a site
-      abbrev AtCall : Call → Site → Type 0
-      AtCall k y = GraphReaches graph M y.asked y.point y.values × ((n : ℕ) × EntersAt graph y.point y.values k.callee k.entered n)
+      abbrev AtCall : CallKey → PathEdge → Type 0
+      AtCall k y = GraphReaches graph M y.entry y.point y.values × ((n : ℕ) × EntersAt graph y.point y.values k.callee k.entered n)
 
-      at_call : AtCall (call s x) (site e.entry e.point e.values)
+      at_call : AtCall (call s x) e
       at_call = (reached, (back, (flow, here, enters)))
 
       pub ask_step : (IsIndexed f → IsIndexed asked_to) → Step graph q f asked_to es ds
@@ -128,11 +128,11 @@ module _ {A G : Type 0} (graph : Graph G) (q : ℕ) (f : Found A) (given : Outbo
         stays = grown.stays;
         pending = grown.edges;
         sites = λ s' x' a n v m. added_keeps call_eq same_call (under call_eq f.sites.by_key)
-            (under call_eq sites.by_key) (call s x) (site e.entry e.point e.values) added others (call s' x') (site a n v)
+            (under call_eq sites.by_key) (call s x) e added others (call s' x') (path_edge a n v)
             m;
-        called = λ s' x' a n v m. elim (site_or (call s' x') (site a n v) m) [
+        called = λ s' x' a n v m. elim (site_or (call s' x') (path_edge a n v) m) [
           | inl was ↦ inl was
-          | inr is ↦ inr (subst (AtCall (call s' x')) is.1 (subst (λ k. AtCall k (site e.entry e.point e.values)) is.0 at_call))
+          | inr is ↦ inr (subst (AtCall (call s' x')) is.1 (subst (λ k. AtCall k e) is.0 at_call))
         ];
         exits = λ a b m. m;
         exit = λ a b m. inl m;
@@ -141,19 +141,19 @@ module _ {A G : Type 0} (graph : Graph G) (q : ℕ) (f : Found A) (given : Outbo
         given = λ s' k m. elim (gave.only (mail s' (due_of k)) m) [
           | inl is ↦ inr (subst (λ to. IsOwed asked_to q to k) (sym (ap (λ m. m.to) is))
               (subst (IsOwed asked_to q s) (sym (due_told k (Entry (Proc q) x) (ap (λ m. m.due) is)))
-              (refl, (site e.entry e.point e.values, asked_site))))
+              (refl, (e, asked_site))))
           | inr was ↦ inl was
         ];
         begun = λ from a h. inl h;
-        ended = λ s' x' b a n v n' at enters' taken. elim (site_or (call s' x') (site a n v) at) [
+        ended = λ s' x' b a n v n' at enters' taken. elim (site_or (call s' x') (path_edge a n v) at) [
           | inl was ↦ inl (was, taken)
           | inr is ↦ inr (grown.all (triple a n' (resumed_at graph n v b)) (
             b,
             subst (λ k. Member b (under call_eq f.summaries.by_key k)) (sym is.0) taken,
-            subst (λ (y : Site). IsBehind graph y b (triple a n' (resumed_at graph n v b))) (sym is.1) (s', x', n', enters', refl),
+            subst (λ (y : PathEdge). IsBehind graph y b (triple a n' (resumed_at graph n v b))) (sym is.1) (s', x', n', enters', refl),
           ))
         ];
-        asks = λ s' x' a n v m. elim (site_or (call s' x') (site a n v) m) [
+        asks = λ s' x' a n v m. elim (site_or (call s' x') (path_edge a n v) m) [
           | inl was ↦ inl was
           | inr is ↦ inr (gave.all (mail s' (Entry (Proc q) x')) (ap (λ k. mail k.callee (Entry (Proc q) k.entered)) (sym is.0)))
         ];
@@ -164,12 +164,12 @@ module _ {A G : Type 0} (graph : Graph G) (q : ℕ) (f : Found A) (given : Outbo
       }
 
 -- a call is where an equal one is
-pub stands_there : (ds : List Call) (k : Call) (at : ℕ) → (x : Call) × (slice_get ds at ≡ Some x) × (call_eq k x ≡ true)
+pub stands_there : (ds : List CallKey) (k : CallKey) (at : ℕ) → (x : CallKey) × (slice_get ds at ≡ Some x) × (call_eq k x ≡ true)
     → slice_get ds at ≡ Some k
 stands_there ds k at (x, here, same) = here ∙ ap Some (sym (same_call k x same))
 
 -- a key is appended to those of a list, unless it is among them
-module _ (cs ds : List Call) (k : Call) (keys : ds ≡ insert_key call_eq cs k) where
+module _ (cs ds : List CallKey) (k : CallKey) (keys : ds ≡ insert_key call_eq cs k) where
   pub calls_more : HasMoreBehind cs ds
   calls_more = by (list_any (call_eq k) cs) keys
     where
@@ -186,7 +186,7 @@ module _ (cs ds : List Call) (k : Call) (keys : ds ≡ insert_key call_eq cs k) 
           (none_twice_with k cs (λ m. true≢false (sym (is_found call_eq laws-law.refl k cs m) ∙ new)) once)
 
 -- an entry that was given by the place of its call was given
-pub was_given : {A : Type 0} (q : ℕ) (f : Found A) (ds : List Call) (k : Call) (at : ℕ) → ds ≡ insert_key call_eq (calls_in f) k
+pub was_given : {A : Type 0} (q : ℕ) (f : Found A) (ds : List CallKey) (k : CallKey) (at : ℕ) → ds ≡ insert_key call_eq (calls_in f) k
     → slice_get ds at ≡ Some k → IsIndexed f → Member (EntryFor at) f.outbox.sent.items → Member (entry_mail q k) (mails_in q f)
 was_given q f ds k at added here old m =
     let cs = calls_in f in
@@ -198,7 +198,8 @@ was_given q f ds k at added here old m =
     (member_map (mail_of cs f.pairs.keys q) f.outbox.sent.items (EntryFor at) m)
 
 -- The entry of a call at its place among the calls is given, unless the call was known.
-module _ {A : Type 0} (q : ℕ) (f : Found A) (given : Outbox A) (sites : Groups Call Site A) (pending : Vec Edge A) (k : Call) (at : ℕ)
+module _ {A : Type 0} (q : ℕ) (f : Found A) (given : Outbox A) (sites : Groups CallKey PathEdge A) (pending : Vec PathEdge A) (k : CallKey)
+    (at : ℕ)
     (added : keys sites.by_key ≡ insert_key call_eq (calls_in f) k) (here : slice_get (keys sites.by_key) at ≡ Some k) (known : Bool)
     (same : OnTrue known (given.sent.items ≡ f.outbox.sent.items))
     (more : OnFalse known (given.sent.items ≡ f.outbox.sent.items ++ EntryFor at ∷ [])) (old : IsIndexed f) where
@@ -208,7 +209,7 @@ module _ {A : Type 0} (q : ℕ) (f : Found A) (given : Outbox A) (sites : Groups
   abbrev ps : List Pair
   ps = f.pairs.keys
 
-  abbrev ds : List Call
+  abbrev ds : List CallKey
   ds = keys sites.by_key
 
   still : (x : Outgoing) → Member x f.outbox.sent.items → IsPlaced ds ps x

@@ -8,7 +8,7 @@ use Rattle.summaries.specs.declared.due.Caller.{Caller}
 use Rattle.summaries.specs.declared.due.Caller.TheVariants.{Starter, Proc}
 use Rattle.summaries.specs.declared.due.Due.{Due}
 use Rattle.summaries.specs.declared.due.Due.TheVariants.{Entry, Summary}
-use Rattle.summaries.specs.declared.edge.Call.{Call}
+use Rattle.summaries.specs.declared.edge.CallKey.{CallKey}
 use Rattle.summaries.specs.Mails.{summary_due}
 use Rattle.summaries.specs.Dues.{caller_of, due_of}
 use Rattle.summaries.specs.Found.{call, left}
@@ -35,10 +35,6 @@ is_message : (k : NumberedMessage) → k ≡ message_of (due_of k)
 is_message (numbered_entry from a) = ap (λ c. numbered_entry c a) (is_who from)
 is_message (numbered_summary s a b) = refl
 
-pub message_is : (d : Due) → due_of (message_of d) ≡ d
-message_is (Entry from a) = ap (λ c. Entry c a) (who_is from)
-message_is (Summary s r a b) = refl
-
 -- what a table calls a message determines it
 pub due_told : (k : NumberedMessage) (d : Due) → due_of k ≡ d → k ≡ message_of d
 due_told k d e = is_message k ∙ ap message_of e
@@ -54,7 +50,7 @@ entry_in (Entry from a) = a
 entry_in (Summary s r a b) = a
 
 -- what was called, or the one given
-call_in : Call → Due → Call
+call_in : CallKey → Due → CallKey
 call_in k (Entry from a) = k
 call_in k (Summary s r a b) = call s a
 

@@ -12,13 +12,13 @@ use Rattle.flow_graph.specs.declared.exit.Exit.{Exit}
 use Rattle.summaries.specs.declared.due.Caller as rust
 use Rattle.summaries.specs.declared.due.Caller.TheVariants.{Proc}
 use Rattle.summaries.specs.declared.due.Due.TheVariants.{Entry}
-use Rattle.summaries.specs.declared.edge.Edge.{Edge}
+use Rattle.summaries.specs.declared.edge.PathEdge.{PathEdge}
 use Rattle.summaries.specs.declared.found.Found.{Found}
 use Rattle.summaries.specs.declared.outbox.Outbox.{Outbox}
 use Rattle.summaries.specs.declared.outbox.Outgoing.{Outgoing}
 use Rattle.summaries.specs.declared.groups.Groups.{Groups}
 use Rattle.summaries.specs.Under.{under}
-use Rattle.summaries.specs.Mails.{Mail, mail, summary_due}
+use Rattle.summaries.specs.Mails.{AddressedMail, mail, summary_due}
 use Rattle.summaries.specs.Dues.{caller_of, due_of}
 use Rattle.summaries.specs.Found.{pair, calls_in, mail_of, mails_in, TookMessage, HasExit, IsOwed, IsPlaced, IsIndexed, IsGrounded}
 use Rattle.summaries.specs.Grows.{Grows, AddsTo, OfSome, IsTold, IsSummaryTold}
@@ -30,10 +30,11 @@ use Rattle.summaries.proofs.PlaceLemmas.{member_got, adds_mapped}
 use Rattle.summaries.proofs.TellLemmas.{gives_kept, gives_as, told_mail, mail_told}
 
 -- a message is the summary of an exit of this entry, for the caller
-abbrev pub IsExitTold : {A : Type 0} → ℕ → Found A → ℕ → rust.Caller → Mail → Type 0
+abbrev pub IsExitTold : {A : Type 0} → ℕ → Found A → ℕ → rust.Caller → AddressedMail → Type 0
 IsExitTold q f a from m = (b : Exit) × HasExit f a b × IsSummaryTold q a b from m
 
-module _ {A G : Type 0} (graph : Graph G) (q : ℕ) (f : Found A) (entries : Groups ℕ rust.Caller A) (given : Outbox A) (pending : Vec Edge A)
+module _ {A G : Type 0} (graph : Graph G) (q : ℕ) (f : Found A) (entries : Groups ℕ rust.Caller A) (given : Outbox A)
+    (pending : Vec PathEdge A)
     (a : ℕ) (from : rust.Caller)
     (added : under nat_eq entries.by_key a ≡ under nat_eq f.entries.by_key a ++ from ∷ [])
     (others : (k : ℕ) → nat_eq a k ≡ false → under nat_eq entries.by_key k ≡ under nat_eq f.entries.by_key k) where

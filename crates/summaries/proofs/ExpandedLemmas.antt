@@ -2,7 +2,6 @@
 use Rattle.std.proofs.Common.{◌≡◌, ◌≤◌, ◌⊎◌, ℕ, Bool, true, false, Some, List, [], ◌∷◌, ◌++◌}
 use Rattle.std.proofs.Common.{inl, inr, refl, sym, ap, ◌∙◌, subst}
 use Rattle.std.proofs.Common.{slice_get, if◌then◌else◌, nat_eq, ◌&&◌}
-use Rattle.std.proofs.lemmas.Map.Views.{exact_unsigned_eq}
 use Rattle.std.specs.List.{list_any}
 use Rattle.std.proofs.lemmas.Option.{same_Some}
 use Rattle.indexmap.specs.IndexSet.{insert_key}
@@ -13,28 +12,25 @@ use Rattle.flow_graph.specs.Flows.{last_of, next_of}
 use Rattle.flow_graph.specs.declared.flow.Flow.{Flow}
 use Rattle.flow_graph.specs.declared.graph.Graph.{Graph}
 use Rattle.flow_graph.proofs.ChoiceLemmas.{next_alike}
-use Rattle.summaries.specs.declared.edge.Edge.{Edge}
-use Rattle.summaries.specs.declared.edge.Expanded.{Expanded}
+use Rattle.summaries.specs.declared.edge.PathEdge.{PathEdge}
 use Rattle.summaries.specs.declared.found.Found.{Found}
-use Rattle.summaries.specs.Found.{expanded_at, IsExpanded}
+use Rattle.summaries.specs.Found.{path_edge, IsExpanded}
 use Rattle.summaries.specs.Grows.{IsNext, IsExpansionKey}
-use Rattle.summaries.proofs.Mails.{both}
+use Rattle.path_sets.proofs.MaskKeyLemmas.{same_three}
 use Rattle.summaries.proofs.StepLemmas.{Step, taken_as, indexed_as}
 
 -- whether two are the same
-abbrev pub led_eq : Expanded → Expanded → Bool
+abbrev pub led_eq : PathEdge → PathEdge → Bool
 led_eq x y = nat_eq x.entry y.entry && (nat_eq x.point y.point && nat_eq x.values y.values)
 
 -- they then are
-pub same_led : (x y : Expanded) → led_eq x y ≡ true → x ≡ y
+pub same_led : (x y : PathEdge) → led_eq x y ≡ true → x ≡ y
 same_led x y e =
-    let (entry, more) = both (nat_eq x.entry y.entry) (nat_eq x.point y.point && nat_eq x.values y.values) e in
-    let (point, values) = both (nat_eq x.point y.point) (nat_eq x.values y.values) more in
-    λ j. expanded_at (exact_unsigned_eq x.entry y.entry entry j) (exact_unsigned_eq x.point y.point point j)
-    (exact_unsigned_eq x.values y.values values j)
+    let (entry, point, values) = same_three x.entry y.entry x.point y.point x.values y.values e in
+    λ j. path_edge (entry j) (point j) (values j)
 
 -- if an edge was led that choice 0 leads to the same, each choice leads to an edge
-pub all_led : {G : Type 0} (graph : Graph G) (es : List Triple) (e : Edge) (x : Expanded) (flow : Flow G)
+pub all_led : {G : Type 0} (graph : Graph G) (es : List Triple) (e : PathEdge) (x : PathEdge) (flow : Flow G)
     → slice_get graph.flows.items e.point ≡ Some flow → IsExpansionKey flow e x → IsExpanded graph es x
     → (t : Triple) → IsNext flow e t → Member t es
 all_led graph es e x flow here (more, entry, point, (m, first)) (w, from, n, there, before, all) t (i, most, (to, v, next, is)) =
@@ -47,7 +43,7 @@ all_led graph es e x flow here (more, entry, point, (m, first)) (w, from, n, the
     subst (λ u. Member u es) (sym is) (subst (λ a. Member (triple a to v) es) entry led)
 
 -- if each choice leads to an edge, it may be remembered so
-pub led_now : {G : Type 0} (graph : Graph G) (es : List Triple) (e : Edge) (x : Expanded) (flow : Flow G)
+pub led_now : {G : Type 0} (graph : Graph G) (es : List Triple) (e : PathEdge) (x : PathEdge) (flow : Flow G)
     → slice_get graph.flows.items e.point ≡ Some flow → IsExpansionKey flow e x → ((t : Triple) → IsNext flow e t → Member t es)
     → IsExpanded graph es x
 led_now graph es e x flow here (more, entry, point, (n, first)) all = (
@@ -67,7 +63,7 @@ module _ {A G : Type 0} (graph : Graph G) (q : ℕ) (f g : Found A) (es : List T
   remembered_to = record f { expanded = g.expanded }
 
   -- nothing else changes
-  pub remembered_step : ((x : Expanded) → Member x g.expanded.keys → Member x f.expanded.keys ⊎ IsExpanded graph es x)
+  pub remembered_step : ((x : PathEdge) → Member x g.expanded.keys → Member x f.expanded.keys ⊎ IsExpanded graph es x)
       → Step graph q f remembered_to es es
   remembered_step led = record {
     taken = taken_as f remembered_to (λ a. refl) (λ c. refl);

@@ -7,13 +7,13 @@ use Rattle.flow_graph.specs.Numbers.{NumberedMessage, GraphReaches, flows}
 use Rattle.flow_graph.specs.declared.flow.Flow.{Flow}
 use Rattle.flow_graph.specs.declared.graph.Graph.{Graph}
 use Rattle.flow_graph.proofs.ReachLemmas.{reaches_more}
-use Rattle.summaries.specs.declared.edge.Edge.{Edge}
+use Rattle.summaries.specs.declared.edge.PathEdge.{PathEdge}
 use Rattle.summaries.specs.declared.found.Found.{Found}
 use Rattle.summaries.specs.Found.{TookMessage, IsGrounded}
 use Rattle.summaries.specs.Grows.{Grows, IsNext, triple_of}
 use Rattle.summaries.proofs.StepLemmas.{Step, taken_as, grown_to, grown_reached, grown_step}
 
-module _ {A G : Type 0} (graph : Graph G) (q : ℕ) (f : Found A) (pending : Vec Edge A) where
+module _ {A G : Type 0} (graph : Graph G) (q : ℕ) (f : Found A) (pending : Vec PathEdge A) where
   -- what is found, with other edges pending
   abbrev pub led_to : Found A
   led_to = grown_to graph q f f.entries f.summaries f.outbox pending
@@ -22,7 +22,7 @@ module _ {A G : Type 0} (graph : Graph G) (q : ℕ) (f : Found A) (pending : Vec
   pub taken_led : (k : NumberedMessage) → TookMessage f k → TookMessage led_to k
   taken_led = taken_as f led_to (λ a. refl) (λ c. refl)
 
-  module _ (es ds : List Triple) (e : Edge) (flow : Flow G) (sound : IsGrounded graph q f es) (there : Member (triple_of e) es)
+  module _ (es ds : List Triple) (e : PathEdge) (flow : Flow G) (sound : IsGrounded graph q f es) (there : Member (triple_of e) es)
       (here : slice_get graph.flows.items e.point ≡ Some flow) where
     -- where a choice leads is reached
     pub next_reached : (t : Triple) → IsNext flow e t → GraphReaches graph (TookMessage led_to) t.entry t.point t.values

@@ -11,7 +11,7 @@ use Rattle.std.proofs.lemmas.Option.{same_Some}
 use Rattle.language.specs.Lists.{Member}
 use Rattle.language.proofs.Members.{member_left, member_right, member_append}
 use Rattle.path_sets.specs.Triples.{Triple, triple}
-use Rattle.summaries.specs.declared.edge.Edge.{Edge}
+use Rattle.summaries.specs.declared.edge.PathEdge.{PathEdge}
 use Rattle.flow_graph.specs.Flows.{last_of, next_of}
 use Rattle.flow_graph.specs.declared.flow.Flow.{Flow}
 use Rattle.summaries.specs.declared.table_fault.TableFault.{TableFault}
@@ -19,7 +19,7 @@ use Rattle.summaries.specs.declared.table_fault.TableFault.TheVariants.{Memory, 
 use Rattle.summaries.specs.Grows.{Grows, Adds, OfSome, IsAt, IsNextBefore, IsNext, triple_of, edge_of}
 
 -- an edge that was there adds nothing
-pub known : (e : Edge) (old new : List Triple) (before : List Edge) (answer : Bool) → answer ≡ false
+pub known : (e : PathEdge) (old new : List Triple) (before : List PathEdge) (answer : Bool) → answer ≡ false
     → OnFalse answer (Member (triple_of e) old) →
     ((t : Triple) → (Member t new → (t ≡ triple_of e) ⊎ Member t old) × ((t ≡ triple_of e) ⊎ Member t old → Member t new))
     → length new ≡ length old + (if answer then 1 else 0) → Grows (λ t. t ≡ triple_of e) old new before before
@@ -36,7 +36,7 @@ known e old new before false is there members longer = record {
 }
 
 -- an edge that is new is pending
-pub added : (e : Edge) (old new : List Triple) (before : List Edge)
+pub added : (e : PathEdge) (old new : List Triple) (before : List PathEdge)
     → ((t : Triple) → (Member t new → (t ≡ triple_of e) ⊎ Member t old) × ((t ≡ triple_of e) ⊎ Member t old → Member t new))
     → length new ≡ length old + 1 → Grows (λ t. t ≡ triple_of e) old new before (before ++ e ∷ [])
 added e old new before members longer = record {
@@ -57,7 +57,7 @@ added e old new before members longer = record {
 }
 
 -- one step after another
-pub both : (V W U : Triple → Type 0) (old mid new : List Triple) (before between after : List Edge) →
+pub both : (V W U : Triple → Type 0) (old mid new : List Triple) (before between after : List PathEdge) →
     Grows V old mid before between → Grows W mid new between after → ((t : Triple) → U t → V t ⊎ W t) → ((t : Triple) → V t ⊎ W t → U t) →
     Grows U old new before after
 both V W U old mid new before between after first second from to = record {
@@ -82,7 +82,7 @@ both V W U old mid new before between after first second from to = record {
 
 -- one more item
 pub each_more : {X : Type 0} (W : X → Triple → Type 0) (xs : List X) (x : X) (old mid new : List Triple)
-    (before between after : List Edge) →
+    (before between after : List PathEdge) →
     Grows (OfSome W xs) old mid before between → Grows (W x) mid new between after → Grows (OfSome W (xs ++ x ∷ [])) old new before after
 each_more W xs x old mid new before between after first second =
     both (OfSome W xs) (W x) (OfSome W (xs ++ x ∷ [])) old mid new before between after first second (each_or_last W xs x)
@@ -98,7 +98,7 @@ longer_by n o true is e = e
 longer_by n o false is e = absurd (true≢false (sym is))
 
 -- what is reached, called otherwise
-pub grows_as : (V W : Triple → Type 0) (old new : List Triple) (before after : List Edge) → ((t : Triple) → V t → W t)
+pub grows_as : (V W : Triple → Type 0) (old new : List Triple) (before after : List PathEdge) → ((t : Triple) → V t → W t)
     → ((t : Triple) → W t → V t) →
     Grows V old new before after → Grows W old new before after
 grows_as V W old new before after to from grows = record {
@@ -113,13 +113,13 @@ grows_as V W old new before after to from grows = record {
 }
 
 -- the place where the run continues
-pub is_at : (e : Edge) (next : Option (ℕ × ℕ)) (n v : ℕ) → next ≡ Some (n, v) → (t : Triple) → t ≡ triple e.entry n v → IsAt e next t
+pub is_at : (e : PathEdge) (next : Option (ℕ × ℕ)) (n v : ℕ) → next ≡ Some (n, v) → (t : Triple) → t ≡ triple e.entry n v → IsAt e next t
 is_at e next n v is t at = (n, v, is, at)
 
-pub at_is : (e : Edge) (next : Option (ℕ × ℕ)) (n v : ℕ) → next ≡ Some (n, v) → (t : Triple) → IsAt e next t → t ≡ triple e.entry n v
+pub at_is : (e : PathEdge) (next : Option (ℕ × ℕ)) (n v : ℕ) → next ≡ Some (n, v) → (t : Triple) → IsAt e next t → t ≡ triple e.entry n v
 at_is e next n v is t (n', v', is', at) = at ∙ ap (λ x. triple e.entry x.0 x.1) (same_Some (n', v') (n, v) (sym is' ∙ is))
 
-module _ {G : Type 0} (flow : Flow G) (e : Edge) where
+module _ {G : Type 0} (flow : Flow G) (e : PathEdge) where
   -- one more choice
   pub next_more : (k : ℕ) (t : Triple) → IsNextBefore (k + 1) flow e t → IsNextBefore k flow e t ⊎ IsAt e (next_of flow e.values k) t
   next_more k t (i, less, at) =
@@ -133,7 +133,7 @@ module _ {G : Type 0} (flow : Flow G) (e : Edge) where
   next_so_far k t (inr at) = (k, omega arith, at)
 
   -- what one more choice leads to grows on what those before it lead to
-  pub one_choice_more : (k : ℕ) (next : Option (ℕ × ℕ)) (old mid new : List Triple) (before between after : List Edge) →
+  pub one_choice_more : (k : ℕ) (next : Option (ℕ × ℕ)) (old mid new : List Triple) (before between after : List PathEdge) →
       Grows (IsNextBefore k flow e) old mid before between → next ≡ next_of flow e.values k
       → Grows (IsAt e next) mid new between after →
       Grows (IsNextBefore (k + 1) flow e) old new before after
@@ -170,10 +170,10 @@ failed_ok Q P (Ok _) told = absurd told
 failed_ok Q P (Err _) told = tt
 
 -- the items of a list, one after the other
-module _ {X : Type 0} (W : X → Triple → Type 0) (xs : List X) (i : ℕ) (old now : List Triple) (before at : List Edge)
+module _ {X : Type 0} (W : X → Triple → Type 0) (xs : List X) (i : ℕ) (old now : List Triple) (before at : List PathEdge)
     (first : Grows (OfSome W (take i xs)) old now before at) where
   -- with the next one
-  pub each_next : (d : X) → i < length xs → (new : List Triple) (after : List Edge) → Grows (W (get_or xs i d)) now new at after →
+  pub each_next : (d : X) → i < length xs → (new : List Triple) (after : List PathEdge) → Grows (W (get_or xs i d)) now new at after →
       Grows (OfSome W (take (i + 1) xs)) old new before after
   each_next d within new after next =
       subst (λ l. Grows (OfSome W l) old new before after) (sym (take_more xs i d within))
@@ -181,7 +181,7 @@ module _ {X : Type 0} (W : X → Triple → Type 0) (xs : List X) (i : ℕ) (old
 
   -- at which adding fails
   pub each_failed : {T U : Type 0} {inner : Result T TableFault} {answer : Result U TableFault} {most : ℕ} (d : X) → i < length xs →
-      (new : List Triple) (after : List Edge) → Adds (W (get_or xs i d)) inner most now new at after →
+      (new : List Triple) (after : List PathEdge) → Adds (W (get_or xs i d)) inner most now new at after →
       OnOk answer (Grows (OfSome W xs) old new before after) → (answer ≡ Err EdgeLimit → inner ≡ Err EdgeLimit) →
       Adds (OfSome W xs) answer most old new before after
   each_failed d within new after failed none told = record {
@@ -201,7 +201,7 @@ module _ {X : Type 0} (W : X → Triple → Type 0) (xs : List X) (i : ℕ) (old
         limit = λ is. absurd (ok_err is);
       }
 
-module _ {X : Type 0} (W : X → Triple → Type 0) {x y : X} (same : x ≡ y) {old new : List Triple} {before after : List Edge} where
+module _ {X : Type 0} (W : X → Triple → Type 0) {x y : X} (same : x ≡ y) {old new : List Triple} {before after : List PathEdge} where
   -- what is added for an item is added for one that is the same
   pub adds_for : {T : Type 0} {answer : Result T TableFault} {most : ℕ} → Adds (W x) answer most old new before after
       → Adds (W y) answer most old new before after

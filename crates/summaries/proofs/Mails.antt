@@ -1,5 +1,5 @@
 -- The messages given, of which none occurs twice, and callers that are known.
-use Rattle.std.proofs.Common.{zero, suc, take, drop, ◌≡◌, ◌≤◌, ◌<◌, ℕ, Bool, true, false, ◌&&◌, List, [], ◌∷◌}
+use Rattle.std.proofs.Common.{zero, suc, take, drop, ◌≡◌, ◌≤◌, ◌<◌, ℕ, Bool, true, false, List, [], ◌∷◌}
 use Rattle.std.proofs.Common.{◌++◌, length, if◌then◌else◌, inl, inr, refl, sym, ap, ◌∙◌, subst, true≢false, not, Result}
 use Rattle.std.proofs.Common.{Ok, Err, is_ok, arith}
 use Rattle.std.proofs.lemmas.List.{take-append-drop, take-append-le, length-take-le}
@@ -13,11 +13,6 @@ use Rattle.summaries.specs.declared.due.Caller.{Caller}
 use Rattle.summaries.specs.declared.due.Caller.TheVariants.{Starter, Proc}
 use Rattle.summaries.specs.contracts.due.CallerPartialEq.TheImpl.{eq-value}
 use Rattle.summaries.specs.contracts.due.CallerEq.TheImpl.Laws.{laws-law}
-
--- a conjunction's parts
-pub both : (a b : Bool) → (a && b) ≡ true → (a ≡ true) × (b ≡ true)
-both true b h = (refl, h)
-both false b h = absurd (true≢false (sym h))
 
 -- callers that compare as equal are the same
 same_caller : (x y : Caller) → eq-value.it x y ≡ true → x ≡ y

@@ -10,12 +10,12 @@ use Rattle.flow_graph.specs.declared.call.Call as rust
 use Rattle.flow_graph.specs.declared.flow.Flow.{Flow}
 use Rattle.flow_graph.specs.declared.flow.Flow.TheVariants.{Assign, Test, Assume, Call, Return}
 use Rattle.flow_graph.specs.declared.graph.Graph.{Graph}
-use Rattle.summaries.specs.declared.edge.Edge.{Edge}
+use Rattle.summaries.specs.declared.edge.PathEdge.{PathEdge}
 use Rattle.summaries.specs.declared.found.Found.{Found}
-use Rattle.summaries.specs.Found.{site, HasSite, HasExit, IsWorked}
+use Rattle.summaries.specs.Found.{HasSite, HasExit, IsWorked}
 use Rattle.summaries.specs.Grows.{IsNext}
 
-module _ {A G : Type 0} (graph : Graph G) (q : ℕ) (f : Found A) (es : List Triple) (e : Edge)
+module _ {A G : Type 0} (graph : Graph G) (q : ℕ) (f : Found A) (es : List Triple) (e : PathEdge)
     (leaves : e.point ≡ 0 → HasExit f e.entry (left_by graph e.values)) where
   -- if there is no such point
   pub beyond_worked : length graph.flows.items ≤ e.point → IsWorked graph q f es e.entry e.point e.values
@@ -30,11 +30,11 @@ module _ {A G : Type 0} (graph : Graph G) (q : ℕ) (f : Found A) (es : List Tri
 
   -- if the site of its call is there
   pub called_worked : (call : rust.Call G) → slice_get graph.flows.items e.point ≡ Some (Call call) →
-      HasSite f call.callee (call_entry call.globals call.arguments.items e.values) (site e.entry e.point e.values) →
+      HasSite f call.callee (call_entry call.globals call.arguments.items e.values) e →
       IsWorked graph q f es e.entry e.point e.values
   called_worked call here asked = record {
     flows = λ flow i n v at most next. absurd (none-some (n, v) (subst (λ w. next_of w e.values i ≡ Some (n, v)) (is flow at) next));
-    calls = λ flow s x n at enters. subst (λ (t : ℕ × ℕ × ℕ). HasSite f t.0 t.1 (site e.entry e.point e.values))
+    calls = λ flow s x n at enters. subst (λ (t : ℕ × ℕ × ℕ). HasSite f t.0 t.1 e)
         (same_Some _ _ (subst (λ w. entered_by w e.values ≡ Some (s, x, n)) (is flow at) enters)) asked;
     leaves = leaves;
   }

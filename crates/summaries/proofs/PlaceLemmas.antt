@@ -7,7 +7,7 @@ use Rattle.std.proofs.lemmas.Option.{slice_get_within, slice_get-get_or, get_or_
 use Rattle.language.specs.Lists.{Member, NoneTwice}
 use Rattle.language.proofs.Members.{member_map, map_member}
 use Rattle.summaries.specs.declared.due.Caller.TheVariants.{Proc}
-use Rattle.summaries.specs.declared.edge.Call.{Call}
+use Rattle.summaries.specs.declared.edge.CallKey.{CallKey}
 use Rattle.summaries.specs.declared.outbox.Outgoing.{Outgoing}
 use Rattle.summaries.specs.declared.outbox.Outgoing.TheVariants.{EntryFor, SummaryFor}
 use Rattle.summaries.specs.declared.pair.Pair.{Pair}
@@ -92,8 +92,8 @@ HasMoreBehind {X} xs ys = (more : List X) × (ys ≡ xs ++ more)
 pub none_behind : {X : Type 0} (xs : List X) → HasMoreBehind xs xs
 none_behind xs = ([], sym (append-nil xs))
 
-module _ (q : ℕ) (cs : List Call) (ps : List Pair) where
-  module _ (ds : List Call) (rs : List Pair) (calls : HasMoreBehind cs ds) (pairs : HasMoreBehind ps rs) where
+module _ (q : ℕ) (cs : List CallKey) (ps : List Pair) where
+  module _ (ds : List CallKey) (rs : List Pair) (calls : HasMoreBehind cs ds) (pairs : HasMoreBehind ps rs) where
     -- a message that has a place has it with more calls and pairs appended
     pub placed_still : (x : Outgoing) → IsPlaced cs ps x → IsPlaced ds rs x
     placed_still (EntryFor at) near =

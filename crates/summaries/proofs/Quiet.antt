@@ -8,15 +8,15 @@ use Rattle.flow_graph.specs.Numbers.{starts, flows, returns, Sends, asks, tells,
 use Rattle.flow_graph.specs.declared.graph.Graph.{Graph}
 use Rattle.flow_graph.specs.declared.exit.Exit.{Exit}
 use Rattle.summaries.specs.declared.found.Found.{Found}
-use Rattle.summaries.specs.Found.{edge, TookMessage, HasExit, HasGiven, IsOwed, IsGrounded, IsWorked, IsSaturated, IsExact}
+use Rattle.summaries.specs.Found.{path_edge, TookMessage, HasExit, HasGiven, IsOwed, IsGrounded, IsWorked, IsSaturated, IsExact}
 
 -- a message that is owed is sent
 pub owed_sent : {A G : Type 0} (graph : Graph G) (q : ℕ) (f : Found A) (edges : List Triple) →
     IsGrounded graph q f edges → (s : ℕ) (k : NumberedMessage) → IsOwed f q s k → Sends graph q (TookMessage f) s k
 owed_sent graph q f edges sound s (numbered_entry from e) (is, (x, at)) =
-    let (reached, (back, (flow, here, enters))) = sound.site s e x.asked x.point x.values at in
+    let (reached, (back, (flow, here, enters))) = sound.site s e x.entry x.point x.values at in
     subst (λ c. Sends graph q (TookMessage f) s (numbered_entry c e)) (sym is)
-    (asks x.asked x.point x.values s e back flow reached here enters)
+    (asks x.entry x.point x.values s e back flow reached here enters)
 owed_sent graph q f edges sound s (numbered_summary p a b) (is, has, taken) =
     let (v, reached, leaves) = sound.exit a b has in
     subst (λ n. Sends graph q (TookMessage f) s (numbered_summary n a b)) (sym is)
@@ -30,7 +30,7 @@ module _ {A G : Type 0} (graph : Graph G) (q : ℕ) (f : Found A) (edges : List 
       elim (complete.worked a n v e) [
         | inl aside ↦ absurd aside
         | inr rest ↦ elim rest [
-          | inl pending ↦ absurd (subst (Member (edge a n v)) none_pending pending)
+          | inl pending ↦ absurd (subst (Member (path_edge a n v)) none_pending pending)
           | inr worked ↦ worked
         ]
       ]

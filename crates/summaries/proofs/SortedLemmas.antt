@@ -17,7 +17,7 @@ use Rattle.std.proofs.lemmas.Bool.Decides.{nat_tests}
 use Rattle.language.specs.Lists.{Member}
 use Rattle.summaries.specs.declared.pair.Pair.{Pair}
 use Rattle.summaries.specs.Tabulated.{IsAscending, IsPairBefore, ArePairsAscending}
-use Rattle.summaries.specs.Under.{items_of}
+use Rattle.summaries.specs.Under.{values_if_any}
 
 module _ {X : Type 0} where
   -- a member is somewhere in the list
@@ -158,23 +158,23 @@ has_any xs = not (length xs == 0)
 
 module _ {V A : Type 0} where
   -- a key that has values is among the keys
-  key_there : (a : ℕ) (v : V) (es : List (ℕ × Values V A)) → Member v (items_of (lookup (nat_eq a) es))
+  key_there : (a : ℕ) (v : V) (es : List (ℕ × Values V A)) → Member v (values_if_any (lookup (nat_eq a) es))
       → Member a (keys_of es)
   key_there a v [] m = absurd m
   key_there a v (e ∷ es) m = by (nat_eq a e.0) refl m (key_there a v es)
     where
-      by : (b : Bool) → nat_eq a e.0 ≡ b → Member v (items_of (cond b (Some e.1) (lookup (nat_eq a) es)))
-          → (Member v (items_of (lookup (nat_eq a) es)) → Member a (keys_of es)) → Member a (keys_of (e ∷ es))
+      by : (b : Bool) → nat_eq a e.0 ≡ b → Member v (values_if_any (cond b (Some e.1) (lookup (nat_eq a) es)))
+          → (Member v (values_if_any (lookup (nat_eq a) es)) → Member a (keys_of es)) → Member a (keys_of (e ∷ es))
       by true f n rest = inl (exact_unsigned_eq a e.0 f)
       by false f n rest = inr (rest n)
 
   -- the keys that have values
   pub keys_with_values : (a : ℕ) (es : List (ℕ × Values V A))
-      → (Member a (keys_of es) × (has_any (items_of (lookup (nat_eq a) es)) ≡ true)) ↔
-      ((v : V) × Member v (items_of (lookup (nat_eq a) es)))
+      → (Member a (keys_of es) × (has_any (values_if_any (lookup (nat_eq a) es)) ≡ true)) ↔
+      ((v : V) × Member v (values_if_any (lookup (nat_eq a) es)))
   keys_with_values a es = (
-    λ h. some (items_of (lookup (nat_eq a) es)) h.1,
-    λ h. (key_there a h.0 es h.1, any h.0 (items_of (lookup (nat_eq a) es)) h.1),
+    λ h. some (values_if_any (lookup (nat_eq a) es)) h.1,
+    λ h. (key_there a h.0 es h.1, any h.0 (values_if_any (lookup (nat_eq a) es)) h.1),
   )
     where
       some : (vs : List V) → has_any vs ≡ true → (v : V) × Member v vs

@@ -12,19 +12,17 @@ use Rattle.flow_graph.specs.Numbers.{NumberedMessage, numbered_entry, numbered_s
 use Rattle.flow_graph.specs.declared.graph.Graph.{Graph}
 use Rattle.flow_graph.specs.declared.exit.Exit.{Exit}
 use Rattle.flow_graph.proofs.ReachLemmas.{reaches_more}
-use Rattle.summaries.specs.declared.edge.Call.{Call}
-use Rattle.summaries.specs.declared.edge.Edge.{Edge}
-use Rattle.summaries.specs.declared.edge.Expanded.{Expanded}
-use Rattle.summaries.specs.declared.edge.Site.{Site}
+use Rattle.summaries.specs.declared.edge.CallKey.{CallKey}
+use Rattle.summaries.specs.declared.edge.PathEdge.{PathEdge}
 use Rattle.summaries.specs.declared.found.Found.{Found}
 use Rattle.summaries.specs.declared.outbox.Outbox.{Outbox}
 use Rattle.summaries.specs.declared.outbox.Outgoing.{Outgoing}
 use Rattle.summaries.specs.declared.groups.Groups.{Groups}
 use Rattle.summaries.specs.declared.due.Caller as rust
 use Rattle.summaries.specs.Under.{under}
-use Rattle.summaries.specs.Mails.{Mail, mail}
+use Rattle.summaries.specs.Mails.{AddressedMail, mail}
 use Rattle.summaries.specs.Dues.{caller_of, due_of}
-use Rattle.summaries.specs.Found.{call, call_eq, edge, site, pair, mail_of, calls_in, mails_in, TookMessage, HasSite}
+use Rattle.summaries.specs.Found.{call, call_eq, path_edge, pair, mail_of, calls_in, mails_in, TookMessage, HasSite}
 use Rattle.summaries.specs.Found.{HasExit, HasGiven, IsPlaced, IsIndexed, IsOwed, IsPending, IsGrounded, IsWorked, IsSaturated, IsEmpty}
 use Rattle.summaries.specs.Found.{IsExpanded}
 use Rattle.summaries.specs.Grows.{EntersAt, Grows, triple_of}
@@ -37,27 +35,27 @@ pub record Step {A G : Type 0} (graph : Graph G) (q : ℕ) (f g : Found A) (es d
   pub kept : (t : Triple) → Member t es → Member t ds
   pub edge : (t : Triple) → Member t ds → Member t es ⊎ GraphReaches graph (TookMessage g) t.entry t.point t.values
   pub new : (t : Triple) → Member t ds → Member t es ⊎ IsPending g t.entry t.point t.values
-  pub stays : (e : Edge) → Member e f.pending.items → Member e g.pending.items
-  pub pending : (e : Edge) → Member e g.pending.items → Member e f.pending.items ⊎ Member (triple_of e) ds
-  pub sites : (s e a n v : ℕ) → HasSite f s e (site a n v) → HasSite g s e (site a n v)
-  pub called : (s e a n v : ℕ) → HasSite g s e (site a n v) →
-      HasSite f s e (site a n v) ⊎ (GraphReaches graph (TookMessage g) a n v × ((back : ℕ) × EntersAt graph n v s e back))
+  pub stays : (e : PathEdge) → Member e f.pending.items → Member e g.pending.items
+  pub pending : (e : PathEdge) → Member e g.pending.items → Member e f.pending.items ⊎ Member (triple_of e) ds
+  pub sites : (s e a n v : ℕ) → HasSite f s e (path_edge a n v) → HasSite g s e (path_edge a n v)
+  pub called : (s e a n v : ℕ) → HasSite g s e (path_edge a n v) →
+      HasSite f s e (path_edge a n v) ⊎ (GraphReaches graph (TookMessage g) a n v × ((back : ℕ) × EntersAt graph n v s e back))
   pub exits : (a : ℕ) (b : Exit) → HasExit f a b → HasExit g a b
   pub exit : (a : ℕ) (b : Exit) → HasExit g a b → HasExit f a b ⊎ Leaves graph (TookMessage g) a b
   pub gives : (s : ℕ) (k : NumberedMessage) → HasGiven f q s k → HasGiven g q s k
   pub given : (s : ℕ) (k : NumberedMessage) → HasGiven g q s k → HasGiven f q s k ⊎ IsOwed g q s k
   pub begun : (from : Caller) (a : ℕ) → TookMessage g (numbered_entry from a) →
       TookMessage f (numbered_entry from a) ⊎ Member (triple a graph.start a) ds
-  pub ended : (s e : ℕ) (b : Exit) (a n v back : ℕ) → HasSite g s e (site a n v) → EntersAt graph n v s e back →
+  pub ended : (s e : ℕ) (b : Exit) (a n v back : ℕ) → HasSite g s e (path_edge a n v) → EntersAt graph n v s e back →
       TookMessage g (numbered_summary s e b) →
-      HasSite f s e (site a n v) × TookMessage f (numbered_summary s e b) ⊎ Member (triple a back (resumed_at graph n v b)) ds
-  pub asks : (s e a n v : ℕ) → HasSite g s e (site a n v)
-      → HasSite f s e (site a n v) ⊎ HasGiven g q s (numbered_entry (caller q) e)
+      HasSite f s e (path_edge a n v) × TookMessage f (numbered_summary s e b) ⊎ Member (triple a back (resumed_at graph n v b)) ds
+  pub asks : (s e a n v : ℕ) → HasSite g s e (path_edge a n v)
+      → HasSite f s e (path_edge a n v) ⊎ HasGiven g q s (numbered_entry (caller q) e)
   pub tells : (a : ℕ) (b : Exit) (c : ℕ) → HasExit g a b → TookMessage g (numbered_entry (caller c) a) →
       HasExit f a b × TookMessage f (numbered_entry (caller c) a) ⊎ HasGiven g q c (numbered_summary q a b)
   pub callers_once : ((a : ℕ) → NoneTwice (under nat_eq f.entries.by_key a)) → (a : ℕ) →
       NoneTwice (under nat_eq g.entries.by_key a)
-  pub led : (x : Expanded) → Member x g.expanded.keys → Member x f.expanded.keys ⊎ IsExpanded graph ds x
+  pub led : (x : PathEdge) → Member x g.expanded.keys → Member x f.expanded.keys ⊎ IsExpanded graph ds x
   pub indexed : IsIndexed f → IsIndexed g
 
 module _ {A G : Type 0} (graph : Graph G) (q : ℕ) (f g : Found A) (es ds : List Triple) (step : Step graph q f g es ds) where
@@ -74,13 +72,13 @@ module _ {A G : Type 0} (graph : Graph G) (q : ℕ) (f g : Found A) (es ds : Lis
         elim (step.exit a b m) [ inl was ↦ let (v, reached, is) = old.exit a b was in (v, more a 0 v reached, is) | inr is ↦ is ];
     given = λ s k m. elim (step.given s k m) [ inl was ↦ owed s k (old.given s k was) | inr is ↦ is ];
     pending =
-        λ a n v m. elim (step.pending (edge a n v) m) [ inl was ↦ step.kept (triple a n v) (old.pending a n v was) | inr is ↦ is ];
+        λ a n v m. elim (step.pending (path_edge a n v) m) [ inl was ↦ step.kept (triple a n v) (old.pending a n v was) | inr is ↦ is ];
     callers_once = step.callers_once old.callers_once;
     indexed = step.indexed old.indexed;
   }
     where
       owed : (s : ℕ) (k : NumberedMessage) → IsOwed f q s k → IsOwed g q s k
-      owed s (numbered_entry from e) (is, (x, at)) = (is, (x, step.sites s e x.asked x.point x.values at))
+      owed s (numbered_entry from e) (is, (x, at)) = (is, (x, step.sites s e x.entry x.point x.values at))
       owed s (numbered_summary p a b) (is, left, taken) =
           (is, step.exits a b left, step.taken (numbered_entry (caller s) a) taken)
 
@@ -104,7 +102,10 @@ module _ {A G : Type 0} (graph : Graph G) (q : ℕ) (f g : Found A) (es ds : Lis
       | inl was ↦ elim (old.worked a n v was) [
         | inl aside ↦ inl aside
         | inr rest ↦
-            elim rest [ inl pending ↦ inr (inl (step.stays (edge a n v) pending)) | inr worked ↦ inr (inr (still_worked a n v worked)) ]
+            elim rest [
+              | inl pending ↦ inr (inl (step.stays (path_edge a n v) pending))
+              | inr worked ↦ inr (inr (still_worked a n v worked))
+            ]
       ]
       | inr is ↦ inr (inl is)
     ];
@@ -166,7 +167,7 @@ all_reached graph q f g es sound taken t m =
 
 -- if the entries and the summaries are the same, so are the messages taken
 pub taken_as : {A : Type 0} (f g : Found A) → ((a : ℕ) → under nat_eq g.entries.by_key a ≡ under nat_eq f.entries.by_key a)
-    → ((c : Call) → under call_eq g.summaries.by_key c ≡ under call_eq f.summaries.by_key c) →
+    → ((c : CallKey) → under call_eq g.summaries.by_key c ≡ under call_eq f.summaries.by_key c) →
     (k : NumberedMessage) → TookMessage f k → TookMessage g k
 taken_as f g entries summaries (numbered_entry from a) h = subst (Member (caller_of from)) (sym (entries a)) h
 taken_as f g entries summaries (numbered_summary s a b) h = subst (Member b) (sym (summaries (call s a))) h
@@ -190,8 +191,8 @@ indexed_as f g calls pairs exits placed old = record {
 }
 
 -- g has other entries, summaries, messages given and edges pending than f
-module _ {A G : Type 0} (graph : Graph G) (q : ℕ) (f : Found A) (entries : Groups ℕ rust.Caller A) (summaries : Groups Call Exit A)
-    (given : Outbox A) (pending : Vec Edge A) where
+module _ {A G : Type 0} (graph : Graph G) (q : ℕ) (f : Found A) (entries : Groups ℕ rust.Caller A) (summaries : Groups CallKey Exit A)
+    (given : Outbox A) (pending : Vec PathEdge A) where
   -- what is found, with these
   abbrev pub grown_to : Found A
   grown_to = record {
@@ -221,7 +222,7 @@ module _ {A G : Type 0} (graph : Graph G) (q : ℕ) (f : Found A) (entries : Gro
         → ((s : ℕ) (k : NumberedMessage) → HasGiven grown_to q s k → HasGiven f q s k ⊎ IsOwed grown_to q s k)
         → ((from : Caller) (a : ℕ) → TookMessage grown_to (numbered_entry from a) →
         TookMessage f (numbered_entry from a) ⊎ Member (triple a graph.start a) ds)
-        → ((s e : ℕ) (b : Exit) (a n v back : ℕ) → HasSite f s e (site a n v) → EntersAt graph n v s e back →
+        → ((s e : ℕ) (b : Exit) (a n v back : ℕ) → HasSite f s e (path_edge a n v) → EntersAt graph n v s e back →
         TookMessage grown_to (numbered_summary s e b) →
         TookMessage f (numbered_summary s e b) ⊎ Member (triple a back (resumed_at graph n v b)) ds)
         → ((a : ℕ) (b : Exit) (c : ℕ) → HasExit f a b → TookMessage grown_to (numbered_entry (caller c) a) →
@@ -294,7 +295,7 @@ module _ {A G : Type 0} (graph : Graph G) (q : ℕ) (f g : Found A) (es : List T
     indexed = λ old. indexed_as f same_to refl paired (λ a. refl) (λ x m. old.placed x (subst (Member x) gave m)) old;
   }
 
-module _ {A G : Type 0} (graph : Graph G) (q : ℕ) (f : Found A) (es : List Triple) (pending : Vec Edge A) (e : Edge)
+module _ {A G : Type 0} (graph : Graph G) (q : ℕ) (f : Found A) (es : List Triple) (pending : Vec PathEdge A) (e : PathEdge)
     (popped : f.pending.items ≡ pending.items ++ e ∷ []) where
   -- what is found, with the last edge no longer pending
   abbrev pub popped_to : Found A
@@ -307,7 +308,7 @@ module _ {A G : Type 0} (graph : Graph G) (q : ℕ) (f : Found A) (es : List Tri
   more = reaches_more graph (TookMessage f) (TookMessage popped_to) taken_there
 
   -- what was pending is pending or is the edge
-  was : (x : Edge) → Member x f.pending.items → Member x pending.items ⊎ (x ≡ e)
+  was : (x : PathEdge) → Member x f.pending.items → Member x pending.items ⊎ (x ≡ e)
   was x m = elim (member_append x pending.items (e ∷ []) (subst (Member x) popped m)) [
     | inl there ↦ inl there
     | inr last ↦ elim last [ inl is ↦ inr is | inr none ↦ elim none [ ] ]
@@ -320,7 +321,8 @@ module _ {A G : Type 0} (graph : Graph G) (q : ℕ) (f : Found A) (es : List Tri
     exit = λ a b m. let (v, reached, is) = old.exit a b m in (v, more a 0 v reached, is);
     given = λ s k m. owed s k (old.given s k m);
     pending =
-        λ a n v m. old.pending a n v (subst (Member (edge a n v)) (sym popped) (member_left (edge a n v) pending.items (e ∷ []) m));
+        λ a n v m.
+        old.pending a n v (subst (Member (path_edge a n v)) (sym popped) (member_left (path_edge a n v) pending.items (e ∷ []) m));
     callers_once = old.callers_once;
     indexed = indexed_as f popped_to refl refl (λ a. refl) old.indexed.placed old.indexed;
   }
@@ -336,7 +338,7 @@ module _ {A G : Type 0} (graph : Graph G) (q : ℕ) (f : Found A) (es : List Tri
     worked = λ a n v m. elim (old.worked a n v m) [
       | inl none ↦ absurd none
       | inr rest ↦ elim rest [
-        | inl pend ↦ elim (was (edge a n v) pend) [ inl there ↦ inr (inl there) | inr is ↦ inl (ap triple_of is) ]
+        | inl pend ↦ elim (was (path_edge a n v) pend) [ inl there ↦ inr (inl there) | inr is ↦ inl (ap triple_of is) ]
         | inr worked ↦ inr (inr (record { flows = worked.flows; calls = worked.calls; leaves = worked.leaves }))
       ]
     ];
@@ -356,7 +358,7 @@ module _ {A G : Type 0} (graph : Graph G) (q : ℕ) (f : Found A) (es : List Tri
   no_edge : (t : Triple) → Member t es → ⊥
   no_edge t m = subst (Member t) none m
 
-  no_site : (s e : ℕ) (x : Site) → HasSite f s e x → ⊥
+  no_site : (s e : ℕ) (x : PathEdge) → HasSite f s e x → ⊥
   no_site s e x m = subst (Member x) (empty.sites (call s e)) m
 
   no_exit : (a : ℕ) (b : Exit) → HasExit f a b → ⊥
@@ -366,7 +368,7 @@ module _ {A G : Type 0} (graph : Graph G) (q : ℕ) (f : Found A) (es : List Tri
   no_message (numbered_entry from a) h = subst (Member (caller_of from)) (empty.entries a) h
   no_message (numbered_summary s a b) h = subst (Member b) (empty.summaries (call s a)) h
 
-  no_mail : (m : Mail) → Member m (mails_in q f) → ⊥
+  no_mail : (m : AddressedMail) → Member m (mails_in q f) → ⊥
   no_mail m there = subst (λ xs. Member m (map (mail_of (calls_in f) f.pairs.keys q) xs)) empty.given there
 
   empty_indexed : IsIndexed f
@@ -382,10 +384,10 @@ module _ {A G : Type 0} (graph : Graph G) (q : ℕ) (f : Found A) (es : List Tri
   pub empty_grounded : IsGrounded graph q f es
   empty_grounded = record {
     edge = λ a n v m. absurd (no_edge (triple a n v) m);
-    site = λ s e a n v m. absurd (no_site s e (site a n v) m);
+    site = λ s e a n v m. absurd (no_site s e (path_edge a n v) m);
     exit = λ a b m. absurd (no_exit a b m);
     given = λ s k m. absurd (no_mail (mail s (due_of k)) m);
-    pending = λ a n v m. absurd (subst (Member (edge a n v)) empty.pending m);
+    pending = λ a n v m. absurd (subst (Member (path_edge a n v)) empty.pending m);
     callers_once = λ a. subst NoneTwice (sym (empty.entries a)) tt;
     indexed = empty_indexed;
   }
@@ -394,8 +396,8 @@ module _ {A G : Type 0} (graph : Graph G) (q : ℕ) (f : Found A) (es : List Tri
   empty_complete = record {
     begun = λ from a h. absurd (no_message (numbered_entry from a) h);
     worked = λ a n v m. absurd (no_edge (triple a n v) m);
-    ended = λ s e b a n v back at enters taken. absurd (no_site s e (site a n v) at);
-    asks = λ s e a n v m. absurd (no_site s e (site a n v) m);
+    ended = λ s e b a n v back at enters taken. absurd (no_site s e (path_edge a n v) at);
+    asks = λ s e a n v m. absurd (no_site s e (path_edge a n v) m);
     tells = λ a b c m h. absurd (no_exit a b m);
     led = λ x m. absurd (subst (Member x) empty.led m);
   }

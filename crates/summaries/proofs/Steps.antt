@@ -31,7 +31,7 @@ use Rattle.summaries.specs.declared.table.Table.{Table}
 use Rattle.summaries.specs.declared.table_fault.TableFault.{TableFault}
 use Rattle.summaries.specs.declared.table_fault.TableFault.TheVariants.{Memory, EdgeLimit}
 use Rattle.summaries.specs.declared.no_verdict.NoVerdict.TheVariants as verdict
-use Rattle.summaries.specs.Mails.{Mail, mail}
+use Rattle.summaries.specs.Mails.{AddressedMail, mail}
 use Rattle.summaries.specs.Dues.{due_of}
 use Rattle.summaries.specs.Found.{left, TookMessage}
 use Rattle.summaries.specs.Tables.{graph_of, answers_of, IsTable, IsQuiet, IsAnswer, KeepsTable, StaysAs, TookAlso, TookOnly, TookSame}
@@ -74,7 +74,7 @@ opening_fits graphs some_of p drawn k e =
 pub get_map : {X Y : Type 0} (f : X → Y) (xs : List X) (q : ℕ) (x : X) → slice_get xs q ≡ Some x → slice_get (map f xs) q ≡ Some (f x)
 get_map f xs q x e = slice_get-map f xs q ∙ ap (option_map f) e
 
-module _ {G A S : Type 0} (members : S → List Triple) (p : Program) (Aside : Mail → Type 0) (ts : List (Table G A S))
+module _ {G A S : Type 0} (members : S → List Triple) (p : Program) (Aside : AddressedMail → Type 0) (ts : List (Table G A S))
     (are : AreTables members p Aside ts) where
   -- as many tables as procedures
   pub as_many : length ts ≡ length p.routines
@@ -157,7 +157,7 @@ module _ {G A S : Type 0} (members : S → List Triple) (p : Program) (Aside : M
 pub answered : {G A S : Type 0} (members : S → List Triple) (p : Program) (ts : List (Table G A S)) → AreTables members p (λ x. ⊥) ts
     → (q : ℕ) (t t' : Table G A S) → slice_get ts q ≡ Some t → IsTable members t' → t'.fault ≡ None → StaysAs t t'
     → TookSame t.found t'.found
-    → (x : Mail) → answers_of t' ≡ answers_of t ++ x ∷ [] → AreTables members p (λ y. y ≡ x) (slice_set ts q t')
+    → (x : AddressedMail) → answers_of t' ≡ answers_of t ++ x ∷ [] → AreTables members p (λ y. y ≡ x) (slice_set ts q t')
 answered members p ts are q t t' is table whole stays same x more =
     replaced members p (λ y. ⊥) (λ y. y ≡ x) ts q t t' are is (goes_on members p (λ y. ⊥) ts are q t t' is table whole stays same)
     (λ y m. elim (member_append y (answers_of t) (x ∷ []) (subst (Member y) more m))
@@ -237,7 +237,7 @@ module _ {G A S : Type 0} where
       let moved = sum_by-set (left_of n) ts i t' t (slice_get_within ts i t is) in
       omega (arith, same, moved)
 
-  pub less_room : (n : ℕ) (ts : List (Table G A S)) (i : ℕ) (t t' : Table G A S) (x : Mail) → slice_get ts i ≡ Some t →
+  pub less_room : (n : ℕ) (ts : List (Table G A S)) (i : ℕ) (t t' : Table G A S) (x : AddressedMail) → slice_get ts i ≡ Some t →
       answers_of t' ≡ answers_of t ++ x ∷ [] → length (answers_of t') < n
       → room n (slice_set ts i t') < room n ts
   less_room n ts i t t' x is more few =
@@ -291,7 +291,7 @@ new_tables members p ts drawn new = record {
 }
 
 -- if there are no tables, nothing is left aside
-pub none_aside : {G A S : Type 0} (members : S → List Triple) (p : Program) (Aside : Mail → Type 0) (ts : List (Table G A S))
+pub none_aside : {G A S : Type 0} (members : S → List Triple) (p : Program) (Aside : AddressedMail → Type 0) (ts : List (Table G A S))
     → length ts ≡ 0 → AreTables members p Aside ts → AreTables members p (λ x. ⊥) ts
 none_aside members p Aside [] none are = record {
   drawn = are.drawn;

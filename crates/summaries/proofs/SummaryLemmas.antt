@@ -10,24 +10,24 @@ use Rattle.flow_graph.specs.Numbers.{NumberedMessage, numbered_entry, numbered_s
 use Rattle.flow_graph.specs.declared.graph.Graph.{Graph}
 use Rattle.flow_graph.specs.declared.exit.Exit.{Exit}
 use Rattle.flow_graph.proofs.ReachLemmas.{reaches_more}
-use Rattle.summaries.specs.declared.edge.Call.{Call}
-use Rattle.summaries.specs.declared.edge.Edge.{Edge}
+use Rattle.summaries.specs.declared.edge.CallKey.{CallKey}
+use Rattle.summaries.specs.declared.edge.PathEdge.{PathEdge}
 use Rattle.summaries.specs.declared.found.Found.{Found}
 use Rattle.summaries.specs.declared.groups.Groups.{Groups}
 use Rattle.summaries.specs.Under.{under}
 use Rattle.summaries.specs.Mails.{summary_due}
 use Rattle.summaries.specs.Dues.{caller_of}
-use Rattle.summaries.specs.Found.{call, call_eq, site, TookMessage, IsGrounded}
+use Rattle.summaries.specs.Found.{call, call_eq, path_edge, TookMessage, IsGrounded}
 use Rattle.summaries.specs.Grows.{Grows, OfSome, IsBehind}
 use Rattle.summaries.specs.Tables.{TookAlso}
 use Rattle.summaries.proofs.AddLemmas.{same_call, added_or, added_keeps, added_is}
 use Rattle.summaries.proofs.Dues.{same_summary, apart}
 use Rattle.summaries.proofs.StepLemmas.{Step, grown_to, grown_reached, grown_step}
 
-module _ {A G : Type 0} (graph : Graph G) (q : ℕ) (f : Found A) (summaries : Groups Call Exit A) (pending : Vec Edge A) (k : Call)
+module _ {A G : Type 0} (graph : Graph G) (q : ℕ) (f : Found A) (summaries : Groups CallKey Exit A) (pending : Vec PathEdge A) (k : CallKey)
     (b : Exit)
     (added : under call_eq summaries.by_key k ≡ under call_eq f.summaries.by_key k ++ b ∷ [])
-    (others : (j : Call) → call_eq k j ≡ false → under call_eq summaries.by_key j ≡ under call_eq f.summaries.by_key j) where
+    (others : (j : CallKey) → call_eq k j ≡ false → under call_eq summaries.by_key j ≡ under call_eq f.summaries.by_key j) where
   -- what is found, with other summaries and edges pending
   abbrev pub resumed_to : Found A
   resumed_to = grown_to graph q f f.entries summaries f.outbox pending
@@ -35,7 +35,7 @@ module _ {A G : Type 0} (graph : Graph G) (q : ℕ) (f : Found A) (summaries : G
   abbrev M : NumberedMessage → Type 0
   M = TookMessage resumed_to
 
-  summary_or : (j : Call) (y : Exit) → Member y (under call_eq summaries.by_key j)
+  summary_or : (j : CallKey) (y : Exit) → Member y (under call_eq summaries.by_key j)
       → Member y (under call_eq f.summaries.by_key j) ⊎ ((k ≡ j) × (b ≡ y))
   summary_or = added_or call_eq same_call (under call_eq f.summaries.by_key) (under call_eq summaries.by_key) k b added others
 
@@ -73,14 +73,14 @@ module _ {A G : Type 0} (graph : Graph G) (q : ℕ) (f : Found A) (summaries : G
     pub resumed_reached : (t : Triple) → OfSome (λ y. IsBehind graph y b) (under call_eq f.sites.by_key k) t →
         GraphReaches graph M t.entry t.point t.values
     resumed_reached t (y, m, (s, x, n, (fl, at, en), is)) =
-        let (reached, (back, (flow, here, enters))) = sound.site k.callee k.entered y.asked y.point y.values m in
+        let (reached, (back, (flow, here, enters))) = sound.site k.callee k.entered y.entry y.point y.values m in
         let call : (s, x, n) ≡ (k.callee, k.entered, back) =
         same_Some (s, x, n) (k.callee, k.entered, back)
         (sym en ∙ ap (λ w. entered_by w y.values) (same_Some fl flow (sym at ∙ here)) ∙ enters) in
         subst (λ u. GraphReaches graph M u.entry u.point u.values)
-        (sym (is ∙ ap (λ (c : ℕ × ℕ × ℕ). triple y.asked c.2 (resumed_at graph y.point y.values b)) call))
-        (returns y.asked y.point y.values k.callee k.entered back b flow
-        (reaches_more graph (TookMessage f) M taken_resumed y.asked y.point y.values reached) here enters left_so)
+        (sym (is ∙ ap (λ (c : ℕ × ℕ × ℕ). triple y.entry c.2 (resumed_at graph y.point y.values b)) call))
+        (returns y.entry y.point y.values k.callee k.entered back b flow
+        (reaches_more graph (TookMessage f) M taken_resumed y.entry y.point y.values reached) here enters left_so)
 
     -- so all edges are, if nothing else is added
     pub resume_only : ((t : Triple) → Member t ds →
@@ -99,8 +99,8 @@ module _ {A G : Type 0} (graph : Graph G) (q : ℕ) (f : Found A) (summaries : G
         (λ s x y c n v back at enters taken. elim (summary_or (call s x) y taken) [
           | inl was ↦ inl was
           | inr is ↦ inr (grown.all (triple c back (resumed_at graph n v y)) (
-            site c n v,
-            subst (λ j. Member (site c n v) (under call_eq f.sites.by_key j)) (sym is.0) at,
+            path_edge c n v,
+            subst (λ j. Member (path_edge c n v) (under call_eq f.sites.by_key j)) (sym is.0) at,
             (s, x, back, enters, ap (λ z. triple c back (resumed_at graph n v z)) (sym is.1)),
           ))
         ])

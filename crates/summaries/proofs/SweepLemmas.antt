@@ -11,7 +11,7 @@ use Rattle.flow_graph.specs.Numbers.{NumberedMessage, numbered_entry, numbered_s
 use Rattle.summaries.specs.declared.found.Found.{Found}
 use Rattle.summaries.specs.declared.table.Table.{Table}
 use Rattle.summaries.specs.Under.{under}
-use Rattle.summaries.specs.Mails.{Mail}
+use Rattle.summaries.specs.Mails.{AddressedMail}
 use Rattle.summaries.specs.Dues.{caller_of}
 use Rattle.summaries.specs.Found.{call, call_eq, TookMessage}
 use Rattle.summaries.specs.Tables.{graph_of, answers_of, IsTable, StaysAs, TookSame}
@@ -54,21 +54,21 @@ module _ {G A S : Type 0} (members : S → List Triple) (p : Program) where
     pub keeps : (k : NumberedMessage) → TookMessage t.found k → TookMessage t'.found k
     pub due : (k : NumberedMessage) → TookMessage t'.found k → IsNumberOf (IsDue p q) k
 
-  module _ (Before After : Mail → Type 0) (ts : List (Table G A S)) (i : ℕ) (t t' : Table G A S)
+  module _ (Before After : AddressedMail → Type 0) (ts : List (Table G A S)) (i : ℕ) (t t' : Table G A S)
       (are : AreTables members p Before ts) (is : slice_get ts i ≡ Some t) (becomes : Becomes i t t')
-      (answers : (x : Mail) → Member x (answers_of t') → Member x (answers_of t) ⊎ After x)
-      (settles : (x : Mail) → Before x → After x ⊎ IsReceived (slice_set ts i t') x) where
-    received : (x : Mail) → IsReceived ts x → IsReceived (slice_set ts i t') x
+      (answers : (x : AddressedMail) → Member x (answers_of t') → Member x (answers_of t) ⊎ After x)
+      (settles : (x : AddressedMail) → Before x → After x ⊎ IsReceived (slice_set ts i t') x) where
+    received : (x : AddressedMail) → IsReceived ts x → IsReceived (slice_set ts i t') x
     received x h = λ k e. taken_stays ts i t t' is becomes.keeps x.to k (h k e)
 
-    settled : (x : Mail) → Before x ⊎ IsReceived ts x → After x ⊎ IsReceived (slice_set ts i t') x
+    settled : (x : AddressedMail) → Before x ⊎ IsReceived ts x → After x ⊎ IsReceived (slice_set ts i t') x
     settled x (inl h) = settles x h
     settled x (inr h) = inr (received x h)
 
     was : (q : ℕ) (u : Table G A S) → slice_get (slice_set ts i t') q ≡ Some u → (w : Table G A S) × (slice_get ts q ≡ Some w)
     was q u e = elim (set_get ts i q t' u e) [ inl h ↦ (t, ap (slice_get ts) h.0 ∙ is) | inr h ↦ (u, h.1) ]
 
-    sends : (q : ℕ) (u : Table G A S) (x : Mail) → slice_get (slice_set ts i t') q ≡ Some u → Member x (answers_of u) →
+    sends : (q : ℕ) (u : Table G A S) (x : AddressedMail) → slice_get (slice_set ts i t') q ≡ Some u → Member x (answers_of u) →
         After x ⊎ IsReceived (slice_set ts i t') x
     sends q u x e m =
         elim (set_get ts i q t' u e) [

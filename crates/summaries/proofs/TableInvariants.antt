@@ -6,7 +6,7 @@ use Rattle.language.proofs.Members.{member_left, member_right}
 use Rattle.path_sets.specs.Triples.{Triple}
 use Rattle.flow_graph.specs.Numbers.{NumberedMessage}
 use Rattle.flow_graph.proofs.ReachLemmas.{reaches_more}
-use Rattle.summaries.specs.declared.edge.Call.{Call}
+use Rattle.summaries.specs.declared.edge.CallKey.{CallKey}
 use Rattle.summaries.specs.declared.found.Found.{Found}
 use Rattle.summaries.specs.declared.outbox.Outgoing.{Outgoing}
 use Rattle.summaries.specs.declared.pair.Pair.{Pair}
@@ -71,7 +71,7 @@ module _ {G A S : Type 0} (members : S → List Triple) (t : Table G A S) (g : F
   }
 
 -- the message that is answered next comes after those answered, and is not one of them
-module _ (q : ℕ) (cs : List Call) (ps : List Pair) (xs : List Outgoing) (n m : ℕ) (x : Outgoing)
+module _ (q : ℕ) (cs : List CallKey) (ps : List Pair) (xs : List Outgoing) (n m : ℕ) (x : Outgoing)
     (next : take m xs ≡ take n xs ++ x ∷ []) where
   pub next_behind : take m (map (mail_of cs ps q) xs) ≡ take n (map (mail_of cs ps q) xs) ++ mail_of cs ps q x ∷ []
   next_behind =

@@ -12,7 +12,7 @@ use Rattle.flow_graph.proofs.Pairs.{edge_numbers}
 use Rattle.summaries.specs.declared.due.Due.{Due}
 use Rattle.summaries.specs.declared.table.Table.{Table}
 use Rattle.summaries.specs.declared.table_fault.TableFault.TheVariants.{EdgeLimit}
-use Rattle.summaries.specs.Mails.{Mail, mail}
+use Rattle.summaries.specs.Mails.{AddressedMail, mail}
 use Rattle.summaries.specs.Dues.{due_of}
 use Rattle.summaries.specs.Found.{calls_in, mails_in, TookMessage}
 use Rattle.summaries.specs.Tables.{answers_of, IsReached, IsAnswer, IsTable}
@@ -55,7 +55,7 @@ module _ {G A S : Type 0} (members : S → List Triple) (p : Program) (q : ℕ) 
   answer_due old to d answer k e = sent_due to k (answer.due k e)
 
   -- and so are all that were answered
-  pub answered_due : t.fault ≡ None → (x : Mail) → Member x (answers_of t) → (k : NumberedMessage) → due_of k ≡ x.due →
+  pub answered_due : t.fault ≡ None → (x : AddressedMail) → Member x (answers_of t) → (k : NumberedMessage) → due_of k ≡ x.due →
       IsNumberOf (IsDue p x.to) k
   answered_due whole x m k e =
       let keys = mails_in t.procedure t.found in

@@ -15,6 +15,7 @@ use Rattle.flow_graph.specs.declared.graph.Graph.{Graph}
 use Rattle.flow_graph.specs.declared.exit.Exit.{Exit}
 use Rattle.flow_graph.proofs.DueLemmas.{there_too, taken_due, edges_taken}
 use Rattle.flow_graph.proofs.Pairs.{edge_numbers, pairs_left, bad_left, entries_taken}
+use Rattle.path_sets.proofs.GatheredKeyLemmas.{item_there}
 use Rattle.summaries.specs.declared.due.Caller as callers
 use Rattle.summaries.specs.declared.due.Caller.TheVariants.{Starter, Proc}
 use Rattle.summaries.specs.declared.table.Table.{Table}
@@ -45,12 +46,6 @@ got_map : {X Y : Type 0} (f : X → Y) (xs : List X) (q : ℕ) (y : Y) → slice
 got_map f [] q y e = absurd (none-some y e)
 got_map f (x ∷ xs) zero y e = (x, refl, sym (same_Some (f x) y e))
 got_map f (x ∷ xs) (suc q) y e = got_map f xs q y e
-
--- below the length there is an item
-pub got : {X : Type 0} (xs : List X) (q : ℕ) → q < length xs → (x : X) × (slice_get xs q ≡ Some x)
-got [] q h = absurd (omega (arith, h))
-got (x ∷ xs) zero h = (x, refl)
-got (x ∷ xs) (suc q) h = got xs q (omega (arith, h))
 
 -- a list that is longer than a number has a member
 has_one : {X : Type 0} (n : ℕ) (xs : List X) → n < length xs → (x : X) × Member x xs
@@ -154,7 +149,7 @@ module _ {G A S : Type 0} (members : S → List Triple) (p : Program) (ts : List
 
     -- no procedure has more edges than the limit
     pub few : (n : ℕ) → HaveLimit n ts → (q : ℕ) → HasMoreEdges p q n → ⊥
-    few n limits q more = let (t, is) = got ts q (edge_table q n more) in table_few q t is n limits more
+    few n limits q more = let (t, is) = item_there ts q (edge_table q n more) in table_few q t is n limits more
 
     -- some pair is bad if some pair that the first table keeps has the bit
     pub table_bad : (t : Table G A S) → slice_get ts 0 ≡ Some t → (bad : ℕ)
@@ -211,7 +206,7 @@ module _ {G A S : Type 0} (members : S → List Triple) (p : Program) (ts : List
         λ h. let (t, there, off) = table_of 0 h.0 h.1 in
             let (a, b, m, bit) = h.2 in
             (table_bad t there bad).1 (a, b, (off.pairs (pair a b)).0 m, bit),
-        λ h. let (t, there) = got ts 0 (bad_table bad h) in
+        λ h. let (t, there) = item_there ts 0 (bad_table bad h) in
             let (s, is) = there_too ts ss 0 t (sym read.all) there in
             let (a, b, m, bit) = (table_bad t there bad).0 h in
             (s, is, (a, b, ((read.each 0 t s there is).pairs (pair a b)).1 m, bit)),

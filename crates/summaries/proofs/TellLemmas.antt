@@ -9,11 +9,11 @@ use Rattle.language.proofs.Members.{member_left, member_right, member_append}
 use Rattle.flow_graph.specs.declared.exit.Exit.{Exit}
 use Rattle.summaries.specs.declared.due.Caller.{Caller}
 use Rattle.summaries.specs.declared.due.Caller.TheVariants.{Proc}
-use Rattle.summaries.specs.declared.edge.Call.{Call}
+use Rattle.summaries.specs.declared.edge.CallKey.{CallKey}
 use Rattle.summaries.specs.declared.outbox.Outgoing.{Outgoing}
 use Rattle.summaries.specs.declared.outbox.Outgoing.TheVariants.{EntryFor, SummaryFor}
 use Rattle.summaries.specs.declared.pair.Pair.{Pair}
-use Rattle.summaries.specs.Mails.{Mail, mail, summary_due}
+use Rattle.summaries.specs.Mails.{AddressedMail, mail, summary_due}
 use Rattle.summaries.specs.declared.found.Found.{Found}
 use Rattle.summaries.specs.Found.{pair, left, summary_mail, mail_of, calls_in, mails_in, answers_in}
 use Rattle.summaries.specs.Grows.{AddsTo, OfSome, IsTold, IsSummaryTold}
@@ -110,14 +110,14 @@ unfolding pair_in
 one_pair from y z x (c, is_c, by_c) (d, is_d, by_d) = ap pair_in (sym by_c ∙ by_d)
 
 -- with more messages appended, those that were answered are the same
-pub answers_kept : {A : Type 0} (q : ℕ) (f g : Found A) (W : Mail → Type 0) → g.outbox.answered ≡ f.outbox.answered
+pub answers_kept : {A : Type 0} (q : ℕ) (f g : Found A) (W : AddressedMail → Type 0) → g.outbox.answered ≡ f.outbox.answered
     → AddsTo W (mails_in q f) (mails_in q g) → answers_in q g ≡ answers_in q f
 answers_kept q f g W same gave =
     let long = length-map f.outbox.sent.items (mail_of (calls_in f) f.pairs.keys q) in
     let within = f.outbox.within in
     answers_still (mails_in q f) (mails_in q g) f.outbox.answered g.outbox.answered (omega (arith, long, within)) same gave.behind
 
-module _ (q : ℕ) (cs : List Call) (ps : List Pair) (a : ℕ) (b : Exit) (at : ℕ) (here : slice_get ps at ≡ Some (pair a b)) where
+module _ (q : ℕ) (cs : List CallKey) (ps : List Pair) (a : ℕ) (b : Exit) (at : ℕ) (here : slice_get ps at ≡ Some (pair a b)) where
   told_of : (c : ℕ) → mail_of cs ps q (SummaryFor c at) ≡ mail c (summary_due q a b)
   told_of c = ap (summary_mail q c) (get_or_from_slice_get ps at (pair a b) (pair 0 (left 0 false)) here)
 
@@ -126,5 +126,6 @@ module _ (q : ℕ) (cs : List Call) (ps : List Pair) (a : ℕ) (b : Exit) (at : 
   told_mail from x (c, is, same) = (c, is, ap (mail_of cs ps q) same ∙ told_of c)
 
   -- and nothing else is
-  pub mail_told : (from : Caller) (m : Mail) → IsSummaryTold q a b from m → (x : Outgoing) × IsTold at from x × (m ≡ mail_of cs ps q x)
+  pub mail_told : (from : Caller) (m : AddressedMail) → IsSummaryTold q a b from m
+      → (x : Outgoing) × IsTold at from x × (m ≡ mail_of cs ps q x)
   mail_told from m (c, is, same) = (SummaryFor c at, (c, is, refl), same ∙ sym (told_of c))

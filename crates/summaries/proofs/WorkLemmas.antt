@@ -1,32 +1,18 @@
 -- What a table's work comes to, by its answer.
-use Rattle.std.proofs.Common.{◌≡◌, ◌≤◌, ◌++◌, ◌∷◌, [], ℕ, List, Option, Some, None, Result, Err, length, ◌∙◌}
-use Rattle.std.specs.Option.{IfSome}
+use Rattle.std.proofs.Common.{◌≡◌, ◌≤◌, List, Result, Err, length, ◌∙◌}
 use Rattle.std.specs.Result.{IsErrAnd, OnOk}
 use Rattle.std.proofs.lemmas.Result.{IfOk-weaker}
 use Rattle.language.specs.Lists.{Member, NoneTwice}
 use Rattle.path_sets.specs.Triples.{Triple}
-use Rattle.flow_graph.specs.Numbers.{NumberedMessage, Sends}
-use Rattle.summaries.specs.declared.due.Due.{Due}
-use Rattle.summaries.specs.declared.edge.Edge.{Edge}
+use Rattle.summaries.specs.declared.edge.PathEdge.{PathEdge}
 use Rattle.summaries.specs.declared.table.Table.{Table}
 use Rattle.summaries.specs.declared.table_fault.TableFault.{TableFault}
 use Rattle.summaries.specs.declared.table_fault.TableFault.TheVariants.{Memory, EdgeLimit}
 use Rattle.summaries.specs.Grows.{Adds}
-use Rattle.summaries.specs.Mails.{mail}
-use Rattle.summaries.specs.Dues.{due_of}
-use Rattle.summaries.specs.Found.{TookMessage}
 use Rattle.summaries.proofs.FrontierLemmas.{no_limit, failed_ok}
 use Rattle.summaries.proofs.StepLemmas.{has_more}
-use Rattle.summaries.specs.Tables.{answers_of, HasMore, Holds, IsReached, IsAnswer, StaysAs, Worked}
+use Rattle.summaries.specs.Tables.{answers_of, HasMore, Holds, IsReached, StaysAs, Worked}
 use Rattle.path_sets.specs.EdgeLimits.{most_of}
-
--- a message that is answered, by its parts
-pub answer_is : {G A S : Type 0} (old new : Table G A S) (r : Option (ℕ × Due)) →
-    IfSome r (λ m. answers_of new ≡ answers_of old ++ mail m.0 m.1 ∷ [])
-    → IfSome r (λ m. (k : NumberedMessage) → due_of k ≡ m.1 → Sends new.graph.now new.procedure (TookMessage new.found) m.0 k)
-    → IfSome r (λ m. Member (mail m.0 m.1) (answers_of old) → ⊥) → IfSome r (λ m. IsAnswer old new m.0 m.1)
-answer_is old new None behind due once = tt
-answer_is old new (Some _) behind due once = record { behind = behind; due = due; once = once }
 
 module _ {G A S : Type 0} (members : S → List Triple) where
   module _ {T : Type 0} (Aside : Triple → Type 0) (r : Result T TableFault) (old new : Table G A S)
@@ -51,7 +37,7 @@ module _ {G A S : Type 0} (members : S → List Triple) where
 
   -- if edges were to be added, and nothing else has changed except what is found
   pub added_worked : (W Aside : Triple → Type 0) {T : Type 0} (r : Result T TableFault) (old new : Table G A S) (es : List Triple)
-      (before after : List Edge) → Adds W r (most_of new.limit) es (members new.edges) before after → NoneTwice (members new.edges) →
+      (before after : List PathEdge) → Adds W r (most_of new.limit) es (members new.edges) before after → NoneTwice (members new.edges) →
       ((x : Triple) → Member x (members new.edges) → IsReached new x) → ((x : Triple) → W x → IsReached new x) →
       OnOk r (Holds members Aside new) → OnOk r (answers_of new ≡ answers_of old) → StaysAs old new → new.fault ≡ old.fault →
       Worked members Aside r old new

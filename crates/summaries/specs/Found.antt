@@ -17,43 +17,33 @@ use Rattle.flow_graph.specs.declared.graph.Graph.{Graph}
 use Rattle.flow_graph.specs.declared.exit.Exit.{Exit}
 use Rattle.summaries.specs.declared.due.Due.{Due}
 use Rattle.summaries.specs.declared.due.Due.TheVariants.{Entry, Summary}
-use Rattle.summaries.specs.declared.edge.Edge.{Edge}
-use Rattle.summaries.specs.declared.edge.Call.{Call}
-use Rattle.summaries.specs.declared.edge.Expanded.{Expanded}
-use Rattle.summaries.specs.declared.edge.Site.{Site}
+use Rattle.summaries.specs.declared.edge.PathEdge.{PathEdge}
+use Rattle.summaries.specs.declared.edge.CallKey.{CallKey}
 use Rattle.summaries.specs.declared.pair.Pair.{Pair}
 use Rattle.summaries.specs.declared.found.Found.{Found}
 use Rattle.summaries.specs.declared.outbox.Outgoing.{Outgoing}
 use Rattle.summaries.specs.declared.outbox.Outgoing.TheVariants.{EntryFor, SummaryFor}
 use Rattle.summaries.specs.declared.due.Caller.TheVariants.{Proc}
 use Rattle.summaries.specs.Under.{under}
-use Rattle.summaries.specs.Mails.{Mail, mail, summary_due}
+use Rattle.summaries.specs.Mails.{AddressedMail, mail, summary_due}
 use Rattle.summaries.specs.Dues.{due_of}
 use Rattle.summaries.specs.Grows.{EntersAt}
 
 -- whether two calls are the same
-abbrev pub call_eq : Call → Call → Bool
+abbrev pub call_eq : CallKey → CallKey → Bool
 call_eq x y = nat_eq x.callee y.callee && nat_eq x.entered y.entered
 
 -- whether two pairs are the same
 abbrev pub pair_eq : Pair → Pair → Bool
 pair_eq x y = nat_eq x.a y.a && (nat_eq x.b y.b && beq x.r y.r)
 
--- the edge of these three
-abbrev pub edge : ℕ → ℕ → ℕ → Edge
-edge entry point values = record { entry = entry; point = point; values = values }
+-- the path edge of these three; a call stands at one, its site
+abbrev pub path_edge : ℕ → ℕ → ℕ → PathEdge
+path_edge entry point values = record { entry = entry; point = point; values = values }
 
 -- the call of this procedure with this entry valuation
-abbrev pub call : ℕ → ℕ → Call
+abbrev pub call : ℕ → ℕ → CallKey
 call callee entered = record { callee = callee; entered = entered }
-
--- where a call stands that was asked for by this entry, at the point with these values
-abbrev pub site : ℕ → ℕ → ℕ → Site
-site entry point values = record { asked = entry; point = point; values = values }
-
--- choice 0 led to these values from an edge with this entry, at the point
-abbrev pub expanded_at : ℕ → ℕ → ℕ → Expanded
-expanded_at entry point values = record { entry = entry; point = point; values = values }
 
 -- this is left if the entry valuation was this
 abbrev pub pair : ℕ → Exit → Pair
@@ -64,16 +54,16 @@ abbrev pub left : ℕ → Bool → Exit
 left globals result = record { globals = globals; result = result }
 
 -- the message that this call is entered by the procedure
-abbrev pub entry_mail : ℕ → Call → Mail
+abbrev pub entry_mail : ℕ → CallKey → AddressedMail
 entry_mail procedure entered = mail entered.callee (Entry (Proc procedure) entered.entered)
 
 -- the message to a caller that the procedure has this pair
-abbrev pub summary_mail : ℕ → ℕ → Pair → Mail
+abbrev pub summary_mail : ℕ → ℕ → Pair → AddressedMail
 summary_mail procedure to found = mail to (summary_due procedure found.a (left found.b found.r))
 
-module _ (calls : List Call) (pairs : List Pair) where
+module _ (calls : List CallKey) (pairs : List Pair) where
   -- the message that a procedure of these calls and pairs has given by this
-  abbrev pub mail_of : ℕ → Outgoing → Mail
+  abbrev pub mail_of : ℕ → Outgoing → AddressedMail
   mail_of procedure (EntryFor at) = entry_mail procedure (get_or calls at (call 0 0))
   mail_of procedure (SummaryFor to at) = summary_mail procedure to (get_or pairs at (pair 0 (left 0 false)))
 
@@ -84,15 +74,15 @@ module _ (calls : List Call) (pairs : List Pair) where
 
 module _ {Alloc : Type 0} where
   -- the calls that stand at sites, each once, in the order in which they came
-  abbrev pub calls_in : Found Alloc → List Call
+  abbrev pub calls_in : Found Alloc → List CallKey
   calls_in found = keys found.sites.by_key
 
   -- the messages that the procedure has given, in order
-  abbrev pub mails_in : ℕ → Found Alloc → List Mail
+  abbrev pub mails_in : ℕ → Found Alloc → List AddressedMail
   mails_in procedure found = map (mail_of (calls_in found) found.pairs.keys procedure) found.outbox.sent.items
 
   -- those that are answered
-  abbrev pub answers_in : ℕ → Found Alloc → List Mail
+  abbrev pub answers_in : ℕ → Found Alloc → List AddressedMail
   answers_in procedure found = take found.outbox.answered (mails_in procedure found)
 
 module _ {Alloc : Type 0} (found : Found Alloc) where
@@ -107,7 +97,7 @@ module _ {Alloc : Type 0} (found : Found Alloc) where
   TookMessage message = TookDue (due_of message)
 
   -- a call of this procedure with this entry valuation stands at this site
-  abbrev pub HasSite : ℕ → ℕ → Site → Type 0
+  abbrev pub HasSite : ℕ → ℕ → PathEdge → Type 0
   HasSite callee entered place = Member place (under call_eq found.sites.by_key (call callee entered))
 
   -- this is left if the entry valuation was this
@@ -121,13 +111,13 @@ module _ {Alloc : Type 0} (found : Found Alloc) where
   -- The message of these numbers is owed to a procedure by the one with this number: an entry, for a site of that
   -- call, or a summary, for an exit of it and the caller's entry.
   abbrev pub IsOwed : ℕ → ℕ → NumberedMessage → Type 0
-  IsOwed procedure to (numbered_entry from entered) = (from ≡ caller procedure) × ((item : Site) × HasSite to entered item)
+  IsOwed procedure to (numbered_entry from entered) = (from ≡ caller procedure) × ((item : PathEdge) × HasSite to entered item)
   IsOwed procedure to (numbered_summary callee entry exit) = (callee ≡ procedure) × HasExit entry exit
       × TookMessage (numbered_entry (caller to) entry)
 
   -- the edge is still to be worked on
   abbrev pub IsPending : ℕ → ℕ → ℕ → Type 0
-  IsPending entry point values = Member (edge entry point values) found.pending.items
+  IsPending entry point values = Member (path_edge entry point values) found.pending.items
 
   -- What is kept by place: each message given has one; no call and no pair has two; an entry's exits are the places of
   -- its pairs, each once.
@@ -142,7 +132,7 @@ module _ {Alloc : Type 0} (found : Found Alloc) where
         → (at : ℕ) × Member at (under nat_eq found.exits.by_key own) × (slice_get found.pairs.keys at ≡ Some (pair own b))
 
 -- from some valuation that choice 0 leads to this one each choice leads to an edge
-abbrev pub IsExpanded : {GraphAlloc : Type 0} → Graph GraphAlloc → List Triple → Expanded → Type 0
+abbrev pub IsExpanded : {GraphAlloc : Type 0} → Graph GraphAlloc → List Triple → PathEdge → Type 0
 IsExpanded {GraphAlloc} graph edges led =
     (flow : Flow GraphAlloc) × (from : ℕ) × (n : ℕ) × (slice_get (flows_of graph) led.point ≡ Some flow)
     × (next_of flow from 0 ≡ Some (n, led.values))
@@ -154,7 +144,7 @@ module _ {Alloc GraphAlloc : Type 0} (graph : Graph GraphAlloc) (procedure : ℕ
   -- is pending is an edge; no caller enters twice with a valuation.
   pub record IsGrounded : Type 0 where
     pub edge : (own point values : ℕ) → Member (triple own point values) edges → GraphReaches graph (TookMessage found) own point values
-    pub site : (other entered own point values : ℕ) → HasSite found other entered (site own point values) →
+    pub site : (other entered own point values : ℕ) → HasSite found other entered (path_edge own point values) →
         GraphReaches graph (TookMessage found) own point values × ((back : ℕ) × EntersAt graph point values other entered back)
     pub exit : (own : ℕ) (b : Exit) → HasExit found own b → Leaves graph (TookMessage found) own b
     pub given : (other : ℕ) (message : NumberedMessage) → HasGiven found procedure other message → IsOwed found procedure other message
@@ -171,7 +161,7 @@ module _ {Alloc GraphAlloc : Type 0} (graph : Graph GraphAlloc) (procedure : ℕ
         Member (triple entry next next_values) edges
     pub calls : (flow : Flow GraphAlloc) (other entered next : ℕ) → slice_get (flows_of graph) point ≡ Some flow
         → entered_by flow values ≡ Some (other, entered, next) →
-        HasSite found other entered (site entry point values)
+        HasSite found other entered (path_edge entry point values)
     pub leaves : point ≡ 0 → HasExit found entry (left_by graph values)
 
   -- The start of each entry is an edge; each edge is pending, worked on, or one of those left aside; where a site and
@@ -181,14 +171,14 @@ module _ {Alloc GraphAlloc : Type 0} (graph : Graph GraphAlloc) (procedure : ℕ
     pub begun : (from : Caller) (own : ℕ) → TookMessage found (numbered_entry from own) → Member (triple own (start_of graph) own) edges
     pub worked : (own point values : ℕ) → Member (triple own point values) edges
         → Aside (triple own point values) ⊎ (IsPending found own point values ⊎ IsWorked own point values)
-    pub ended : (other entered : ℕ) (exit : Exit) (own point values back : ℕ) → HasSite found other entered (site own point values)
+    pub ended : (other entered : ℕ) (exit : Exit) (own point values back : ℕ) → HasSite found other entered (path_edge own point values)
         → EntersAt graph point values other entered back →
         TookMessage found (numbered_summary other entered exit) → Member (triple own back (resumed_at graph point values exit)) edges
-    pub asks : (other entered own point values : ℕ) → HasSite found other entered (site own point values)
+    pub asks : (other entered own point values : ℕ) → HasSite found other entered (path_edge own point values)
         → HasGiven found procedure other (numbered_entry (caller procedure) entered)
     pub tells : (own : ℕ) (exit : Exit) (c : ℕ) → HasExit found own exit → TookMessage found (numbered_entry (caller c) own)
         → HasGiven found procedure c (numbered_summary procedure own exit)
-    pub led : (item : Expanded) → Member item found.expanded.keys → IsExpanded graph edges item
+    pub led : (item : PathEdge) → Member item found.expanded.keys → IsExpanded graph edges item
 
 -- no edge is still to be worked on
 abbrev pub IsWorkedOff : {Alloc : Type 0} → Found Alloc → Type 0
@@ -204,8 +194,8 @@ IsExact graph procedure found edges =
 -- nothing is found
 pub record IsEmpty {Alloc : Type 0} (found : Found Alloc) : Type 0 where
   pub entries : (own : ℕ) → under nat_eq found.entries.by_key own ≡ []
-  pub summaries : (called : Call) → under call_eq found.summaries.by_key called ≡ []
-  pub sites : (called : Call) → under call_eq found.sites.by_key called ≡ []
+  pub summaries : (called : CallKey) → under call_eq found.summaries.by_key called ≡ []
+  pub sites : (called : CallKey) → under call_eq found.sites.by_key called ≡ []
   pub calls : calls_in found ≡ []
   pub exits : (own : ℕ) → under nat_eq found.exits.by_key own ≡ []
   pub pairs : found.pairs.keys ≡ []

@@ -18,7 +18,7 @@ module _ {Alloc Edges : Type 0} (members : Edges → List Triple) where
   IsWithin f = length (members f.edges.now) ≤ most_of f.limit
 
   -- The triples for which W holds were to be added to the path edges, with this result.
-  pub record Reaches (W : Triple → Type 0) {Returned : Type 0} (answer : Result Returned TableFault)
+  pub record Extends (W : Triple → Type 0) {Returned : Type 0} (answer : Result Returned TableFault)
       (old new : Frontier Alloc Edges) : Type 0 where
     pub adds : Adds W answer (most_of old.limit) (members old.edges.now) (members new.edges.now) old.pending.now.items new.pending.now.items
     pub stays : StaysFrontier old new

@@ -7,12 +7,12 @@ use Rattle.summaries.specs.declared.outbox.Outbox.{Outbox}
 use Rattle.summaries.specs.declared.outbox.Outgoing.{Outgoing}
 
 -- a message and the procedure that it goes to
-pub record Mail : Type 0 where
+pub record AddressedMail : Type 0 where
   pub to : ℕ
   pub due : Due
 
 -- the message to a procedure
-abbrev pub mail : ℕ → Due → Mail
+abbrev pub mail : ℕ → Due → AddressedMail
 mail to due = record { to = to; due = due }
 
 -- the message that the procedure, if it was entered with this valuation, has left this

@@ -6,18 +6,20 @@ use Rattle.path_sets.specs.Triples.{Triple, triple}
 use Rattle.flow_graph.specs.Drawn.{called_procedure, entered_from}
 use Rattle.flow_graph.specs.Returns.{left_by}
 use Rattle.flow_graph.specs.declared.call.Call.{Call}
+use Rattle.flow_graph.specs.declared.flow.Flow.{Flow}
 use Rattle.flow_graph.specs.declared.graph.Graph.{Graph}
 use Rattle.flow_graph.specs.declared.exit.Exit.{Exit}
 use Rattle.flow_graph.specs.Numbers.{NumberedMessage, GraphReaches, Sends, Leaves}
 use Rattle.summaries.specs.declared.due.Due.{Due}
-use Rattle.summaries.specs.declared.edge.Edge.{Edge}
+use Rattle.summaries.specs.declared.edge.PathEdge.{PathEdge}
 use Rattle.summaries.specs.declared.found.Found.{Found}
 use Rattle.summaries.specs.declared.table.Table.{Table}
 use Rattle.summaries.specs.declared.table_fault.TableFault.{TableFault}
 use Rattle.summaries.specs.declared.table_fault.TableFault.TheVariants.{EdgeLimit}
-use Rattle.summaries.specs.Mails.{Mail, mail}
+use Rattle.summaries.specs.Grows.{IsNext}
+use Rattle.summaries.specs.Mails.{AddressedMail, mail}
 use Rattle.summaries.specs.Dues.{due_of}
-use Rattle.summaries.specs.Found.{pair, site, answers_in, TookMessage, HasSite, HasExit, IsGrounded, IsSaturated}
+use Rattle.summaries.specs.Found.{pair, answers_in, TookMessage, HasSite, HasExit, IsGrounded, IsSaturated}
 use Rattle.path_sets.specs.EdgeLimits.{most_of}
 
 module _ {GraphAlloc Alloc Edges : Type 0} where
@@ -34,11 +36,11 @@ module _ {GraphAlloc Alloc Edges : Type 0} where
   limit_of table = most_of table.limit
 
   -- the path edges that it keeps
-  abbrev pub edges_of : (Edges → List Triple) → Table GraphAlloc Alloc Edges → List Triple
-  edges_of members table = members table.edges
+  abbrev pub kept_edges : (Edges → List Triple) → Table GraphAlloc Alloc Edges → List Triple
+  kept_edges members table = members table.edges
 
   -- the messages that it has answered, in order
-  abbrev pub answers_of : Table GraphAlloc Alloc Edges → List Mail
+  abbrev pub answers_of : Table GraphAlloc Alloc Edges → List AddressedMail
   answers_of table = answers_in table.procedure table.found
 
   -- the fault that it has failed with
@@ -58,9 +60,9 @@ abbrev pub TookSame : {Alloc : Type 0} → Found Alloc → Found Alloc → Type 
 TookSame old new = (new.entries ≡ old.entries) × (new.summaries ≡ old.summaries)
 
 -- the fault that an answer is
-abbrev pub fault_of : {Returned : Type 0} → Result Returned TableFault → Option TableFault
-fault_of (Ok _) = None
-fault_of (Err fault) = Some fault
+abbrev pub fault_in : {Returned : Type 0} → Result Returned TableFault → Option TableFault
+fault_in (Ok _) = None
+fault_in (Err fault) = Some fault
 
 -- there are more than n triples, none twice, for which P holds
 abbrev pub HasMore : ℕ → (Triple → Type 0) → Type 0
@@ -84,13 +86,13 @@ abbrev pub IsReached : {GraphAlloc Alloc Edges : Type 0} → Table GraphAlloc Al
 IsReached table edge = GraphReaches table.graph.now (TookMessage table.found) edge.entry edge.point edge.values
 
 -- what an edge leaves that is at the exit stands as an exit
-abbrev pub HasItsExit : {GraphAlloc Alloc Edges : Type 0} → Table GraphAlloc Alloc Edges → Edge → Type 0
+abbrev pub HasItsExit : {GraphAlloc Alloc Edges : Type 0} → Table GraphAlloc Alloc Edges → PathEdge → Type 0
 HasItsExit table edge = edge.point ≡ 0 → HasExit table.found edge.entry (left_by (graph_of table) edge.values)
 
 -- the call stands as a site at the edge
-abbrev pub HasAsked : {GraphAlloc Alloc Edges : Type 0} → Table GraphAlloc Alloc Edges → Edge → Call GraphAlloc → Type 0
+abbrev pub HasAsked : {GraphAlloc Alloc Edges : Type 0} → Table GraphAlloc Alloc Edges → PathEdge → Call GraphAlloc → Type 0
 HasAsked table edge call =
-    HasSite table.found (called_procedure call) (entered_from call edge.values) (site edge.entry edge.point edge.values)
+    HasSite table.found (called_procedure call) (entered_from call edge.values) edge
 
 -- The table is that of the same procedure, with the same limit.
 pub record StaysAs {GraphAlloc Alloc Edges : Type 0} (old new : Table GraphAlloc Alloc Edges) : Type 0 where
@@ -111,6 +113,10 @@ module _ {GraphAlloc Alloc Edges : Type 0} (members : Edges → List Triple) whe
   abbrev pub Holds : (Triple → Type 0) → Table GraphAlloc Alloc Edges → Type 0
   Holds Aside table = IsGrounded table.graph.now table.procedure table.found (members table.edges) ×
       IsSaturated table.graph.now table.procedure table.found (members table.edges) Aside
+
+  -- the table keeps each edge that a choice of the flow leads to from this edge
+  abbrev pub HasAllNext : Flow GraphAlloc → PathEdge → Table GraphAlloc Alloc Edges → Type 0
+  HasAllNext flow edge table = (next : Triple) → IsNext flow edge next → Member next (members table.edges)
 
   -- The edges kept are reached by the messages taken, and no more than the limit; unless the table has failed,
   -- nothing is missing, except what pending edges still lead to; if it has failed for its limit, more edges than
@@ -152,7 +158,7 @@ module _ {GraphAlloc Alloc Edges : Type 0} (members : Edges → List Triple) whe
     pub only : TookOnly message old.found new.found
     pub answers : OnOk answer (answers_of new ≡ answers_of old)
     pub stays : StaysAs old new
-    pub fault : new.fault ≡ fault_of answer
+    pub fault : new.fault ≡ fault_in answer
     pub again : (fault_now : TableFault) → old.fault ≡ Some fault_now → answer ≡ Err fault_now
 
   -- The table is that of the same procedure, has taken the same messages, and has this fault, if there is one.

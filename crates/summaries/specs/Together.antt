@@ -14,7 +14,7 @@ use Rattle.summaries.specs.declared.found.Found.{Found}
 use Rattle.summaries.specs.declared.pair.Pair.{Pair}
 use Rattle.summaries.specs.declared.table.Table.{Table}
 use Rattle.summaries.specs.Under.{under}
-use Rattle.summaries.specs.Mails.{Mail, mail}
+use Rattle.summaries.specs.Mails.{AddressedMail, mail}
 use Rattle.summaries.specs.Dues.{due_of}
 use Rattle.summaries.specs.Found.{TookMessage}
 use Rattle.summaries.specs.Tables.{graph_of, procedure_of, limit_of, failure, answers_of, IsTable, IsNew, IsQuiet}
@@ -22,7 +22,7 @@ use Rattle.summaries.specs.Effects.{Effect}
 use Rattle.summaries.specs.Tabulated.{IsAscending, ArePairsAscending}
 
 -- the starter's message: procedure 0 is entered, and every value is 0
-abbrev pub opening : Mail
+abbrev pub opening : AddressedMail
 opening = mail 0 (Entry Starter 0)
 
 module _ {GraphAlloc Alloc Edges : Type 0} where
@@ -32,7 +32,7 @@ module _ {GraphAlloc Alloc Edges : Type 0} where
   IsTaken (Some table) message = TookMessage table.found message
 
   -- the receiver's table has taken the message
-  abbrev pub IsReceived : List (Table GraphAlloc Alloc Edges) → Mail → Type 0
+  abbrev pub IsReceived : List (Table GraphAlloc Alloc Edges) → AddressedMail → Type 0
   IsReceived ts message = (k : NumberedMessage) → due_of k ≡ message.due → IsTaken (slice_get ts message.to) k
 
   -- each table has this limit on its edges
@@ -72,7 +72,7 @@ module _ {GraphAlloc Alloc Edges : Type 0} (members : Edges → List Triple) whe
   -- The tables are those of the program's procedures, by number, and none has failed; what each has taken is due for
   -- its procedure; and the opening and each message that was answered is taken by its receiver, except for those
   -- left aside.
-  pub record AreTables (program : Program) (Aside : Mail → Type 0) (ts : List (Table GraphAlloc Alloc Edges)) : Type 0 where
+  pub record AreTables (program : Program) (Aside : AddressedMail → Type 0) (ts : List (Table GraphAlloc Alloc Edges)) : Type 0 where
     pub drawn : AreDrawnFrom program (map graph_of ts)
     pub table : (q : ℕ) (reached : Table GraphAlloc Alloc Edges) → slice_get ts q ≡ Some reached → IsTable members reached
     pub whole : (q : ℕ) (reached : Table GraphAlloc Alloc Edges) → slice_get ts q ≡ Some reached → failure reached ≡ None
@@ -81,7 +81,7 @@ module _ {GraphAlloc Alloc Edges : Type 0} (members : Edges → List Triple) whe
         → TookMessage reached.found message
         → IsNumberOf (IsDue program q) message
     pub opened : (reached : Table GraphAlloc Alloc Edges) → slice_get ts 0 ≡ Some reached → Aside opening ⊎ IsReceived ts opening
-    pub answers : (q : ℕ) (reached : Table GraphAlloc Alloc Edges) (item : Mail) → slice_get ts q ≡ Some reached
+    pub answers : (q : ℕ) (reached : Table GraphAlloc Alloc Edges) (item : AddressedMail) → slice_get ts q ≡ Some reached
         → Member item (answers_of reached) → Aside item ⊎ IsReceived ts item
 
   -- no table before this one owes a message

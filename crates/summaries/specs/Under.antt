@@ -1,5 +1,5 @@
 -- What is found by a key.
-use Rattle.std.specs.Prelude.{Bool, List, [], ◌∷◌, Option, None, Some}
+use Rattle.std.specs.Prelude.{◌≡◌, ℕ, Bool, true, false, List, [], ◌∷◌, Option, None, Some, slice_get}
 use Rattle.indexmap.specs.IndexMap.{IndexMap, get}
 use Rattle.summaries.specs.declared.values.Values.{Values}
 use Rattle.summaries.specs.declared.values.Values.TheVariants.{One, Many}
@@ -10,10 +10,24 @@ values_in (One value) = value ∷ []
 values_in (Many many) = many.items
 
 -- the values, if there are any
-abbrev pub items_of : {Value Alloc : Type 0} → Option (Values Value Alloc) → List Value
-items_of None = []
-items_of (Some values) = values_in values
+abbrev pub values_if_any : {Value Alloc : Type 0} → Option (Values Value Alloc) → List Value
+values_if_any None = []
+values_if_any (Some values) = values_in values
 
 -- the values that were added to the key, in the order of adding
 abbrev pub under : {Key Value Alloc Edges : Type 0} → (Key → Key → Bool) → IndexMap Key (Values Value Alloc) Edges → Key → List Value
-under eq map key = items_of (get eq map key)
+under eq map key = values_if_any (get eq map key)
+
+-- the key at this place is this key, as far as `eq` tells keys apart
+abbrev pub IsKeyAt : {Key : Type 0} → (Key → Key → Bool) → List Key → Key → ℕ → Type 0
+IsKeyAt {Key} eq keys key at = (known : Key) × (slice_get keys at ≡ Some known) × (eq key known ≡ true)
+
+-- each key has the values that it had
+abbrev pub AllStay : {Key Value Alloc Edges : Type 0} → (Key → Key → Bool) → IndexMap Key (Values Value Alloc) Edges
+    → IndexMap Key (Values Value Alloc) Edges → Type 0
+AllStay {Key} eq old new = (key : Key) → under eq new key ≡ under eq old key
+
+-- each key but this one has the values that it had
+abbrev pub OthersStay : {Key Value Alloc Edges : Type 0} → (Key → Key → Bool) → Key → IndexMap Key (Values Value Alloc) Edges
+    → IndexMap Key (Values Value Alloc) Edges → Type 0
+OthersStay {Key} eq key old new = (other : Key) → eq key other ≡ false → under eq new other ≡ under eq old other

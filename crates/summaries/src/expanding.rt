@@ -3,12 +3,13 @@
 ghost use Rattle.std.specs.Prelude.{IfSome};
 ghost use Rattle.summaries.specs.Grows.{IsExpansionKey};
 
-use crate::edge::{Edge, Expanded};
+use crate::edge::PathEdge;
 use crate::frontier::Frontier;
+use crate::kept_edge::KeptEdge;
 use crate::table_fault::TableFault;
 use flow_graph::Flow;
 use language::{Point, Word};
-use path_sets::{Halves, PathSet};
+use path_sets::PathSet;
 use std::alloc::Allocator;
 
 /// A flow with at least this number of choices is expanded once for all valuations that it leads alike. With fewer,
@@ -17,34 +18,35 @@ const MANY: Word = 8;
 
 /// What an edge is remembered by when its choices are expanded, if there are many.
 #[inline(always)]
-pub(crate) fn expansion_key<G: Allocator>(flow: &Flow<G>, edge: Edge) -> Option<Expanded>
+pub(crate) fn expansion_key<G: Allocator>(flow: &Flow<G>, edge: PathEdge) -> Option<KeptEdge>
     ensures { IfSome result (λ led. IsExpansionKey flow.now edge led) }
 {
     if flow.last() < MANY - 1 {
         return None;
     }
     let (_, values) = flow.next(edge.values, 0)?;
-    Some(Expanded {
-        entry: Halves::new(edge.entry),
+    let first = PathEdge {
+        entry: edge.entry,
         point: edge.point,
-        values: Halves::new(values),
-    })
+        values,
+    };
+    Some(KeptEdge::new(first))
 }
 
 impl<'e, 'p, A: Allocator, S: PathSet<A>> Frontier<'e, 'p, A, S> {
     ghost use Rattle.summaries.specs.Grows.{IsAt, IsNext};
-    ghost use Rattle.summaries.specs.Frontiers.{Reaches, IsWithin};
+    ghost use Rattle.summaries.specs.Frontiers.{Extends, IsWithin};
 
     /// Reaches where the run continues from an edge, if it does.
     #[inline(always)]
-    fn reach_next(&mut self, from: Edge, next: Option<(Point, Word)>) -> Result<(), TableFault>
+    fn reach_next(&mut self, from: PathEdge, next: Option<(Point, Word)>) -> Result<(), TableFault>
         requires { IsWithin S.members self.old }
-        ensures { Reaches S.members (IsAt from next) result self.old self.new }
+        ensures { Extends S.members (IsAt from next) result self.old self.new }
     {
         let Some((point, values)) = next else {
             return Ok(());
         };
-        let edge = Edge {
+        let edge = PathEdge {
             entry: from.entry,
             point,
             values,
@@ -58,10 +60,10 @@ impl<'e, 'p, A: Allocator, S: PathSet<A>> Frontier<'e, 'p, A, S> {
     pub(crate) fn expand<G: Allocator>(
         &mut self,
         flow: &Flow<G>,
-        from: Edge,
+        from: PathEdge,
     ) -> Result<(), TableFault>
         requires { IsWithin S.members self.old }
-        ensures { Reaches S.members (IsNext flow.now from) result self.old self.new }
+        ensures { Extends S.members (IsNext flow.now from) result self.old self.new }
     {
         let mut choice = 0;
         'choices: loop {

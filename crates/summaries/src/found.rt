@@ -3,9 +3,10 @@
 ghost use Rattle.std.specs.Prelude.{◌≡◌};
 
 use crate::due::{Caller, Due};
-use crate::edge::{Edge, Expanded};
+use crate::edge::PathEdge;
 use crate::groups::Groups;
-use crate::kept_call::{KeptCall, KeptSite};
+use crate::kept_call::KeptCall;
+use crate::kept_edge::KeptEdge;
 use crate::kept_exit::KeptExit;
 use crate::kept_pair::KeptPair;
 use crate::outbox::{Outbox, Outgoing};
@@ -22,17 +23,18 @@ pub(crate) struct Found<A: Allocator> {
     /// What the procedures called leave, by call.
     pub(crate) summaries: Groups<KeptCall, KeptExit, A>,
     /// Where calls stand, by call.
-    pub(crate) sites: Groups<KeptCall, KeptSite, A>,
+    pub(crate) sites: Groups<KeptCall, KeptEdge, A>,
     /// The pairs of the procedure.
     pub(crate) pairs: IndexSet<KeptPair, BuildHasherDefault<FoldHasher>, A>,
     /// The places of the pairs, by the valuation on entry.
     pub(crate) exits: Groups<Word, u32, A>,
     /// The messages given.
     pub(crate) outbox: Outbox<A>,
-    /// The edges with many choices that were led.
-    pub(crate) expanded: IndexSet<Expanded, BuildHasherDefault<FoldHasher>, A>,
+    /// The edges with many choices that were expanded, so that all of these have led on, each by where choice 0 led:
+    /// its entry and its point, and the valuation led to.
+    pub(crate) expanded: IndexSet<KeptEdge, BuildHasherDefault<FoldHasher>, A>,
     /// The edges to work on.
-    pub(crate) pending: Vec<Edge, A>,
+    pub(crate) pending: Vec<PathEdge, A>,
 }
 
 impl<A: Allocator + Copy> Found<A> {

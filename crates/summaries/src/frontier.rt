@@ -2,7 +2,7 @@
 
 ghost use Rattle.std.specs.Prelude.{◌≡◌};
 
-use crate::edge::Edge;
+use crate::edge::PathEdge;
 use crate::table_fault::TableFault;
 use path_sets::{EdgeLimit, PathSet};
 use std::alloc::Allocator;
@@ -12,20 +12,20 @@ use std::alloc::Allocator;
 #[derive(Drop)]
 pub(crate) struct Frontier<'e, 'p, A: Allocator, S: PathSet<A>> {
     pub(crate) edges: &'e mut S,
-    pub(crate) pending: &'p mut Vec<Edge, A>,
+    pub(crate) pending: &'p mut Vec<PathEdge, A>,
     pub(crate) limit: EdgeLimit,
 }
 
 impl<'e, 'p, A: Allocator, S: PathSet<A>> Frontier<'e, 'p, A, S> {
     ghost use Rattle.summaries.specs.Grows.{triple_of};
-    ghost use Rattle.summaries.specs.Frontiers.{Reaches, IsWithin};
+    ghost use Rattle.summaries.specs.Frontiers.{Extends, IsWithin};
 
     /// Adds one path edge, if it is new, and makes it pending. If it is new and the limit is reached, the answer
     /// is `EdgeLimit`. After an error the edges may have it, and it need not be pending.
     #[inline(always)]
-    pub(crate) fn reach(&mut self, edge: Edge) -> Result<(), TableFault>
+    pub(crate) fn reach(&mut self, edge: PathEdge) -> Result<(), TableFault>
         requires { IsWithin S.members self.old }
-        ensures { Reaches S.members (λ t. t ≡ triple_of edge) result self.old self.new }
+        ensures { Extends S.members (λ t. t ≡ triple_of edge) result self.old self.new }
     {
         if self.edges.len() >= self.limit.edges() as u64 {
             return if self.edges.contains(edge.entry, edge.point, edge.values) {

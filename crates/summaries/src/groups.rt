@@ -1,12 +1,11 @@
 //! Values that are found by a key.
 
-ghost use Rattle.std.specs.Prelude.{◌≡◌, ◌≢◌, [], ◌∷◌, ◌++◌, true, false, Some, slice_get};
-ghost use Rattle.std.specs.Prelude.{OnOk, OnErr, IfOk};
+ghost use Rattle.std.specs.Prelude.{◌≡◌, ◌≢◌, [], ◌∷◌, ◌++◌, OnOk, OnErr, IfOk};
 ghost use Rattle.std.specs.Bool.{OnTrue, OnFalse};
 ghost use Rattle.std.specs.Mem.{FitsInMemory};
 ghost use Rattle.indexmap.specs.IndexMap.{keys};
 ghost use Rattle.indexmap.specs.IndexSet.{insert_key};
-ghost use Rattle.summaries.specs.Under.{under};
+ghost use Rattle.summaries.specs.Under.{AllStay, IsKeyAt, OthersStay, under};
 
 use crate::values::Values;
 use indexmap::IndexMap;
@@ -16,7 +15,7 @@ use std::hash::{BuildHasherDefault, FoldHasher, Hash};
 
 /// A key to which a value was added.
 #[derive(Clone, Copy)]
-pub(crate) struct Added {
+pub(crate) struct Addition {
     /// Whether it had a value before.
     pub(crate) had: bool,
     /// Its place among the keys.
@@ -41,22 +40,19 @@ impl<K: Eq + Hash + Copy, V: Copy, A: Allocator + Copy> Groups<K, V, A> {
     }
 
     /// Adds a value to those of a key. If memory is refused, each key has the values that it had.
-    // Inlined: handing back `Added` costs more than the rest for a new key.
+    // Inlined: handing back `Addition` costs more than the rest for a new key.
     #[inline(always)]
-    pub(crate) fn add(&mut self, key: K, value: V) -> Result<Added, AllocError>
+    pub(crate) fn add(&mut self, key: K, value: V) -> Result<Addition, AllocError>
         requires { FitsInMemory V.row }
         ensures had { IfOk result (λ r. OnTrue r.had (under K.eq self.old.by_key key ≢ [])) }
         ensures none { IfOk result (λ r. OnFalse r.had (under K.eq self.old.by_key key ≡ [])) }
-        ensures at { IfOk result (λ r. (k : K)
-            × (slice_get (keys self.new.by_key) r.at ≡ Some k) × (K.eq key k ≡ true)) }
+        ensures at { IfOk result (λ r. IsKeyAt K.eq (keys self.new.by_key) key r.at) }
         ensures keys { OnOk result
             (keys self.new.by_key ≡ insert_key K.eq (keys self.old.by_key) key) }
         ensures added { OnOk result
             (under K.eq self.new.by_key key ≡ under K.eq self.old.by_key key ++ value ∷ []) }
-        ensures others { OnOk result ((k : K) → K.eq key k ≡ false
-            → under K.eq self.new.by_key k ≡ under K.eq self.old.by_key k) }
-        ensures err { OnErr result
-            ((k : K) → under K.eq self.new.by_key k ≡ under K.eq self.old.by_key k) }
+        ensures others { OnOk result (OthersStay K.eq key self.old.by_key self.new.by_key) }
+        ensures err { OnErr result (AllStay K.eq self.old.by_key self.new.by_key) }
     {
         let alloc = *self.by_key.allocator();
         let entry = self.by_key.entry(key)?;
@@ -66,11 +62,11 @@ impl<K: Eq + Hash + Copy, V: Copy, A: Allocator + Copy> Groups<K, V, A> {
                 let values = known.into_mut();
                 let had = !values.as_slice().is_empty();
                 values.add(alloc, value)?;
-                Ok(Added { had, at })
+                Ok(Addition { had, at })
             }
             Entry::Vacant(new) => {
                 new.insert(Values::one(value));
-                Ok(Added { had: false, at })
+                Ok(Addition { had: false, at })
             }
         }
     }

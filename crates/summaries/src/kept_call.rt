@@ -1,7 +1,6 @@
-//! Calls and their sites, as they are kept.
+//! Calls as they are kept.
 
-use crate::edge::{Call, Site};
-use language::Point;
+use crate::edge::CallKey;
 use path_sets::Halves;
 use std::marker::Model;
 
@@ -15,9 +14,9 @@ pub(crate) struct KeptCall {
 
 impl Model for KeptCall {
     ghost use Rattle.std.specs.Prelude.{◌<◌};
-    ghost use Rattle.summaries.specs.declared.edge.Call.{Call};
+    ghost use Rattle.summaries.specs.declared.edge.CallKey.{CallKey};
 
-    ghost Value = { Call };
+    ghost Value = { CallKey };
 
     ghost view = { λ k. record { callee = k.callee; entered = k.entered } };
 
@@ -30,7 +29,7 @@ impl KeptCall {
     ghost use Rattle.std.specs.Prelude.{◌≡◌};
 
     /// The call, to be kept.
-    pub(crate) fn new(call: Call) -> Self
+    pub(crate) fn new(call: CallKey) -> Self
         ensures { result ≡ call }
     {
         KeptCall {
@@ -40,56 +39,12 @@ impl KeptCall {
     }
 
     /// The call.
-    pub(crate) fn call(self) -> Call
+    pub(crate) fn call(self) -> CallKey
         ensures { result ≡ self }
     {
-        Call {
+        CallKey {
             callee: self.callee as u8,
             entered: self.entered.word(),
-        }
-    }
-}
-
-/// A site as a table keeps it, which takes 40 bytes instead of 48. Contracts see it as the site.
-#[derive(Clone, Copy)]
-pub(crate) struct KeptSite {
-    asked: Halves,
-    point: Point,
-    values: Halves,
-}
-
-impl Model for KeptSite {
-    ghost use Rattle.summaries.specs.declared.edge.Site.{Site};
-
-    ghost Value = { Site };
-
-    ghost view = { λ k. record { asked = k.asked; point = k.point; values = k.values } };
-
-    ghost inverse = { λ s. record { asked = s.asked; point = s.point; values = s.values } };
-}
-
-impl KeptSite {
-    ghost use Rattle.std.specs.Prelude.{◌≡◌};
-
-    /// The site, to be kept.
-    pub(crate) fn new(site: Site) -> Self
-        ensures { result ≡ site }
-    {
-        KeptSite {
-            asked: Halves::new(site.asked),
-            point: site.point,
-            values: Halves::new(site.values),
-        }
-    }
-
-    /// The site.
-    pub(crate) fn site(self) -> Site
-        ensures { result ≡ self }
-    {
-        Site {
-            asked: self.asked.word(),
-            point: self.point,
-            values: self.values.word(),
         }
     }
 }

@@ -2,10 +2,9 @@
 
 ghost use Rattle.std.specs.Prelude.{◌≡◌, ◌<◌, ℕ, Some, None, List, length};
 ghost use Rattle.language.specs.Step.{Program};
-ghost use Rattle.language.specs.Sequential.{IsDue};
 ghost use Rattle.language.specs.Lists.{Member};
 ghost use Rattle.path_sets.specs.Triples.{Triple};
-ghost use Rattle.flow_graph.specs.Numbers.{NumberedMessage, IsNumberOf, AreNumbersOfEdge};
+ghost use Rattle.flow_graph.specs.Numbers.{NumberedMessage, AreNumbersOfEdge};
 ghost use Rattle.flow_graph.specs.declared.graph.Graph.{Graph};
 ghost use Rattle.summaries.specs.declared.found.Found.{Found};
 ghost use Rattle.flow_graph.specs.declared.graph.Graphs.{Graphs};
@@ -13,13 +12,13 @@ ghost use Rattle.flow_graph.specs.Drawn.{graphs_of};
 ghost use Rattle.summaries.specs.declared.due.Caller.TheVariants.{Starter};
 ghost use Rattle.summaries.specs.declared.due.Due.{Due};
 ghost use Rattle.summaries.specs.declared.due.Due.TheVariants.{Entry};
-ghost use Rattle.summaries.specs.Fitting.{FitsIn};
-ghost use Rattle.summaries.specs.Mails.{Mail};
+ghost use Rattle.summaries.specs.Fitting.{FitsIn, IsDueFor};
+ghost use Rattle.summaries.specs.Mails.{AddressedMail};
 ghost use Rattle.summaries.specs.declared.table.Table.{Table};
 ghost use Rattle.summaries.specs.declared.table_fault.TableFault.TheVariants.{EdgeLimit};
 ghost use Rattle.summaries.specs.Dues.{due_of};
 ghost use Rattle.summaries.specs.Found.{IsGrounded, IsSaturated, IsWorkedOff, IsExact};
-ghost use Rattle.summaries.specs.Tables.{limit_of, edges_of, answers_of, failure, IsAnswer};
+ghost use Rattle.summaries.specs.Tables.{limit_of, kept_edges, answers_of, failure, IsAnswer};
 ghost use Rattle.summaries.specs.Tabulated.{HasMoreEdges};
 ghost use Rattle.summaries.specs.Together.{IsTableOf};
 
@@ -39,18 +38,15 @@ pub fn a_quiet_table_has_what_is_reached<A: Allocator, G: Allocator>()
 /// edges.
 pub fn a_table_keeps_path_edges_and_answers_what_is_due<G: Allocator, A: Allocator, S: PathSet<A>>()
     ensures edges { (p : Program) (q : ℕ) (t : Table G A S) → IsTableOf S.members p q t
-        → (x : Triple) → Member x (edges_of S.members t)
+        → (x : Triple) → Member x (kept_edges S.members t)
         → AreNumbersOfEdge p q x.entry x.point x.values }
     ensures answer { (p : Program) (q : ℕ) (old t : Table G A S) (to : ℕ) (d : Due)
-        → IsTableOf S.members p q t
-        → IsAnswer old t to d → (k : NumberedMessage) → due_of k ≡ d → IsNumberOf (IsDue p to) k }
-    ensures answered { (p : Program) (q : ℕ) (t : Table G A S) → IsTableOf S.members p q t
-        → failure t ≡ None
-        → (x : Mail) → Member x (answers_of t) → (k : NumberedMessage) → due_of k ≡ x.due
-        → IsNumberOf (IsDue p x.to) k }
+        → IsTableOf S.members p q t → IsAnswer old t to d → IsDueFor p to d }
+    ensures answered { (p : Program) (q : ℕ) (t : Table G A S) (x : AddressedMail)
+        → IsTableOf S.members p q t → failure t ≡ None → Member x (answers_of t)
+        → IsDueFor p x.to x.due }
     ensures limit { (p : Program) (q : ℕ) (t : Table G A S) → IsTableOf S.members p q t
-        → failure t ≡ Some EdgeLimit
-        → HasMoreEdges p q (limit_of t) }
+        → failure t ≡ Some EdgeLimit → HasMoreEdges p q (limit_of t) }
 {}
 
 /// The starter's message, by which procedure 0 is entered with every value 0, fits the mailbox of procedure 0.

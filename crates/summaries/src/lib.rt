@@ -10,6 +10,7 @@ mod found;
 mod frontier;
 mod groups;
 mod kept_call;
+mod kept_edge;
 mod kept_exit;
 mod kept_pair;
 mod laws;

@@ -1,8 +1,8 @@
 //! Calls whose summaries are known.
 
-use crate::edge::{Edge, Site};
+use crate::edge::PathEdge;
 use crate::frontier::Frontier;
-use crate::kept_call::KeptSite;
+use crate::kept_edge::KeptEdge;
 use crate::kept_exit::KeptExit;
 use crate::table_fault::TableFault;
 use flow_graph::{Exit, Flow, Graph};
@@ -11,18 +11,18 @@ use std::alloc::Allocator;
 
 impl<'e, 'p, A: Allocator, S: PathSet<A>> Frontier<'e, 'p, A, S> {
     ghost use Rattle.summaries.specs.Grows.{OfSome, IsBehind};
-    ghost use Rattle.summaries.specs.Frontiers.{Reaches, IsWithin};
+    ghost use Rattle.summaries.specs.Frontiers.{Extends, IsWithin};
 
     /// Continues after the call of a site, for what it has left; nowhere if there is no such call. After an error
     /// the edge may have been added.
     fn reach_after_call<G: Allocator>(
         &mut self,
         graph: &Graph<G>,
-        site: Site,
+        site: PathEdge,
         left: Exit,
     ) -> Result<(), TableFault>
         requires { IsWithin S.members self.old }
-        ensures { Reaches S.members (IsBehind graph.now site left) result self.old self.new }
+        ensures { Extends S.members (IsBehind graph.now site left) result self.old self.new }
     {
         if site.point >= graph.points() {
             return Ok(());
@@ -30,8 +30,8 @@ impl<'e, 'p, A: Allocator, S: PathSet<A>> Frontier<'e, 'p, A, S> {
         let Flow::Call(call) = graph.flow(site.point) else {
             return Ok(());
         };
-        let edge = Edge {
-            entry: site.asked,
+        let edge = PathEdge {
+            entry: site.entry,
             point: call.back(),
             values: call.resumed(site.values, left),
         };
@@ -43,11 +43,11 @@ impl<'e, 'p, A: Allocator, S: PathSet<A>> Frontier<'e, 'p, A, S> {
     pub(crate) fn resume_site<G: Allocator>(
         &mut self,
         graph: &Graph<G>,
-        site: Site,
+        site: PathEdge,
         summaries: &[KeptExit],
     ) -> Result<(), TableFault>
         requires { IsWithin S.members self.old }
-        ensures { Reaches S.members
+        ensures { Extends S.members
             (OfSome (IsBehind graph.now site) summaries.now) result self.old self.new }
     {
         for left in summaries {
@@ -61,15 +61,15 @@ impl<'e, 'p, A: Allocator, S: PathSet<A>> Frontier<'e, 'p, A, S> {
     pub(crate) fn resume_sites<G: Allocator>(
         &mut self,
         graph: &Graph<G>,
-        sites: &[KeptSite],
+        sites: &[KeptEdge],
         left: Exit,
     ) -> Result<(), TableFault>
         requires { IsWithin S.members self.old }
-        ensures { Reaches S.members
+        ensures { Extends S.members
             (OfSome (λ site. IsBehind graph.now site left) sites.now) result self.old self.new }
     {
         for site in sites {
-            self.reach_after_call(graph, site.site(), left)?;
+            self.reach_after_call(graph, site.edge(), left)?;
         }
         Ok(())
     }

@@ -2,7 +2,7 @@
 
 ghost use Rattle.language.specs.Lists.{Member, NoneTwice};
 ghost use Rattle.summaries.specs.declared.outbox.Outgoing.{Outgoing};
-ghost use Rattle.summaries.specs.Grows.{Gives, OfSome, IsTold};
+ghost use Rattle.summaries.specs.Grows.{SendsAll, OfSome, IsTold};
 
 use crate::due::Caller;
 use crate::outbox::{Outbox, Outgoing};
@@ -15,7 +15,7 @@ pub(crate) fn send_summary<A: Allocator + Copy>(
     caller: Caller,
 ) -> Result<(), AllocError>
     requires { (x : Outgoing) → IsTold pair caller x → ¬ Member x outbox.old.sent.items }
-    ensures { Gives (IsTold pair caller) result outbox.old outbox.new }
+    ensures { SendsAll (IsTold pair caller) result outbox.old outbox.new }
 {
     if let Caller::Proc(to) = caller {
         outbox.send(Outgoing::SummaryFor { to, pair })?;
@@ -33,7 +33,7 @@ pub(crate) fn send_summary_to_all<A: Allocator + Copy>(
     requires once { NoneTwice callers.now }
     requires new { (x : Outgoing) → OfSome (IsTold pair) callers.now x
         → ¬ Member x outbox.old.sent.items }
-    ensures { Gives (OfSome (IsTold pair) callers.now) result outbox.old outbox.new }
+    ensures { SendsAll (OfSome (IsTold pair) callers.now) result outbox.old outbox.new }
 {
     for caller in callers {
         send_summary(outbox, pair, *caller)?;
@@ -51,7 +51,8 @@ pub(crate) fn send_summaries<A: Allocator + Copy>(
     requires once { NoneTwice pairs.now }
     requires new { (x : Outgoing) → OfSome (λ pair. IsTold pair caller) pairs.now x
         → ¬ Member x outbox.old.sent.items }
-    ensures { Gives (OfSome (λ pair. IsTold pair caller) pairs.now) result outbox.old outbox.new }
+    ensures { SendsAll
+        (OfSome (λ pair. IsTold pair caller) pairs.now) result outbox.old outbox.new }
 {
     for pair in pairs {
         send_summary(outbox, *pair, caller)?;

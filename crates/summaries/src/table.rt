@@ -4,7 +4,7 @@ ghost use Rattle.std.specs.Prelude.{◌≡◌, Some, None};
 ghost use Rattle.path_sets.specs.EdgeLimits.{most_of};
 
 use crate::due::{Caller, Due};
-use crate::edge::{Call, Edge};
+use crate::edge::{CallKey, PathEdge};
 use crate::found::Found;
 use crate::table_fault::TableFault;
 use flow_graph::{Exit, Graph, Graphs};
@@ -30,7 +30,7 @@ impl<'g, G: Allocator, A: Allocator + Copy, S: PathSet<A>> Table<'g, G, A, S> {
     ghost use Rattle.flow_graph.specs.Drawn.{graphs_of};
     ghost use Rattle.summaries.specs.declared.due.Due.TheVariants.{Entry, Summary};
     ghost use Rattle.summaries.specs.Tables.{graph_of, procedure_of, limit_of, answers_of, failure};
-    ghost use Rattle.summaries.specs.Tables.{fault_of};
+    ghost use Rattle.summaries.specs.Tables.{fault_in};
     ghost use Rattle.summaries.specs.Tables.{IsTable, IsNew, IsQuiet, IsAnswer, TableTakes};
     ghost use Rattle.summaries.specs.Tables.{KeepsTable};
     ghost use Rattle.summaries.specs.Tables.{failed_by, work_left};
@@ -78,7 +78,7 @@ impl<'g, G: Allocator, A: Allocator + Copy, S: PathSet<A>> Table<'g, G, A, S> {
             return Err(fault);
         }
         let resumed = self.resume(
-            Call {
+            CallKey {
                 callee: p,
                 entered: a,
             },
@@ -94,7 +94,7 @@ impl<'g, G: Allocator, A: Allocator + Copy, S: PathSet<A>> Table<'g, G, A, S> {
     /// once. `None` if there is no more until another message is taken. It fails as `take_entry` does.
     pub fn next(&mut self) -> Result<Option<(u8, Due)>, TableFault>
         requires { IsTable S.members self.old }
-        ensures keeps { KeepsTable S.members (fault_of result) self.old self.new }
+        ensures keeps { KeepsTable S.members (fault_in result) self.old self.new }
         ensures some { IfOk result (λ r. IfSome r (λ m. IsAnswer self.old self.new m.0 m.1)) }
         ensures few { length (answers_of self.new) < 2 ^ 64 }
         ensures none { IfOk result (λ r. IfNone r (answers_of self.new ≡ answers_of self.old)) }
@@ -134,7 +134,7 @@ impl<'g, G: Allocator, A: Allocator + Copy, S: PathSet<A>> Table<'g, G, A, S> {
     fn step(&mut self) -> Result<bool, TableFault>
         requires table { IsTable S.members self.old }
         requires fault { self.old.fault ≡ None }
-        ensures keeps { KeepsTable S.members (fault_of result) self.old self.new }
+        ensures keeps { KeepsTable S.members (fault_in result) self.old self.new }
         ensures answers { OnOk result (answers_of self.new ≡ answers_of self.old) }
         ensures less { IfOk result (λ worked. OnTrue worked
             (work_left S.members self.new < work_left S.members self.old)) }
@@ -147,12 +147,12 @@ impl<'g, G: Allocator, A: Allocator + Copy, S: PathSet<A>> Table<'g, G, A, S> {
             return Ok(false);
         };
         // Read field by field, since a processor waits for a word that it has just written in parts.
-        let Edge {
+        let PathEdge {
             entry,
             point,
             values,
         } = edge;
-        let worked = self.work(Edge {
+        let worked = self.work(PathEdge {
             entry,
             point,
             values,

@@ -6,18 +6,18 @@ ghost use Rattle.flow_graph.specs.Drawn.{flows_of};
 ghost use Rattle.flow_graph.specs.declared.flow.Flow.TheVariants as flow;
 ghost use Rattle.summaries.specs.declared.due.Due.TheVariants.{Entry};
 ghost use Rattle.summaries.specs.Mails.{summary_due};
-ghost use Rattle.path_sets.specs.Triples.{Triple};
-ghost use Rattle.summaries.specs.Grows.{triple_of, IsNext, IsNoCall, IsExpansionKey};
+ghost use Rattle.summaries.specs.Grows.{triple_of, IsNoCall, IsExpansionKey};
 ghost use Rattle.summaries.specs.Tables.{answers_of, graph_of, limit_of, HasItsExit, HasAsked};
 ghost use Rattle.summaries.specs.Tables.{Holds};
-ghost use Rattle.summaries.specs.Tables.{Worked, StaysAs, IsLess, TookAlso};
+ghost use Rattle.summaries.specs.Tables.{HasAllNext, Worked, StaysAs, IsLess, TookAlso};
 ghost use Rattle.summaries.specs.Tables.{TookOnly, TookSame};
 
 use crate::due::Caller;
-use crate::edge::{Call, Edge, Expanded, Site};
+use crate::edge::{CallKey, PathEdge};
 use crate::expanding::expansion_key;
 use crate::frontier::Frontier;
-use crate::kept_call::{KeptCall, KeptSite};
+use crate::kept_call::KeptCall;
+use crate::kept_edge::KeptEdge;
 use crate::kept_exit::KeptExit;
 use crate::kept_pair::KeptPair;
 use crate::outbox::index_in_32_bits;
@@ -32,7 +32,7 @@ use std::alloc::{AllocError, Allocator};
 
 impl<'g, G: Allocator, A: Allocator + Copy, S: PathSet<A>> Table<'g, G, A, S> {
     /// Keeps what an edge at the exit leaves, and tells it to the callers.
-    fn record_exit(&mut self, edge: Edge) -> Result<(), AllocError>
+    fn record_exit(&mut self, edge: PathEdge) -> Result<(), AllocError>
         requires edge { Member (triple_of edge) (S.members self.old.edges) }
         requires holds { Holds S.members (λ t. t ≡ triple_of edge) self.old }
         ensures ok { OnOk result (Holds S.members (λ t. t ≡ triple_of edge) self.new) }
@@ -65,7 +65,7 @@ impl<'g, G: Allocator, A: Allocator + Copy, S: PathSet<A>> Table<'g, G, A, S> {
 
     /// Requests the procedure that is called from an edge, and continues after the call with what is known of
     /// it.
-    fn record_call(&mut self, edge: Edge, call: &flow_graph::Call<G>) -> Result<(), TableFault>
+    fn record_call(&mut self, edge: PathEdge, call: &flow_graph::Call<G>) -> Result<(), TableFault>
         requires call { slice_get (flows_of (graph_of self.old)) edge.point
             ≡ Some (flow.Call call.now) }
         requires edge { Member (triple_of edge) (S.members self.old.edges) }
@@ -77,28 +77,23 @@ impl<'g, G: Allocator, A: Allocator + Copy, S: PathSet<A>> Table<'g, G, A, S> {
         ensures pairs { self.new.found.pairs ≡ self.old.found.pairs }
         ensures less { OnOk result (IsLess S.members self.old self.new) }
     {
-        let key = KeptCall::new(Call {
+        let key = KeptCall::new(CallKey {
             callee: call.callee(),
             entered: call.entry(edge.values),
         });
-        let site = Site {
-            asked: edge.entry,
-            point: edge.point,
-            values: edge.values,
-        };
-        let added = self.found.sites.add(key, KeptSite::new(site))?;
+        let added = self.found.sites.add(key, KeptEdge::new(edge))?;
         self.found.outbox.send_entry(added.had, added.at)?;
         let mut frontier = Frontier {
             edges: &mut self.edges,
             pending: &mut self.found.pending,
             limit: self.limit,
         };
-        frontier.resume_site(self.graph, site, self.found.summaries.of(key))
+        frontier.resume_site(self.graph, edge, self.found.summaries.of(key))
     }
 
     /// Works on an edge that is no longer pending: adds the edges that it leads to, and gives the messages that it
     /// makes due.
-    pub(crate) fn work(&mut self, edge: Edge) -> Result<(), TableFault>
+    pub(crate) fn work(&mut self, edge: PathEdge) -> Result<(), TableFault>
         requires edge { Member (triple_of edge) (S.members self.old.edges) }
         requires holds { Holds S.members (λ t. t ≡ triple_of edge) self.old }
         requires within { length (S.members self.old.edges) ≤ limit_of self.old }
@@ -121,7 +116,7 @@ impl<'g, G: Allocator, A: Allocator + Copy, S: PathSet<A>> Table<'g, G, A, S> {
 
     /// Adds the edges that each choice leads to from an edge.
     #[inline(always)]
-    fn expand(&mut self, flow: &Flow<G>, edge: Edge) -> Result<(), TableFault>
+    fn expand(&mut self, flow: &Flow<G>, edge: PathEdge) -> Result<(), TableFault>
         requires flow { slice_get (flows_of (graph_of self.old)) edge.point ≡ Some flow.now }
         requires no_call { IsNoCall flow.now }
         requires left { HasItsExit self.old edge }
@@ -129,8 +124,7 @@ impl<'g, G: Allocator, A: Allocator + Copy, S: PathSet<A>> Table<'g, G, A, S> {
         requires holds { Holds S.members (λ t. t ≡ triple_of edge) self.old }
         requires within { length (S.members self.old.edges) ≤ limit_of self.old }
         ensures worked { Worked S.members (λ t. ⊥) result self.old self.new }
-        ensures all { OnOk result
-            ((t : Triple) → IsNext flow.now edge t → Member t (S.members self.new.edges)) }
+        ensures all { OnOk result (HasAllNext S.members flow.now edge self.new) }
         ensures taken { TookSame self.old.found self.new.found }
         ensures less { OnOk result (IsLess S.members self.old self.new) }
     {
@@ -145,7 +139,12 @@ impl<'g, G: Allocator, A: Allocator + Copy, S: PathSet<A>> Table<'g, G, A, S> {
     /// Adds the edges that each choice leads to from an edge, unless this was done for an edge that choice 0 leads to
     /// the same: then each choice does.
     #[inline(never)]
-    fn expand_once(&mut self, flow: &Flow<G>, edge: Edge, led: Expanded) -> Result<(), TableFault>
+    fn expand_once(
+        &mut self,
+        flow: &Flow<G>,
+        edge: PathEdge,
+        led: KeptEdge,
+    ) -> Result<(), TableFault>
         requires flow { slice_get (flows_of (graph_of self.old)) edge.point ≡ Some flow.now }
         requires no_call { IsNoCall flow.now }
         requires led { IsExpansionKey flow.now edge led }
@@ -177,7 +176,7 @@ impl<'g, G: Allocator, A: Allocator + Copy, S: PathSet<A>> Table<'g, G, A, S> {
             return Ok(());
         }
         self.found.entries.add(a, caller)?;
-        let start = Edge {
+        let start = PathEdge {
             entry: a,
             point: self.graph.start(),
             values: a,
@@ -194,7 +193,7 @@ impl<'g, G: Allocator, A: Allocator + Copy, S: PathSet<A>> Table<'g, G, A, S> {
     }
 
     /// Resumes each call of this kind, for what it has left.
-    pub(crate) fn resume(&mut self, call: Call, left: Exit) -> Result<(), TableFault>
+    pub(crate) fn resume(&mut self, call: CallKey, left: Exit) -> Result<(), TableFault>
         requires holds { Holds S.members (λ t. ⊥) self.old }
         requires within { length (S.members self.old.edges) ≤ limit_of self.old }
         ensures worked { Worked S.members (λ t. ⊥) result self.old self.new }

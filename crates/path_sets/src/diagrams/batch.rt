@@ -9,20 +9,21 @@ ghost use Rattle.path_sets.specs.GatheredKeys.{gathered_key_eq};
 
 use crate::diagrams::diagrams::Diagrams;
 use crate::diagrams::gathered_key::GatheredKey;
-use crate::diagrams::gathered_masks::{GatheredMasks, add_point_at, find, insert_new};
 use crate::points::mask::add_point;
+use crate::points::masks::{Masks, add_point_at};
+use crate::points::seek::{find, insert_new};
 use indexmap::IndexMap;
 use std::alloc::{AllocError, Allocator};
 
 /// Masks for some diagrams that were gathered one after another.
 #[derive(Drop)]
 pub(crate) struct Batch<A: Allocator> {
-    pub(crate) masks: GatheredMasks<A>,
+    pub(crate) masks: Masks<GatheredKey, A>,
     ghost unique: { IsUnique gathered_key_eq masks } by { IsDistinct-prop gathered_key_eq (keys masks) },
 }
 
 impl<A: Allocator + Copy> Batch<A> {
-    ghost use Rattle.path_sets.specs.Contents.{AreCovered, batch_masks, Gathers, MayGather};
+    ghost use Rattle.path_sets.specs.Contents.{AreCovered, batch_masks, GathersEdge, MayGather};
     ghost use Rattle.path_sets.specs.Contents.{NoKeyBut};
 
     /// No masks; this takes no memory yet.
@@ -45,7 +46,7 @@ impl<A: Allocator + Copy> Batch<A> {
     ) -> Result<bool, AllocError>
         requires none { lookup (gathered_key_eq key) self.old.masks.entries ≡ None }
         requires may { MayGather merged.now key bit self.old }
-        ensures ok { IfOk result (Gathers merged.now key bit (batch_masks merged.now self.old)
+        ensures ok { IfOk result (GathersEdge merged.now key bit (batch_masks merged.now self.old)
             (batch_masks merged.now self.new)) }
         ensures err { OnErr result (self.new.masks.entries ≡ self.old.masks.entries) }
         ensures covers { AreCovered merged.now (batch_masks merged.now self.new) }
@@ -71,7 +72,7 @@ impl<A: Allocator + Copy> Batch<A> {
         bit: usize,
     ) -> Result<bool, AllocError>
         requires { MayGather merged.now key bit self.old }
-        ensures ok { IfOk result (Gathers merged.now key bit (batch_masks merged.now self.old)
+        ensures ok { IfOk result (GathersEdge merged.now key bit (batch_masks merged.now self.old)
             (batch_masks merged.now self.new)) }
         ensures err { OnErr result (self.new.masks.entries ≡ self.old.masks.entries) }
         ensures covers { AreCovered merged.now (batch_masks merged.now self.new) }

@@ -1,12 +1,11 @@
 //! Path edges that are gathered, in batches, before they go into the diagrams.
 
-ghost use Rattle.std.specs.Prelude.{◌≡◌, ◌<◌, ℕ, [], List, Some, length, slice_get, IfOk, OnErr};
+ghost use Rattle.std.specs.Prelude.{◌≡◌, ◌<◌, ℕ, [], Some, length, slice_get, IfOk, OnErr};
 ghost use Rattle.std.specs.Prelude.{◌≤◌, ◌⊎◌, IfSome, IsNone, IsSome, OnOk};
 ghost use Rattle.std.specs.Map.{keys_of};
 ghost use Rattle.language.specs.Lists.{Member};
-ghost use Rattle.path_sets.specs.declared.diagrams.roots.DiagramKey.{DiagramKey};
-ghost use Rattle.path_sets.specs.Batches.{AllWithin, AreHome, masks_in, gathered_at};
-ghost use Rattle.path_sets.specs.Contents.{EachIsCovered, Gathers, all_masks, diagrams_in};
+ghost use Rattle.path_sets.specs.Batches.{AreHome, HasBatch, HasNoMasks, KeepMasks, gathered_at};
+ghost use Rattle.path_sets.specs.Contents.{BatchesFit, GathersEdge, all_masks, diagrams_in};
 
 use crate::diagrams::batch::Batch;
 use crate::diagrams::diagrams::Diagrams;
@@ -76,10 +75,10 @@ impl<A: Allocator + Copy> Batches<A> {
 
     /// The number of a diagram's batch, if that has any masks.
     fn own_batch(&self, diagram: usize) -> Option<usize>
-        ensures some { IfSome result (λ k. (slice_get self.now.homes.items diagram ≡ Some k)
-            × (k < length self.now.batches.items)) }
-        ensures none { IsNone result → (k : ℕ) → slice_get self.now.homes.items diagram ≡ Some k
-            → gathered_at self.now.batches.items k ≡ [] }
+        ensures some { IfSome result
+            (HasBatch self.now.homes.items self.now.batches.items diagram) }
+        ensures none { IsNone result
+            → HasNoMasks self.now.homes.items self.now.batches.items diagram }
     {
         if diagram >= self.homes.len() {
             return None;
@@ -96,14 +95,9 @@ impl<A: Allocator + Copy> Batches<A> {
 
     /// Gives a diagram whose batch has no masks the batch that new diagrams go to, and returns its number.
     fn settle(&mut self, diagram: usize) -> Result<usize, AllocError>
-        requires { (k : ℕ) → slice_get self.old.homes.items diagram ≡ Some k
-            → gathered_at self.old.batches.items k ≡ [] }
-        ensures batch { IfOk result (λ k. (slice_get self.new.homes.items diagram ≡ Some k)
-            × (k < length self.new.batches.items)) }
-        ensures gathered { (k : ℕ)
-            → gathered_at self.new.batches.items k ≡ gathered_at self.old.batches.items k }
-        ensures masks { (diagrams : List DiagramKey) → masks_in diagrams self.new.batches.items
-            ≡ masks_in diagrams self.old.batches.items }
+        requires { HasNoMasks self.old.homes.items self.old.batches.items diagram }
+        ensures batch { IfOk result (HasBatch self.new.homes.items self.new.batches.items diagram) }
+        ensures keep { KeepMasks self.old.batches.items self.new.batches.items }
     {
         fill(&mut self.homes, diagram)?;
         let at = batch_with_room(*self.homes.allocator(), &mut self.batches)?;
@@ -113,12 +107,8 @@ impl<A: Allocator + Copy> Batches<A> {
 
     /// The number of the batch that a diagram's masks go to.
     fn batch_of(&mut self, diagram: usize) -> Result<usize, AllocError>
-        ensures batch { IfOk result (λ k. (slice_get self.new.homes.items diagram ≡ Some k)
-            × (k < length self.new.batches.items)) }
-        ensures gathered { (k : ℕ)
-            → gathered_at self.new.batches.items k ≡ gathered_at self.old.batches.items k }
-        ensures masks { (diagrams : List DiagramKey) → masks_in diagrams self.new.batches.items
-            ≡ masks_in diagrams self.old.batches.items }
+        ensures batch { IfOk result (HasBatch self.new.homes.items self.new.batches.items diagram) }
+        ensures keep { KeepMasks self.old.batches.items self.new.batches.items }
     {
         match self.own_batch(diagram) {
             Some(at) => Ok(at),
@@ -135,16 +125,14 @@ impl<A: Allocator + Copy> Batches<A> {
     ) -> Result<bool, AllocError>
         requires bit { bit < 64 }
         requires diagram { key.diagram < length (diagrams_in merged.now) }
-        requires within { AllWithin (diagrams_in merged.now) self.old.batches.items }
-        requires covers { EachIsCovered merged.now self.old.batches.items }
-        ensures ok { IfOk result (Gathers merged.now key bit
+        requires fit { BatchesFit merged.now self.old.batches.items }
+        ensures ok { IfOk result (GathersEdge merged.now key bit
             (all_masks merged.now self.old.batches.items)
             (all_masks merged.now self.new.batches.items)) }
         ensures err { OnErr result
             (all_masks merged.now self.new.batches.items
             ≡ all_masks merged.now self.old.batches.items) }
-        ensures within { AllWithin (diagrams_in merged.now) self.new.batches.items }
-        ensures covers { EachIsCovered merged.now self.new.batches.items }
+        ensures fit { BatchesFit merged.now self.new.batches.items }
     {
         let at = self.batch_of(key.diagram)?;
         self.batches[at].gather(&mut self.last, &mut self.waiting, merged, key, bit)

@@ -5,8 +5,7 @@ ghost use Rattle.language.specs.Lists.{Member, NoneTwice, NoneTwice-prop};
 ghost use Rattle.language.specs.Words.{word_bits};
 ghost use Rattle.path_sets.specs.Suffixes.{HasNodes};
 ghost use Rattle.path_sets.specs.Triples.{triple};
-ghost use Rattle.path_sets.specs.Contents.{EachIsCovered, diagrams_in, whole};
-ghost use Rattle.path_sets.specs.Batches.{AllWithin};
+ghost use Rattle.path_sets.specs.Contents.{BatchesFit, diagrams_in, whole};
 
 use crate::diagrams::batches::Batches;
 use crate::diagrams::diagrams::Diagrams;
@@ -30,8 +29,7 @@ pub struct DiagramEdges<A: Allocator> {
     gathered: Batches<A>,
     merged: Diagrams<A>,
     count: u64,
-    ghost within: { AllWithin (diagrams_in merged) gathered.batches.items },
-    ghost covers: { EachIsCovered merged gathered.batches.items },
+    ghost fit: { BatchesFit merged gathered.batches.items },
     ghost counted: { count ≡ length (whole merged gathered.batches.items) },
     ghost once: { NoneTwice (whole merged gathered.batches.items) } by { NoneTwice-prop
         (whole merged gathered.batches.items) },

@@ -17,8 +17,9 @@ use crate::counting::inner::inner_nodes;
 use crate::counting::one_bit::one_bit_diagram;
 use crate::diagrams::insertion::Insertion;
 use crate::diagrams::quads::Quads;
-use crate::diagrams::roots::{DiagramKey, Roots, find, index_of, root, root_at, set_root};
+use crate::diagrams::roots::{DiagramKey, Roots, index_of, root, root_at, set_root};
 use crate::diagrams::union::union;
+use crate::points::seek::find;
 use indexmap::IndexMap;
 use language::Word;
 use std::alloc::{AllocError, Allocator};
@@ -35,7 +36,7 @@ pub(crate) struct Diagrams<A: Allocator> {
 }
 
 impl<A: Allocator + Copy> Diagrams<A> {
-    ghost use Rattle.path_sets.specs.Contents.{Takes, diagrams_in, is_merged};
+    ghost use Rattle.path_sets.specs.Contents.{DiagramsTake, diagrams_in, is_merged};
 
     /// No diagrams; this takes no memory yet.
     pub(crate) fn new(alloc: A) -> Self
@@ -99,7 +100,7 @@ impl<A: Allocator + Copy> Diagrams<A> {
         requires { at < index_map_len self.old.roots }
         ensures keys { keys self.new.roots ≡ keys self.old.roots }
         ensures takes { (diagram : DiagramKey) → slice_get (diagrams_in self.old) at ≡ Some diagram
-            → Takes (InRun diagram run.now) self.old self.new }
+            → DiagramsTake (InRun diagram run.now) self.old self.new }
         ensures all { OnOk result ((diagram : DiagramKey) (edge : Triple)
             → slice_get (diagrams_in self.old) at ≡ Some diagram → InRun diagram run.now edge
             → is_merged self.new edge ≡ true) }

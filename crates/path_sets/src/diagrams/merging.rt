@@ -7,8 +7,8 @@ ghost use Rattle.indexmap.specs.IndexMap.{index_map_len, keys};
 ghost use Rattle.language.specs.Lists.{Member};
 ghost use Rattle.path_sets.specs.declared.diagrams.insertion.Insertion.{Insertion};
 ghost use Rattle.path_sets.specs.declared.diagrams.roots.DiagramKey.{DiagramKey};
-ghost use Rattle.path_sets.specs.Edges.{edges};
-ghost use Rattle.path_sets.specs.Contents.{HasAll, Takes, all_masks, diagrams_in};
+ghost use Rattle.path_sets.specs.Edges.{mask_edges};
+ghost use Rattle.path_sets.specs.Contents.{HasAll, DiagramsTake, all_masks, diagrams_in};
 ghost use Rattle.path_sets.specs.Insertions.{AreInsertions, InInsertions};
 ghost use Rattle.path_sets.specs.Batches.{AllWithin};
 ghost use Rattle.path_sets.specs.GatheredKeys.{AreWithin, masks_of};
@@ -16,12 +16,15 @@ ghost use Rattle.path_sets.specs.GatheredKeys.{AreWithin, masks_of};
 use crate::diagrams::batch::Batch;
 use crate::diagrams::diagrams::Diagrams;
 use crate::diagrams::gathered_key::GatheredKey;
-use crate::diagrams::gathered_masks::GatheredMasks;
 use crate::diagrams::insertion::{Insertion, insertion_at, insertion_of, sort_key};
+use crate::points::masks::Masks;
 use std::alloc::{AllocError, Allocator};
 
 /// The key at an index, and its mask.
-fn gathered_key_at<A: Allocator + Copy>(masks: &GatheredMasks<A>, at: usize) -> (GatheredKey, u64)
+fn gathered_key_at<A: Allocator + Copy>(
+    masks: &Masks<GatheredKey, A>,
+    at: usize,
+) -> (GatheredKey, u64)
     requires { at < length masks.now.entries }
     ensures { slice_get masks.now.entries at ≡ Some result }
 {
@@ -33,7 +36,7 @@ fn gathered_key_at<A: Allocator + Copy>(masks: &GatheredMasks<A>, at: usize) -> 
 
 /// The insertions of the keys.
 fn insertions_of<A: Allocator + Copy>(
-    masks: &GatheredMasks<A>,
+    masks: &Masks<GatheredKey, A>,
 ) -> Result<Vec<Insertion, A>, AllocError>
     ensures { IfOk result
         (λ insertions. (diagrams : List DiagramKey) → AreWithin diagrams masks.now.entries
@@ -82,7 +85,7 @@ fn put_insertions<A: Allocator + Copy>(
     requires { (c : Insertion) → Member c insertions.now
         → c.diagram < index_map_len merged.old.roots }
     ensures keys { keys merged.new.roots ≡ keys merged.old.roots }
-    ensures takes { Takes
+    ensures takes { DiagramsTake
         (InInsertions (diagrams_in merged.old) insertions.now) merged.old merged.new }
     ensures all { OnOk result
         (HasAll (InInsertions (diagrams_in merged.old) insertions.now) merged.new) }
@@ -100,13 +103,14 @@ fn put_insertions<A: Allocator + Copy>(
 /// Puts all path edges of the masks into the diagrams. If memory is refused, some of them may be in.
 pub(crate) fn put_all<A: Allocator + Copy>(
     merged: &mut Diagrams<A>,
-    masks: &GatheredMasks<A>,
+    masks: &Masks<GatheredKey, A>,
 ) -> Result<(), AllocError>
     requires { AreWithin (diagrams_in merged.old) masks.now.entries }
     ensures keys { keys merged.new.roots ≡ keys merged.old.roots }
-    ensures takes { let gathered = edges (masks_of (diagrams_in merged.old) masks.now.entries) in
-        Takes (λ edge. Member edge gathered) merged.old merged.new }
-    ensures all { let gathered = edges (masks_of (diagrams_in merged.old) masks.now.entries) in
+    ensures takes { let gathered =
+        mask_edges (masks_of (diagrams_in merged.old) masks.now.entries) in
+        DiagramsTake (λ edge. Member edge gathered) merged.old merged.new }
+    ensures all { let gathered = mask_edges (masks_of (diagrams_in merged.old) masks.now.entries) in
         OnOk result (HasAll (λ edge. Member edge gathered) merged.new) }
 {
     let mut insertions = insertions_of(masks)?;
@@ -120,9 +124,9 @@ pub(crate) fn put_batches<A: Allocator + Copy>(
     batches: &[Batch<A>],
 ) -> Result<(), AllocError>
     requires { AllWithin (diagrams_in merged.old) batches.now }
-    ensures takes { let gathered = edges (all_masks merged.old batches.now) in
-        Takes (λ edge. Member edge gathered) merged.old merged.new }
-    ensures all { let gathered = edges (all_masks merged.old batches.now) in
+    ensures takes { let gathered = mask_edges (all_masks merged.old batches.now) in
+        DiagramsTake (λ edge. Member edge gathered) merged.old merged.new }
+    ensures all { let gathered = mask_edges (all_masks merged.old batches.now) in
         OnOk result (HasAll (λ edge. Member edge gathered) merged.new) }
 {
     for at in 0..batches.len() {

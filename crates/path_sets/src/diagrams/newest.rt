@@ -1,8 +1,7 @@
 //! The batch that diagrams without one go to.
 
-ghost use Rattle.std.specs.Prelude.{◌≡◌, ◌<◌, ℕ, List, length, IfOk};
-ghost use Rattle.path_sets.specs.declared.diagrams.roots.DiagramKey.{DiagramKey};
-ghost use Rattle.path_sets.specs.Batches.{masks_in, gathered_at};
+ghost use Rattle.std.specs.Prelude.{◌<◌, length, IfOk};
+ghost use Rattle.path_sets.specs.Batches.{KeepMasks};
 
 use crate::diagrams::batch::Batch;
 use std::alloc::{AllocError, Allocator};
@@ -17,9 +16,7 @@ pub(crate) fn batch_with_room<A: Allocator + Copy>(
     batches: &mut Vec<Batch<A>, A>,
 ) -> Result<usize, AllocError>
     ensures within { IfOk result (λ k. k < length batches.new.items) }
-    ensures gathered { (k : ℕ) → gathered_at batches.new.items k ≡ gathered_at batches.old.items k }
-    ensures masks { (diagrams : List DiagramKey)
-        → masks_in diagrams batches.new.items ≡ masks_in diagrams batches.old.items }
+    ensures keep { KeepMasks batches.old.items batches.new.items }
 {
     if let Some(batch) = batches.as_slice().last() {
         if batch.masks.len() < MANY {

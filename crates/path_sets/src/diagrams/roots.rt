@@ -10,9 +10,8 @@ ghost use Rattle.path_sets.specs.Diagrams.{root_of, diagram_eq, diagram_of, Give
 
 use crate::points::halves::Halves;
 use crate::points::mask_key::MaskKey;
-use indexmap::IndexMap;
+use crate::points::seek::{ByKey, find};
 use std::alloc::{AllocError, Allocator};
-use std::hash::{BuildHasherDefault, FoldHasher};
 
 /// The key of a diagram: a valuation on entry, and the number of a block of 64 points.
 #[derive(Clone, Copy, PartialEq, Eq, Hash)]
@@ -32,7 +31,7 @@ pub(crate) fn diagram_of(mask_key: &MaskKey) -> DiagramKey
 }
 
 /// For each diagram the number of its root, in the order in which the keys are first met.
-pub(crate) type Roots<A> = IndexMap<DiagramKey, u32, BuildHasherDefault<FoldHasher>, A>;
+pub(crate) type Roots<A> = ByKey<DiagramKey, u32, A>;
 
 /// The root of a diagram, 0 if there is none; the diagram at the index `last` is tried first.
 pub(crate) fn root<A: Allocator + Copy>(roots: &Roots<A>, last: usize, diagram: &DiagramKey) -> u32
@@ -59,24 +58,6 @@ pub(crate) fn root_at<A: Allocator + Copy>(roots: &Roots<A>, at: usize) -> u32
         Some((_, number)) => *number,
         None => unreachable!(),
     }
-}
-
-/// The index of a diagram, if it has a root; the one used last is tried first.
-#[inline(always)]
-pub(crate) fn find<A: Allocator + Copy>(
-    roots: &Roots<A>,
-    last: usize,
-    diagram: &DiagramKey,
-) -> Option<usize>
-    ensures here { IfSome result (λ at. slice_get (keys roots.now) at ≡ Some diagram.now) }
-    ensures none { IsNone result → lookup (diagram_eq diagram.now) roots.now.entries ≡ None }
-{
-    if let Some((used, _)) = roots.get_index(last) {
-        if used == diagram {
-            return Some(last);
-        }
-    }
-    roots.get_index_of(diagram)
 }
 
 /// Gives a diagram that has no root one. If memory is refused, it has none.

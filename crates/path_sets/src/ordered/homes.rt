@@ -3,13 +3,12 @@
 ghost use Rattle.std.specs.Prelude.{◌≡◌, nat_eq};
 ghost use Rattle.std.specs.Map.{lookup};
 
-use indexmap::IndexMap;
+use crate::points::seek::ByKey;
 use language::Word;
 use std::alloc::Allocator;
-use std::hash::{BuildHasherDefault, FoldHasher};
 
 /// For each entry the number of its shard, in the order in which the entries are first met.
-pub(crate) type Homes<A> = IndexMap<Word, usize, BuildHasherDefault<FoldHasher>, A>;
+pub(crate) type Homes<A> = ByKey<Word, usize, A>;
 
 /// The number of an entry's shard, if it has one; the entry at the index `last` is tried first.
 pub(crate) fn home<A: Allocator + Copy>(homes: &Homes<A>, last: usize, entry: Word) -> Option<usize>

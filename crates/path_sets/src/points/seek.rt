@@ -1,22 +1,60 @@
-//! The index of a key in a map.
+//! Maps in which the key that was used last is tried first.
+
+ghost use Rattle.std.specs.Prelude.{◌≡◌, ◌<◌, ◌∷◌, ◌++◌, [], None, Some, slice_get, IfSome, IsNone};
+ghost use Rattle.std.specs.Prelude.{OnOk, OnErr};
+ghost use Rattle.std.specs.Map.{lookup};
+ghost use Rattle.indexmap.specs.IndexMap.{IsUnique, index_map_len, keys};
+ghost use Rattle.path_sets.specs.Keys.{IsExact};
 
 use indexmap::IndexMap;
-use std::alloc::Allocator;
+use std::alloc::{AllocError, Allocator};
 use std::hash::{BuildHasherDefault, FoldHasher, Hash};
+
+/// Values by their keys, in the order in which the keys are first met.
+pub(crate) type ByKey<K, V, A> = IndexMap<K, V, BuildHasherDefault<FoldHasher>, A>;
+
+/// The index of a key, if it has a value; the key at the index `last` is tried first.
+#[inline(always)]
+pub(crate) fn find<K: Eq + Hash, V, A: Allocator + Copy>(
+    map: &ByKey<K, V, A>,
+    last: usize,
+    key: &K,
+) -> Option<usize>
+    requires { IsExact K.eq }
+    ensures here { IfSome result (λ at. slice_get (keys map.now) at ≡ Some key.now) }
+    ensures within { IfSome result (λ at. at < index_map_len map.now) }
+    ensures none { IsNone result → lookup (K.eq key.now) map.now.entries ≡ None }
+{
+    if let Some((used, _)) = map.get_index(last) {
+        if used == key {
+            return Some(last);
+        }
+    }
+    map.get_index_of(key)
+}
 
 /// The index of a key if it has a value, else some other index; the key at the index `last` is tried first.
 pub(crate) fn seek<K: Eq + Hash, V, A: Allocator + Copy>(
-    map: &IndexMap<K, V, BuildHasherDefault<FoldHasher>, A>,
+    map: &ByKey<K, V, A>,
     last: usize,
     key: &K,
-) -> usize {
-    if let Some((used, _)) = map.get_index(last) {
-        if used == key {
-            return last;
-        }
-    }
-    match map.get_index_of(key) {
-        Some(at) => at,
-        None => last,
-    }
+) -> usize
+    requires { IsExact K.eq }
+{
+    find(map, last, key).unwrap_or(last)
+}
+
+/// Inserts the value of a key that has none.
+pub(crate) fn insert_new<K: Eq + Hash + Copy, V: Copy, A: Allocator + Copy>(
+    map: &mut ByKey<K, V, A>,
+    key: K,
+    value: V,
+) -> Result<(), AllocError>
+    requires { lookup (K.eq key) map.old.entries ≡ None }
+    ensures ok { OnOk result (map.new.entries ≡ map.old.entries ++ (key, value) ∷ []) }
+    ensures err { OnErr result (map.new.entries ≡ map.old.entries) }
+    ensures unique { IsUnique K.eq map.new }
+{
+    map.insert(key, value)?;
+    Ok(())
 }

@@ -8,7 +8,7 @@ pub returns-clause-answer : goal.returns-clause-answer
 returns-clause-answer g c = λ p q old t to d is. answer_due g.S.PathSet.members p q t is old to d
 
 pub returns-clause-answered : goal.returns-clause-answered
-returns-clause-answered g c = answered_due g.S.PathSet.members
+returns-clause-answered g c = λ p q t x is fault there. answered_due g.S.PathSet.members p q t is fault x there
 
 pub returns-clause-limit : goal.returns-clause-limit
 returns-clause-limit g c = over_limit g.S.PathSet.members

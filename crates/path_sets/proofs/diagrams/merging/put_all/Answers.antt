@@ -2,7 +2,7 @@ use Rattle.std.proofs.Common.{◌≡◌, true, sym, subst}
 use Rattle.indexmap.specs.IndexMap.{keys}
 use Rattle.language.specs.Lists.{Member}
 use Rattle.path_sets.specs.Triples.{Triple}
-use Rattle.path_sets.specs.Edges.{edges}
+use Rattle.path_sets.specs.Edges.{mask_edges}
 use Rattle.path_sets.specs.Diagrams.{merged_has}
 use Rattle.path_sets.specs.Insertions.{AreInsertions, InInsertions}
 use Rattle.path_sets.specs.GatheredKeys.{masks_of}
@@ -36,7 +36,7 @@ returns-clause-takes g c =
     let gs = masks_of ks c.args.masks.now.entries in
     let insertions = c.deref.result.now in
     takes_of (InInsertions ks insertions)
-    (λ (t : Triple). Member t (edges gs)) m.nodes.kept.keys n.nodes.kept.keys m.roots.entries n.roots.entries
+    (λ (t : Triple). Member t (mask_edges gs)) m.nodes.kept.keys n.nodes.kept.keys m.roots.entries n.roots.entries
     (of_insertions ks gs insertions (sorted g (goal.at.returns-clause-takes g c).After-deref)) c.put_insertions.ensures.takes
 
 pub returns-clause-all : goal.returns-clause-all
@@ -46,6 +46,6 @@ returns-clause-all g c =
     let gs = masks_of ks c.args.masks.now.entries in
     let insertions = c.deref.result.now in
     let N : Triple → Type 0 = λ t. merged_has n.nodes.kept.keys n.roots.entries t ≡ true in
-    on_ok ((t : Triple) → InInsertions ks insertions t → N t) ((t : Triple) → Member t (edges gs) → N t) c.put_insertions.result
+    on_ok ((t : Triple) → InInsertions ks insertions t → N t) ((t : Triple) → Member t (mask_edges gs) → N t) c.put_insertions.result
     (λ all t h. all t (in_insertions ks gs insertions (sorted g (goal.at.returns-clause-all g c).After-deref) t h))
     c.put_insertions.ensures.all

@@ -4,7 +4,7 @@ use Rattle.std.proofs.lemmas.Option.{slice_get-get_or}
 use Rattle.indexmap.specs.IndexMap.{keys}
 use Rattle.language.specs.Lists.{Member}
 use Rattle.path_sets.specs.declared.diagrams.batch.Batch.{Batch}
-use Rattle.path_sets.specs.Edges.{edges}
+use Rattle.path_sets.specs.Edges.{mask_edges}
 use Rattle.path_sets.specs.Diagrams.{TakesGiven}
 use Rattle.path_sets.specs.Batches.{masks_in, gathered_at}
 use Rattle.path_sets.specs.GatheredKeys.{AreWithin, masks_of}
@@ -31,18 +31,18 @@ module _ (g : given.Over) (c : After-put_all g) (small : c.loop-at.at < length c
   is = gathered_is c.args.batches.now c.loop-at.at own (slice_get-get_or c.args.batches.now c.loop-at.at c.index-batches-at.result small)
 
   -- with this batch more is taken, and nothing else
-  taken : TakesGiven (λ t. Member t (edges (masks_in (keys c.args.merged.now.roots) c.args.batches.now)))
+  taken : TakesGiven (λ t. Member t (mask_edges (masks_in (keys c.args.merged.now.roots) c.args.batches.now)))
       c.args.merged.now.nodes.kept.keys
       c.put_all.new.merged.nodes.kept.keys c.args.merged.now.roots.entries c.put_all.new.merged.roots.entries
   taken =
       let diagrams = keys c.args.merged.now.roots in
       let bs = c.args.batches.now in
-      takes_on (λ t. Member t (edges (masks_in diagrams bs))) _ c.loop-at.merged.nodes.kept.keys _ _
+      takes_on (λ t. Member t (mask_edges (masks_in diagrams bs))) _ c.loop-at.merged.nodes.kept.keys _ _
       c.loop-at.merged.roots.entries _ c.loop-at.invariant.taken
-      (takes_of (λ t. Member t (edges (masks_of (keys c.loop-at.merged.roots) own.masks.entries)))
-      (λ t. Member t (edges (masks_in diagrams bs))) _ _ _ _
-      (λ t m. of_batch diagrams bs c.loop-at.at t (subst (λ es. Member t (edges (masks_of diagrams es))) (sym is)
-      (subst (λ ks. Member t (edges (masks_of ks own.masks.entries))) c.loop-at.invariant.same m))) c.put_all.ensures.takes)
+      (takes_of (λ t. Member t (mask_edges (masks_of (keys c.loop-at.merged.roots) own.masks.entries)))
+      (λ t. Member t (mask_edges (masks_in diagrams bs))) _ _ _ _
+      (λ t m. of_batch diagrams bs c.loop-at.at t (subst (λ es. Member t (mask_edges (masks_of diagrams es))) (sym is)
+      (subst (λ ks. Member t (mask_edges (masks_of ks own.masks.entries))) c.loop-at.invariant.same m))) c.put_all.ensures.takes)
 
 pub returns-in_err-put_all-clause-takes : goal.returns-in_err-put_all-clause-takes
 returns-in_err-put_all-clause-takes g c =
@@ -58,9 +58,9 @@ loop-at-preserved g c =
       taken = taken g p (omega arith);
       all = λ k t less m. elim (cases_eq k c.loop-at.at) [
         | inl here ↦ c.in_ok-put_all.ensures.all t
-            (subst (λ ks. Member t (edges (masks_of ks (own g p (omega arith)).masks.entries))) (sym c.loop-at.invariant.same)
-            (subst (λ es. Member t (edges (masks_of diagrams es))) (is g p (omega arith))
-            (subst (λ n. Member t (edges (masks_of diagrams (gathered_at bs n)))) here m)))
+            (subst (λ ks. Member t (mask_edges (masks_of ks (own g p (omega arith)).masks.entries))) (sym c.loop-at.invariant.same)
+            (subst (λ es. Member t (mask_edges (masks_of diagrams es))) (is g p (omega arith))
+            (subst (λ n. Member t (mask_edges (masks_of diagrams (gathered_at bs n)))) here m)))
         | inr ne ↦ c.put_all.ensures.takes.kept t (c.loop-at.invariant.all k t (omega (arith, less, ne)) m)
       ];
     }

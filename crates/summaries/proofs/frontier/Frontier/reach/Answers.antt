@@ -35,7 +35,7 @@ pub returns-else-branch : goal.returns-else-branch
 returns-else-branch g c = record {
   adds = record {
     ok = known c.args.edge (g.S.PathSet.members c.args.self.now.edges.now) (g.S.PathSet.members c.insert.new.self)
-        c.args.self.now.pending.now.items c.in_ok-insert.field-0 c.if-branch.false c.in_ok-insert.ensures.known
+        c.args.self.now.pending.now.items c.in_ok-insert.field-0 c.if-branch.false c.in_ok-insert.ensures.new.1
         c.in_ok-insert.ensures.members c.in_ok-insert.ensures.len;
     only = λ t. (c.in_ok-insert.ensures.members t).0;
     within = search rules;

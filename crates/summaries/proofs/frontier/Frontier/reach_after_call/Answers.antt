@@ -19,11 +19,11 @@ returns g c =
     let site = c.args.site in
     let call = c.in-Call.call in
     let left = c.args.left in
-    let reached = triple site.asked c.back.result c.resumed.result in
+    let reached = triple site.entry c.back.result c.resumed.result in
     let here = c.flow.ensures ∙ ap Some c.in-Call.is in
     let values = c.resumed.ensures.number ∙ sym (ap (λ o. behind o site.values left) here) in
-    let same : reached ≡ triple site.asked call.back (resumed_at graph site.point site.values left) =
-    λ i. triple site.asked (c.back.ensures i) (values i) in
+    let same : reached ≡ triple site.entry call.back (resumed_at graph site.point site.values left) =
+    λ i. triple site.entry (c.back.ensures i) (values i) in
     let to : (t : Triple) → t ≡ reached → IsBehind graph site left t =
     λ t is. (call.callee, entered_from call site.values, call.back, (Call call, here, refl), is ∙ same) in
     let from : (t : Triple) → IsBehind graph site left t → t ≡ reached =
@@ -31,7 +31,7 @@ returns g c =
     let called : (s, e, back) ≡ (call.callee, entered_from call site.values, call.back) =
     same_Some (s, e, back) (call.callee, entered_from call site.values, call.back)
     (sym enters ∙ ap (λ w. entered_by w site.values) (same_Some flow (Call call) (sym at ∙ here))) in
-    is ∙ ap (λ (k : ℕ × ℕ × ℕ). triple site.asked k.2 (resumed_at graph site.point site.values left)) called ∙ sym same in
+    is ∙ ap (λ (k : ℕ × ℕ × ℕ). triple site.entry k.2 (resumed_at graph site.point site.values left)) called ∙ sym same in
     let done = c.reach.ensures.adds in record {
       adds = record {
         ok = IfOk-weaker c.reach.result _ _

@@ -9,7 +9,7 @@ returns-in_err-reach_after_call g c =
     reaches_on g.S.PathSet.members c.loop-site.invariant.2 c.in_err-reach_after_call.ensures.stays
     (each_failed (λ site. IsBehind c.args.graph.now site c.args.left) c.args.sites.now c.loop-site.site-index _ _ _ _
     c.loop-site.invariant.0 c.site-item.result c.loop-site-test.true _ _
-    (adds_for (λ site. IsBehind c.args.graph.now site c.args.left) (c.site.ensures ∙ c.site-item.is) c.in_err-reach_after_call.ensures.adds)
+    (adds_for (λ site. IsBehind c.args.graph.now site c.args.left) (c.edge.ensures ∙ c.site-item.is) c.in_err-reach_after_call.ensures.adds)
     (search rules)
     (λ e. ap Err (sym (fault_of _ _ _ c.from_residual.ensures.1 e))))
 
@@ -17,7 +17,7 @@ pub loop-site-preserved : goal.loop-site-preserved
 loop-site-preserved g c = (
   each_next (λ site. IsBehind c.args.graph.now site c.args.left) c.args.sites.now c.loop-site.site-index _ _ _ _ c.loop-site.invariant.0
       c.site-item.result c.loop-site-test.true _ _
-      (grows_for (λ site. IsBehind c.args.graph.now site c.args.left) (c.site.ensures ∙ c.site-item.is)
+      (grows_for (λ site. IsBehind c.args.graph.now site c.args.left) (c.edge.ensures ∙ c.site-item.is)
       c.in_ok-reach_after_call.ensures.adds.ok),
   still_within g.S.PathSet.members c.in_ok-reach_after_call.ensures,
   stays_on c.loop-site.invariant.2 c.in_ok-reach_after_call.ensures.stays,

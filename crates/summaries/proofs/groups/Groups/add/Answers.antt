@@ -9,7 +9,7 @@ use Rattle.indexmap.specs.IndexMap.{insert_entry}
 use Rattle.indexmap.specs.IndexSet.{insert_key}
 use Rattle.indexmap.proofs.SetLemmas.{keys_insert_entry, inserted_at}
 use Rattle.summaries.specs.declared.values.Values.{Values}
-use Rattle.summaries.specs.Under.{values_in, items_of, under}
+use Rattle.summaries.specs.Under.{values_in, values_if_any, under}
 use Rattle.summaries.proofs.groups.Groups.add.Given.{Over}
 use Rattle.summaries.proofs.groups.Groups.add.Goals as goal
 
@@ -32,29 +32,29 @@ module _ {K V A : Type 0} (eq : K → K → Bool) (laws : IsEquivalence eq) (es 
   -- each key has the items that it had, if those of k are the same
   same_after : {X E : Type 0} (r : Result X E) (fs : List (K × Values V A))
       → ((j : K) → lookup (eq j) fs ≡ cond (eq k j) (Some new) (lookup (eq j) es))
-      → OnErr r ((j : K) → items_of (lookup (eq j) fs) ≡ items_of (lookup (eq j) es))
+      → OnErr r ((j : K) → values_if_any (lookup (eq j) fs) ≡ values_if_any (lookup (eq j) es))
   same_after (Ok _) fs is = tt
-  same_after (Err _) fs is = λ j. ap items_of (is j) ∙ by j (eq k j) refl
+  same_after (Err _) fs is = λ j. ap values_if_any (is j) ∙ by j (eq k j) refl
     where
       by : (j : K) (b : Bool) → eq k j ≡ b
-          → items_of (cond b (Some new) (lookup (eq j) es)) ≡ items_of (lookup (eq j) es)
-      by j true e = same ∙ ap items_of (sym had ∙ (λ n. lookup (λ x. laws.congr k j x e n) es))
+          → values_if_any (cond b (Some new) (lookup (eq j) es)) ≡ values_if_any (lookup (eq j) es)
+      by j true e = same ∙ ap values_if_any (sym had ∙ (λ n. lookup (λ x. laws.congr k j x e n) es))
       by j false e = refl
 
 module _ {K V A : Type 0} (eq : K → K → Bool) (es fs : List (K × Values V A)) (k : K) (new : Values V A)
     (is : (j : K) → lookup (eq j) fs ≡ cond (eq k j) (Some new) (lookup (eq j) es)) where
   -- the key that was written has the new items
-  added_after : eq k k ≡ true → (items : List V) → values_in new ≡ items → items_of (lookup (eq k) fs) ≡ items
-  added_after same items grown = ap items_of (is k) ∙ (λ j. items_of (cond (same j) (Some new) (lookup (eq k) es))) ∙ grown
+  added_after : eq k k ≡ true → (items : List V) → values_in new ≡ items → values_if_any (lookup (eq k) fs) ≡ items
+  added_after same items grown = ap values_if_any (is k) ∙ (λ j. values_if_any (cond (same j) (Some new) (lookup (eq k) es))) ∙ grown
 
   -- and each other key what it had
-  others_after : (j : K) → eq k j ≡ false → items_of (lookup (eq j) fs) ≡ items_of (lookup (eq j) es)
-  others_after j apart = ap items_of (is j) ∙ (λ n. items_of (cond (apart n) (Some new) (lookup (eq j) es)))
+  others_after : (j : K) → eq k j ≡ false → values_if_any (lookup (eq j) fs) ≡ values_if_any (lookup (eq j) es)
+  others_after j apart = ap values_if_any (is j) ∙ (λ n. values_if_any (cond (apart n) (Some new) (lookup (eq j) es)))
 
 -- the values that the key has
 had : (g : Over) (c : goal.In_ok-add-in-Occupied g) →
     values_in c.into_mut-values.result.now ≡ under g.K.PartialEq.eq c.args.self.now.by_key c.args.key
-had g c = ap items_of
+had g c = ap values_if_any
     (sym (sym c.in_ok-entry.ensures.value ∙ ap entry_value c.in-Occupied.is ∙ c.into_mut-values.ensures.value))
 
 pub returns-in_ok-add-in-Occupied-clause-keys : goal.returns-in_ok-add-in-Occupied-clause-keys
@@ -99,7 +99,7 @@ returns-in_ok-add-in-Occupied-clause-added g c =
 -- a key that has no entry has no values
 none : (g : Over) (c : goal.After-self-in-Vacant-2-1 g) → under g.K.PartialEq.eq c.args.self.now.by_key c.args.key ≡ []
 unfolding entry_value
-none g c = ap items_of (sym c.in_ok-entry.ensures.value ∙ ap entry_value c.in-Vacant.is)
+none g c = ap values_if_any (sym c.in_ok-entry.ensures.value ∙ ap entry_value c.in-Vacant.is)
 
 pub returns-in-Vacant-clause-none : goal.returns-in-Vacant-clause-none
 returns-in-Vacant-clause-none g c = none g c

@@ -7,10 +7,10 @@ use Rattle.flow_graph.specs.declared.flow.Flow.TheVariants as flow
 use Rattle.language.specs.Lists.{Member}
 use Rattle.language.specs.Sequential.{caller}
 use Rattle.flow_graph.specs.Numbers.{numbered_entry}
-use Rattle.summaries.specs.declared.edge.Call.{Call}
+use Rattle.summaries.specs.declared.edge.CallKey.{CallKey}
 use Rattle.summaries.specs.Under.{under}
 use Rattle.indexmap.specs.IndexMap.{keys}
-use Rattle.summaries.specs.Found.{HasSite, IsIndexed, call_eq, site, entry_mail, mails_in}
+use Rattle.summaries.specs.Found.{HasSite, IsIndexed, call_eq, entry_mail, mails_in}
 use Rattle.summaries.specs.Grows.{AddsTo, Grows, OfSome, IsBehind, triple_of}
 use Rattle.summaries.proofs.CallLemmas.{asked_to, ask_step, ask_only, behind_reached, asked_site, taken_there}
 use Rattle.summaries.proofs.CallLemmas.{stands_there, was_given, asked_indexed, asked_gave}
@@ -26,8 +26,8 @@ asked : (g : given.Over) (c : goal.After-resume_site g) →
     (c.new-key.result.callee ≡ called_procedure c.args.call.now)
     × (c.new-key.result.entered ≡ entered_from c.args.call.now c.args.edge.values)
 asked g c = (
-  ap (λ (k : Call). k.callee) c.new-key.ensures ∙ c.callee.ensures,
-  ap (λ (k : Call). k.entered) c.new-key.ensures ∙ c.entry.ensures,
+  ap (λ (k : CallKey). k.callee) c.new-key.ensures ∙ c.callee.ensures,
+  ap (λ (k : CallKey). k.entered) c.new-key.ensures ∙ c.entry.ensures,
 )
 
 -- the flow is a call of this procedure
@@ -39,7 +39,7 @@ enters g c = λ i. Some (sym (asked g c).0 i, sym (asked g c).1 i, c.args.call.n
 -- it is kept that the call stands at the site
 added : (g : given.Over) (c : goal.After-resume_site g) →
     under call_eq c.add.new.self.by_key c.new-key.result ≡ under call_eq c.args.self.now.found.sites.by_key c.new-key.result
-    ++ site c.args.edge.entry c.args.edge.point c.args.edge.values ∷ []
+    ++ c.args.edge ∷ []
 added g c =
     c.in_ok-added.ensures.added
     ∙ ap (λ x. under call_eq c.args.self.now.found.sites.by_key c.new-key.result ++ x ∷ []) c.new.ensures
@@ -47,7 +47,7 @@ added g c =
 -- the summaries of the call are those that are found by it
 known : (g : given.Over) (c : goal.After-resume_site g) →
     let self = c.args.self.now in
-    let site = site c.args.edge.entry c.args.edge.point c.args.edge.values in
+    let site = c.args.edge in
     let es = g.S.PathSet.members self.edges in
     let ds = g.S.PathSet.members c.resume_site.new.self.edges.now in
     let known = under call_eq self.found.summaries.by_key (c.new-key.result) in
@@ -55,7 +55,7 @@ known : (g : given.Over) (c : goal.After-resume_site g) →
     Grows (OfSome (IsBehind self.graph.now site) known) es ds self.found.pending.items c.resume_site.new.self.pending.now.items
 known g c =
     let self = c.args.self.now in
-    subst (λ bs. Grows (OfSome (IsBehind self.graph.now (site c.args.edge.entry c.args.edge.point c.args.edge.values)) bs)
+    subst (λ bs. Grows (OfSome (IsBehind self.graph.now c.args.edge) bs)
     (g.S.PathSet.members self.edges) (g.S.PathSet.members c.resume_site.new.self.edges.now) self.found.pending.items
     c.resume_site.new.self.pending.now.items) c.of.ensures
 
@@ -98,7 +98,7 @@ gave g c =
     c.in_ok-added.added.had c.in_ok-send_entry.ensures.known c.in_ok-send_entry.ensures.new
     c.requires.holds.0.indexed
     (where_some (under call_eq f.sites.by_key k) c.in_ok-added.added.had c.in_ok-added.ensures.had
-    (λ y m. c.requires.holds.1.asks k.callee k.entered y.asked y.point y.values m))
+    (λ y m. c.requires.holds.1.asks k.callee k.entered y.entry y.point y.values m))
 
 pub returns-in_err-added-clause-worked : goal.returns-in_err-added-clause-worked
 returns-in_err-added-clause-worked g c =
@@ -131,14 +131,14 @@ returns-clause-worked g c =
     c.new-key.result.callee c.new-key.result.entered c.args.call.now.back (flow.Call c.args.call.now)
     c.requires.holds.0 c.requires.edge c.requires.call (enters g c)
     (subst (λ bs. (t : Triple) → Member t ds →
-    OfSome (IsBehind self.graph.now (site e.entry e.point e.values)) bs t ⊎ Member t es) c.of.ensures
+    OfSome (IsBehind self.graph.now e) bs t ⊎ Member t es) c.of.ensures
     c.resume_site.ensures.adds.only) in
     added_worked g.S.PathSet.members _ (λ t. t ≡ triple_of e) c.resume_site.result self _ es _ _ c.resume_site.ensures.adds
     (g.met.S.PathSet.none_twice c.resume_site.new.self.edges.now) edges
     (λ t w. behind_reached self.graph.now self.procedure f c.send_entry.new.self c.add.new.self c.resume_site.new.self.pending.now es ds e
     c.new-key.result.callee c.new-key.result.entered c.args.call.now.back (flow.Call c.args.call.now)
     c.requires.holds.0 c.requires.edge c.requires.call (enters g c) t
-    (subst (λ bs. OfSome (IsBehind self.graph.now (site e.entry e.point e.values)) bs t) c.of.ensures w))
+    (subst (λ bs. OfSome (IsBehind self.graph.now e) bs t) c.of.ensures w))
     (IfOk-weaker c.resume_site.result _ _
     (λ _ grown.
     let step = ask_step self.graph.now self.procedure f c.send_entry.new.self c.add.new.self c.resume_site.new.self.pending.now es ds e
@@ -163,7 +163,7 @@ returns-clause-asked g c =
     let ds = g.S.PathSet.members c.resume_site.new.self.edges.now in
     IfOk-weaker c.resume_site.result _ _
     (λ _ grown.
-    subst (λ (t : ℕ × ℕ). HasSite found t.0 t.1 (site e.entry e.point e.values)) (λ i. ((asked g c).0 i, (asked g c).1 i))
+    subst (λ (t : ℕ × ℕ). HasSite found t.0 t.1 e) (λ i. ((asked g c).0 i, (asked g c).1 i))
     (asked_site self.graph.now self.procedure self.found c.send_entry.new.self c.add.new.self c.resume_site.new.self.pending.now es ds e
     c.new-key.result.callee c.new-key.result.entered c.args.call.now.back (flow.Call c.args.call.now)
     c.requires.holds.0 c.requires.edge c.requires.call (enters g c) (gave g c)

@@ -2,7 +2,7 @@ use Rattle.std.proofs.Common.{◌≡◌, ◌⊎◌, ◌++◌, ◌∷◌, [], fal
 use Rattle.std.proofs.lemmas.Result.{IfOk-weaker}
 use Rattle.language.specs.Lists.{Member}
 use Rattle.path_sets.specs.Triples.{Triple}
-use Rattle.summaries.specs.declared.edge.Call.{Call}
+use Rattle.summaries.specs.declared.edge.CallKey.{CallKey}
 use Rattle.summaries.specs.Under.{under}
 use Rattle.summaries.specs.Found.{call_eq}
 use Rattle.summaries.specs.Grows.{Grows, OfSome, IsBehind}
@@ -22,10 +22,10 @@ added g c =
     (c.in_ok-add.ensures.added ∙ ap (λ b. under call_eq old c.new-key.result ++ b ∷ []) c.new.ensures)
 
 -- and for no other
-others : (g : given.Over) (c : goal.After-resume_sites g) → (k : Call) → call_eq c.args.call k ≡ false →
+others : (g : given.Over) (c : goal.After-resume_sites g) → (k : CallKey) → call_eq c.args.call k ≡ false →
     under call_eq c.add.new.self.by_key k ≡ under call_eq c.args.self.now.found.summaries.by_key k
 others g c =
-    subst (λ key. (k : Call) → call_eq key k ≡ false →
+    subst (λ key. (k : CallKey) → call_eq key k ≡ false →
     under call_eq c.add.new.self.by_key k ≡ under call_eq c.args.self.now.found.summaries.by_key k) c.new-key.ensures
     c.in_ok-add.ensures.others
 

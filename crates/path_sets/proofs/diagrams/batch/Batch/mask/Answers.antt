@@ -2,8 +2,11 @@ use Rattle.std.proofs.Common.{refl}
 use Rattle.path_sets.specs.GatheredKeys.{gathered_key_eq}
 use Rattle.path_sets.proofs.InsertionLemmas.{at_index}
 use Rattle.path_sets.proofs.EdgesLemmas.{pair_at}
-use Rattle.path_sets.proofs.GatheredKeyLemmas.{not_found, gathered_key_self}
+use Rattle.path_sets.proofs.GatheredKeyLemmas.{not_found, gathered_key_self, same_gathered_key}
 use Rattle.path_sets.proofs.diagrams.batch.Batch.mask.Goals as goal
+
+pub find-requires : goal.find-requires
+find-requires g c = same_gathered_key
 
 pub returns-in-Some-clause-some : goal.returns-in-Some-clause-some
 returns-in-Some-clause-some g c =

@@ -38,7 +38,7 @@ module _ (g : given.Over) (c : After-saturating_add g) where
   marks = subst (AddsPoint c.args.bit c.points_at-mask.result c.add_point.new.mask) c.if-not-add_point.false c.add_point.ensures
 
   -- the key is the last of those that are gathered then
-  made : masks_of (keys c.args.merged.now.roots) c.insert_new.new.masks.entries
+  made : masks_of (keys c.args.merged.now.roots) c.insert_new.new.map.entries
       ≡ masks_of (keys c.args.merged.now.roots) c.args.self.now.masks.entries ++ (mask_key, c.add_point.new.mask) ∷ []
   made =
       ap (masks_of (keys c.args.merged.now.roots)) c.in_ok-insert_new.ensures.ok

@@ -11,9 +11,14 @@ use Rattle.path_sets.proofs.diagrams.batches.Batches.gather.Given as given
 use Rattle.path_sets.proofs.diagrams.batches.Batches.gather.Goals as goal
 use Rattle.path_sets.proofs.diagrams.batches.Batches.gather.Goals.{After-index_mut}
 
-pub returns-in_err-at-clause-within : goal.returns-in_err-at-clause-within
-returns-in_err-at-clause-within g c =
-    within_as (keys c.args.merged.now.roots) c.args.self.now.batches.items _ c.in_err-at.ensures.gathered c.requires.within
+pub returns-in_err-at-clause-fit : goal.returns-in_err-at-clause-fit
+returns-in_err-at-clause-fit g c =
+    let m = c.args.merged.now in
+    let bs = c.args.self.now.batches.items in
+    let same = c.in_err-at.ensures.keep.gathered in record {
+      within = within_as (keys m.roots) bs _ same c.requires.fit.within;
+      covers = covers_as m.nodes.kept.keys m.roots.entries bs _ same c.requires.fit.covers;
+    }
 
 module _ (g : given.Over) (c : After-index_mut g) where
   at : slice_get c.batch_of.new.self.batches.items c.in_ok-at.at ≡ Some c.index_mut.result.now
@@ -22,11 +27,11 @@ module _ (g : given.Over) (c : After-index_mut g) where
 
   -- what is gathered is within, and has what the diagrams have there, whatever batch its diagram got
   within : AllWithin (keys c.args.merged.now.roots) c.batch_of.new.self.batches.items
-  within = within_as (keys c.args.merged.now.roots) c.args.self.now.batches.items _ c.in_ok-at.ensures.gathered c.requires.within
+  within = within_as (keys c.args.merged.now.roots) c.args.self.now.batches.items _ c.in_ok-at.ensures.keep.gathered c.requires.fit.within
 
   covers : CoversEach c.args.merged.now.nodes.kept.keys c.args.merged.now.roots.entries c.batch_of.new.self.batches.items
   covers = covers_as c.args.merged.now.nodes.kept.keys c.args.merged.now.roots.entries c.args.self.now.batches.items
-      c.batch_of.new.self.batches.items c.in_ok-at.ensures.gathered c.requires.covers
+      c.batch_of.new.self.batches.items c.in_ok-at.ensures.keep.gathered c.requires.fit.covers
 
 pub gather-requires : goal.gather-requires
 gather-requires g c =
@@ -65,7 +70,7 @@ returns-clause-ok g c =
     let new = masks_in diagrams (slice_set bs k w) in
     of_ok (PutsEdge ns rs x (masks_of diagrams b.masks.entries) (masks_of diagrams w.masks.entries))
     (PutsEdge ns rs x (masks_in diagrams c.args.self.now.batches.items) new) c.gather.result
-    (λ added puts. subst (λ gs. PutsEdge ns rs x gs new added) (c.in_ok-at.ensures.masks diagrams)
+    (λ added puts. subst (λ gs. PutsEdge ns rs x gs new added) (c.in_ok-at.ensures.keep.masks diagrams)
     (puts_in bs k b w (at g i) c.args.key c.gather.ensures.keys s.homes.items ns rs c.args.bit s.home c.in_ok-at.ensures.batch.0
     (within g i) m.unique c.requires.diagram c.requires.bit added puts)) c.gather.ensures.ok
 
@@ -75,16 +80,16 @@ returns-clause-err g c =
     let diagrams = keys c.args.merged.now.roots in
     on_err c.gather.result
     (λ same. same_masks diagrams c.batch_of.new.self.batches.items c.in_ok-at.at c.index_mut.result.now c.gather.new.self (at g i) same
-    ∙ c.in_ok-at.ensures.masks diagrams) c.gather.ensures.err
+    ∙ c.in_ok-at.ensures.keep.masks diagrams) c.gather.ensures.err
 
-pub returns-clause-within : goal.returns-clause-within
-returns-clause-within g c =
-    let i = (goal.at.returns-clause-within g c).After-index_mut in
-    within_put c.batch_of.new.self.batches.items c.in_ok-at.at c.index_mut.result.now c.gather.new.self (at g i) c.args.key
-    c.gather.ensures.keys (keys c.args.merged.now.roots) (within g i) c.requires.diagram
-
-pub returns-clause-covers : goal.returns-clause-covers
-returns-clause-covers g c =
-    let i = (goal.at.returns-clause-covers g c).After-index_mut in
-    covers_put c.batch_of.new.self.batches.items c.in_ok-at.at c.index_mut.result.now c.gather.new.self (at g i) c.args.key
-    c.gather.ensures.keys c.args.merged.now.nodes.kept.keys c.args.merged.now.roots.entries (covers g i) c.gather.ensures.covers
+pub returns-clause-fit : goal.returns-clause-fit
+returns-clause-fit g c =
+    let i = (goal.at.returns-clause-fit g c).After-index_mut in
+    let m = c.args.merged.now in
+    let bs = c.batch_of.new.self.batches.items in
+    let k = c.in_ok-at.at in record {
+      within = within_put bs k c.index_mut.result.now c.gather.new.self (at g i) c.args.key c.gather.ensures.keys (keys m.roots)
+          (within g i) c.requires.diagram;
+      covers = covers_put bs k c.index_mut.result.now c.gather.new.self (at g i) c.args.key c.gather.ensures.keys m.nodes.kept.keys
+          m.roots.entries (covers g i) c.gather.ensures.covers;
+    }

@@ -10,7 +10,7 @@ invariant_of-self g c =
 pub invariant_of-self-in-Break-branch-2 : goal.invariant_of-self-in-Break-branch-2
 invariant_of-self-in-Break-branch-2 g c =
     let s = c.args.self.now in
-    record { home = home_as s.homes.items _ s.batches.items _ s.home c.in_ok-fill.ensures.stay c.in_err-at.ensures.gathered }
+    record { home = home_as s.homes.items _ s.batches.items _ s.home c.in_ok-fill.ensures.stay c.in_err-at.ensures.keep.gathered }
 
 pub invariant_of-self-2 : goal.invariant_of-self-2
 invariant_of-self-2 g c =
@@ -19,7 +19,7 @@ invariant_of-self-2 g c =
       home =
           home_moved s.homes.items c.fill.new.homes.items s.batches.items c.batch_with_room.new.batches.items c.args.diagram c.in_ok-at.at
           s.home
-          c.in_ok-fill.ensures.stay c.in_ok-at.ensures.gathered c.requires;
+          c.in_ok-fill.ensures.stay c.in_ok-at.ensures.keep.gathered c.requires;
     }
 
 pub returns-clause-batch : goal.returns-clause-batch

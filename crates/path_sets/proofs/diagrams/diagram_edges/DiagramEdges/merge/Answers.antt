@@ -4,7 +4,7 @@ use Rattle.indexmap.specs.IndexMap.{keys}
 use Rattle.language.specs.Lists.{Member}
 use Rattle.path_sets.specs.Batches.{AllWithin, CoversEach, masks_in, gathered_at}
 use Rattle.path_sets.specs.Diagrams.{TakesGiven, merged_has}
-use Rattle.path_sets.specs.Edges.{edges}
+use Rattle.path_sets.specs.Edges.{mask_edges}
 use Rattle.path_sets.specs.Members.{all_edges, Covers}
 use Rattle.path_sets.specs.GatheredKeys.{AreWithin, masks_of}
 use Rattle.path_sets.specs.Triples.{Triple}
@@ -24,18 +24,18 @@ own g c =
 pub put_all-requires : goal.put_all-requires
 put_all-requires g c =
     let s = c.args.self.now in
-    subst (AreWithin (keys s.merged.roots)) (own g (goal.at.put_all-requires g c).After-index) (s.within c.args.at)
+    subst (AreWithin (keys s.merged.roots)) (own g (goal.at.put_all-requires g c).After-index) (s.fit.within c.args.at)
 
 module _ (g : given.Over) (c : After-put_all g)
     (is : gathered_at c.args.self.now.gathered.batches.items c.args.at ≡ c.index.result.now.masks.entries) where
   takes : let s = c.args.self.now in
       let m = c.put_all.new.merged in
-      TakesGiven (λ t. Member t (edges (masks_of (keys s.merged.roots) (gathered_at s.gathered.batches.items c.args.at))))
+      TakesGiven (λ t. Member t (mask_edges (masks_of (keys s.merged.roots) (gathered_at s.gathered.batches.items c.args.at))))
       s.merged.nodes.kept.keys m.nodes.kept.keys s.merged.roots.entries m.roots.entries
   takes =
       let s = c.args.self.now in
       let m = c.put_all.new.merged in
-      subst (λ es. TakesGiven (λ t. Member t (edges (masks_of (keys s.merged.roots) es))) s.merged.nodes.kept.keys m.nodes.kept.keys
+      subst (λ es. TakesGiven (λ t. Member t (mask_edges (masks_of (keys s.merged.roots) es))) s.merged.nodes.kept.keys m.nodes.kept.keys
       s.merged.roots.entries m.roots.entries) (sym is) c.put_all.ensures.takes
 
   -- the path edges stay, if all that are gathered still are
@@ -52,22 +52,24 @@ module _ (g : given.Over) (c : After-put_all g)
       s.merged.roots.entries m.roots.entries takes
 
   within : AllWithin (keys c.put_all.new.merged.roots) c.args.self.now.gathered.batches.items
-  within = subst (λ diagrams. AllWithin diagrams c.args.self.now.gathered.batches.items) (sym c.put_all.ensures.keys) c.args.self.now.within
+  within =
+      subst (λ diagrams. AllWithin diagrams c.args.self.now.gathered.batches.items) (sym c.put_all.ensures.keys) c.args.self.now.fit.within
 
   covers : CoversEach c.put_all.new.merged.nodes.kept.keys c.put_all.new.merged.roots.entries c.args.self.now.gathered.batches.items
   covers =
       let s = c.args.self.now in
       let m = c.put_all.new.merged in
       covers_merged s.gathered.homes.items s.gathered.batches.items s.merged.nodes.kept.keys m.nodes.kept.keys
-      s.merged.roots.entries m.roots.entries c.args.at s.gathered.home s.within s.merged.unique c.put_all.ensures.keys s.covers takes
+      s.merged.roots.entries m.roots.entries c.args.at s.gathered.home s.fit.within s.merged.unique c.put_all.ensures.keys s.fit.covers
+      takes
 
 -- and if those of the batch no longer are
 cleared : (g : given.Over) (c : After-clear g) →
     let s = c.args.self.now in
     let m = c.put_all.new.merged in
     let own = masks_of (keys s.merged.roots) (gathered_at s.gathered.batches.items c.args.at) in
-    TakesGiven (λ t. Member t (edges own)) s.merged.nodes.kept.keys m.nodes.kept.keys s.merged.roots.entries m.roots.entries
-    → ((t : Triple) → Member t (edges own) → merged_has m.nodes.kept.keys m.roots.entries t ≡ true)
+    TakesGiven (λ t. Member t (mask_edges own)) s.merged.nodes.kept.keys m.nodes.kept.keys s.merged.roots.entries m.roots.entries
+    → ((t : Triple) → Member t (mask_edges own) → merged_has m.nodes.kept.keys m.roots.entries t ≡ true)
     → all_edges m.nodes.kept.keys m.roots.entries (masks_in (keys m.roots) c.clear.new.self.batches.items)
     ≡ all_edges s.merged.nodes.kept.keys s.merged.roots.entries (masks_in (keys s.merged.roots) s.gathered.batches.items)
 cleared g c taken done =
@@ -85,8 +87,7 @@ invariant_of-self-in-Break-1 g c =
     let p = at.After-put_all in
     let is = own g at.After-index in
     record {
-      within = within g p is;
-      covers = covers g p is;
+      fit = record { within = within g p is; covers = covers g p is };
       counted = s.counted ∙ sym (ap length (still g p is));
       once = all_none_twice m.nodes.kept.keys m.roots.entries (masks_in (keys m.roots) s.gathered.batches.items);
     }
@@ -108,11 +109,13 @@ invariant_of-self-2 g c =
     let bs = s.gathered.batches.items in
     let cs = c.clear.new.self.batches.items in
     record {
-      within = within_cleared bs cs c.args.at c.clear.ensures.others (keys m.roots) (within g p is) c.clear.ensures.here;
-      covers = covers_set bs cs c.args.at c.clear.ensures.others ns rs (covers g p is)
-          (subst (λ es. Covers ns rs (masks_of (keys m.roots) es)) (sym c.clear.ensures.here) (λ q bit small key has. elim key [ ]));
+      fit = record {
+        within = within_cleared bs cs c.args.at c.clear.ensures.others (keys m.roots) (within g p is) c.clear.ensures.here;
+        covers = covers_set bs cs c.args.at c.clear.ensures.others ns rs (covers g p is)
+            (subst (λ es. Covers ns rs (masks_of (keys m.roots) es)) (sym c.clear.ensures.here) (λ q bit small key has. elim key [ ]));
+      };
       counted = s.counted ∙ sym (ap length (cleared g at.After-clear (takes g p is)
-          (λ t h. c.in_ok-put_all.ensures.all t (subst (λ es. Member t (edges (masks_of (keys s.merged.roots) es))) is h))));
+          (λ t h. c.in_ok-put_all.ensures.all t (subst (λ es. Member t (mask_edges (masks_of (keys s.merged.roots) es))) is h))));
       once = all_none_twice ns rs (masks_in (keys m.roots) cs);
     }
 
@@ -123,4 +126,4 @@ returns g c =
     let p = at.After-put_all in
     let is = own g at.After-index in
     cleared g at.After-clear (takes g p is)
-    (λ t h. c.in_ok-put_all.ensures.all t (subst (λ es. Member t (edges (masks_of (keys s.merged.roots) es))) is h))
+    (λ t h. c.in_ok-put_all.ensures.all t (subst (λ es. Member t (mask_edges (masks_of (keys s.merged.roots) es))) is h))

@@ -5,7 +5,7 @@ use Rattle.language.specs.Lists.{Member}
 use Rattle.language.specs.Words.{word_bits}
 use Rattle.path_sets.specs.Batches.{AllWithin, masks_in}
 use Rattle.path_sets.specs.Diagrams.{TakesGiven, merged_has}
-use Rattle.path_sets.specs.Edges.{edges}
+use Rattle.path_sets.specs.Edges.{mask_edges}
 use Rattle.path_sets.specs.Members.{all_edges}
 use Rattle.path_sets.specs.Suffixes.{HasNodes}
 use Rattle.path_sets.specs.Triples.{Triple, triple}
@@ -23,7 +23,7 @@ put_batches-requires g c =
     let s = c.args.self.now in
     subst (AllWithin (keys c.in_ok-merged.merged.roots)) (sym c.deref.ensures.value)
     (subst (λ diagrams. AllWithin diagrams s.gathered.batches.items)
-    (sym (same g (goal.at.put_batches-requires g c).In_ok-merged)) s.within)
+    (sym (same g (goal.at.put_batches-requires g c).In_ok-merged)) s.fit.within)
 
 pub returns : goal.returns
 returns g c =
@@ -37,9 +37,9 @@ returns g c =
     let gs = masks_in diagrams bs in
     let masks : masks_in (keys m.roots) c.deref.result.now ≡ gs =
     ap (masks_in (keys m.roots)) c.deref.ensures.value ∙ ap (λ ks. masks_in ks bs) (same g (goal.at.returns g c).In_ok-merged) in
-    let takes = subst (λ ps. TakesGiven (λ t. Member t (edges ps)) m.nodes.kept.keys o.nodes.kept.keys m.roots.entries o.roots.entries)
+    let takes = subst (λ ps. TakesGiven (λ t. Member t (mask_edges ps)) m.nodes.kept.keys o.nodes.kept.keys m.roots.entries o.roots.entries)
     masks c.in_ok-put_batches.ensures.takes in
-    let all = subst (λ ps. (t : Triple) → Member t (edges ps) → merged_has o.nodes.kept.keys o.roots.entries t ≡ true) masks
+    let all = subst (λ ps. (t : Triple) → Member t (mask_edges ps) → merged_has o.nodes.kept.keys o.roots.entries t ≡ true) masks
     c.in_ok-put_batches.ensures.all in
     subst (λ e. IfOk c.count.result (HasNodes word_bits (λ v. Member (triple e c.args.point v)
     (all_edges s.merged.nodes.kept.keys s.merged.roots.entries gs)))) is

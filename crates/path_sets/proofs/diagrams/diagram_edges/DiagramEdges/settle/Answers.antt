@@ -15,7 +15,7 @@ module _ (g : given.Over) (c : After-settle g) where
       let m = c.settle.new.self in
       let bs = s.gathered.batches.items in
       subst (λ n. CoversEach n.kept.keys m.roots.entries bs) (sym c.settle.ensures.nodes)
-      (covers_stay s.merged.nodes.kept.keys s.merged.roots.entries m.roots.entries c.settle.ensures.stay bs s.within s.covers)
+      (covers_stay s.merged.nodes.kept.keys s.merged.roots.entries m.roots.entries c.settle.ensures.stay bs s.fit.within s.fit.covers)
 
   same : all_edges c.settle.new.self.nodes.kept.keys c.settle.new.self.roots.entries
       (masks_in (keys c.settle.new.self.roots) c.args.self.now.gathered.batches.items)
@@ -26,7 +26,7 @@ module _ (g : given.Over) (c : After-settle g) where
       let m = c.settle.new.self in
       let bs = s.gathered.batches.items in
       ap (λ n. all_edges n.kept.keys m.roots.entries (masks_in (keys m.roots) bs)) c.settle.ensures.nodes
-      ∙ members_as_they_were s.merged.nodes.kept.keys s.merged.roots.entries m.roots.entries c.settle.ensures.stay bs s.within
+      ∙ members_as_they_were s.merged.nodes.kept.keys s.merged.roots.entries m.roots.entries c.settle.ensures.stay bs s.fit.within
 
 pub invariant_of-self : goal.invariant_of-self
 invariant_of-self g c =
@@ -35,8 +35,10 @@ invariant_of-self g c =
     let m = c.settle.new.self in
     let bs = s.gathered.batches.items in
     record {
-      within = within_stay s.merged.nodes.kept.keys s.merged.roots.entries m.roots.entries c.settle.ensures.stay bs s.within;
-      covers = covers g i;
+      fit = record {
+        within = within_stay s.merged.nodes.kept.keys s.merged.roots.entries m.roots.entries c.settle.ensures.stay bs s.fit.within;
+        covers = covers g i;
+      };
       counted = s.counted ∙ sym (ap length (same g i));
       once = all_none_twice m.nodes.kept.keys m.roots.entries (masks_in (keys m.roots) bs);
     }

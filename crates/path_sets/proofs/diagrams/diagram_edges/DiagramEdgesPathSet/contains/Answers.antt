@@ -8,7 +8,7 @@ use Rattle.path_sets.specs.declared.diagrams.gathered_key.GatheredKey.{GatheredK
 use Rattle.path_sets.specs.Batches.{masks_in}
 use Rattle.path_sets.specs.Insertions.{diagram_at}
 use Rattle.path_sets.specs.Diagrams.{merged_has, diagram_eq, diagram_of}
-use Rattle.path_sets.specs.Edges.{edge_at, edges}
+use Rattle.path_sets.specs.Edges.{edge_at, mask_edges}
 use Rattle.path_sets.specs.Members.{IsEdgeThere}
 use Rattle.path_sets.specs.GatheredKeys.{mask_key_at}
 use Rattle.path_sets.specs.Triples.{Triple, triple}
@@ -51,7 +51,7 @@ returns-in_default g c =
     let none = ap (λ r. lookup (diagram_eq r) rs) (sym (diagram_is g (goal.at.returns-in_default g c).After-diagram_of))
     ∙ c.in_default.ensures.none refl in (
       λ h. absurd (true≢false (sym h)),
-      λ there. absurd (no_diagram s.gathered.homes.items ns rs bs s.gathered.home s.within s.merged.unique s.covers x none
+      λ there. absurd (no_diagram s.gathered.homes.items ns rs bs s.gathered.home s.fit.within s.merged.unique s.fit.covers x none
           (member_is ns rs (masks_in (keys s.merged.roots) bs) x there)),
     )
 
@@ -71,7 +71,7 @@ returns-in-Some-mask g c =
     let key : GatheredKey = record { diagram = c.in-Some.diagram; values = c.key_and_bit-mask_key.result.0.values } in
     let (k, own) = c.in-Some-mask.ensures.some in
     let edge = edge_is g (goal.at.returns-in-Some-mask g c).In-Some in
-    let known = mask_is s.gathered.homes.items ns rs bs s.gathered.home s.within s.merged.unique s.covers k key c.in-Some-mask.mask
+    let known = mask_is s.gathered.homes.items ns rs bs s.gathered.home s.fit.within s.merged.unique s.fit.covers k key c.in-Some-mask.mask
     c.key_and_bit-mask_key.result.1 own c.key_and_bit-mask_key.ensures.bit in (
       λ h. is_member ns rs gs x fits (subst (IsEdgeThere ns rs gs) edge (known.0 (sym c.has_point.ensures ∙ h))),
       λ there. c.has_point.ensures ∙ known.1 (subst (IsEdgeThere ns rs gs) (sym edge) (member_is ns rs gs x there)),
@@ -99,9 +99,10 @@ returns-in-None g c =
       λ h. is_member ns rs gs x fits (inl (sym same ∙ h)),
       λ there. elim (member_is ns rs gs x there) [
         | inl merged ↦ same ∙ merged
-        | inr gathered ↦ absurd (not_gathered s.gathered.homes.items ns rs bs s.gathered.home s.within s.merged.unique s.covers key b
+        | inr gathered ↦
+            absurd (not_gathered s.gathered.homes.items ns rs bs s.gathered.home s.fit.within s.merged.unique s.fit.covers key b
             small (slice_get_within (keys s.merged.roots) c.in-Some.diagram c.diagram_of.result c.in-Some.ensures.here)
             (c.in-None.ensures.none refl)
-            (subst (λ t. Member t (edges gs)) (sym edge) gathered))
+            (subst (λ t. Member t (mask_edges gs)) (sym edge) gathered))
       ],
     )

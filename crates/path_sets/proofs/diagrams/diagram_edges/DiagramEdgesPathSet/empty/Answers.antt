@@ -1,7 +1,7 @@
 use Rattle.std.proofs.Common.{ap, sym, subst, length}
 use Rattle.indexmap.specs.IndexMap.{keys}
 use Rattle.path_sets.specs.Batches.{masks_in, gathered_at}
-use Rattle.path_sets.specs.Edges.{edges}
+use Rattle.path_sets.specs.Edges.{mask_edges}
 use Rattle.path_sets.specs.Members.{Covers}
 use Rattle.path_sets.specs.GatheredKeys.{AreWithin, masks_of}
 use Rattle.path_sets.proofs.MembersLemmas.{no_members, all_none_twice}
@@ -15,10 +15,12 @@ invariant_of-result g c =
     let diagrams = keys m.roots in
     let ps = masks_in diagrams c.new.result.batches.items in
     record {
-      within = λ k. subst (λ bs. AreWithin diagrams (gathered_at bs k)) (sym c.new.ensures) (λ s there. elim there [ ]);
-      covers = λ k. subst (λ bs. Covers ns rs (masks_of diagrams (gathered_at bs k))) (sym c.new.ensures)
-          (λ p bit small key has. elim key [ ]);
-      counted = sym (ap length (no_members ns rs ps c.new-2.ensures (ap (λ bs. edges (masks_in diagrams bs)) c.new.ensures)));
+      fit = record {
+        within = λ k. subst (λ bs. AreWithin diagrams (gathered_at bs k)) (sym c.new.ensures) (λ s there. elim there [ ]);
+        covers = λ k. subst (λ bs. Covers ns rs (masks_of diagrams (gathered_at bs k))) (sym c.new.ensures)
+            (λ p bit small key has. elim key [ ]);
+      };
+      counted = sym (ap length (no_members ns rs ps c.new-2.ensures (ap (λ bs. mask_edges (masks_in diagrams bs)) c.new.ensures)));
       once = all_none_twice ns rs ps;
     }
 
@@ -26,4 +28,4 @@ pub returns : goal.returns
 returns g c =
     let m = c.new-2.result in
     no_members m.nodes.kept.keys m.roots.entries (masks_in (keys m.roots) c.new.result.batches.items) c.new-2.ensures
-    (ap (λ bs. edges (masks_in (keys m.roots) bs)) c.new.ensures)
+    (ap (λ bs. mask_edges (masks_in (keys m.roots) bs)) c.new.ensures)

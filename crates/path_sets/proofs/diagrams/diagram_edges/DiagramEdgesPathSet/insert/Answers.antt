@@ -6,6 +6,7 @@ use Rattle.path_sets.specs.declared.diagrams.gathered_key.GatheredKey.{GatheredK
 use Rattle.path_sets.specs.Batches.{masks_in}
 use Rattle.path_sets.specs.Diagrams.{diagram_of}
 use Rattle.path_sets.specs.Edges.{edge_at}
+use Rattle.path_sets.specs.Inserts.{IsNewIf}
 use Rattle.path_sets.specs.Members.{all_edges, PutsEdge}
 use Rattle.path_sets.specs.GatheredKeys.{mask_key_at}
 use Rattle.path_sets.specs.Triples.{Triple, triple}
@@ -64,8 +65,7 @@ invariant_of-self-then-added g c =
     longer s.merged.nodes.kept.keys s.merged.roots.entries (x g i) _ (old g i) (new g i) _ (fits g i) (edge g i) refl
     (puts g i true c.if-added.true) in
     record {
-      within = c.gather.ensures.within;
-      covers = c.gather.ensures.covers;
+      fit = c.gather.ensures.fit;
       counted = ap (λ n. n + 1) s.counted ∙ sym more;
       once = all_none_twice s.merged.nodes.kept.keys s.merged.roots.entries (new g i);
     }
@@ -75,8 +75,7 @@ invariant_of-self-else-added g c =
     let i = (goal.at.invariant_of-self-else-added g c).In_ok-added in
     let s = c.settle.new.self in
     record {
-      within = c.gather.ensures.within;
-      covers = c.gather.ensures.covers;
+      fit = c.gather.ensures.fit;
       counted = s.counted ∙ sym (ap length (members_same s.merged.nodes.kept.keys s.merged.roots.entries (x g i) _ (old g i) (new g i) _
           (fits g i) (edge g i) refl (puts g i false c.if-added.false)));
       once = all_none_twice s.merged.nodes.kept.keys s.merged.roots.entries (new g i);
@@ -87,22 +86,28 @@ returns-then-added-clause-members g c =
     let i = (goal.at.returns-then-added-clause-members g c).In_ok-added in
     members_put _ _ (x g i) _ (old g i) (new g i) _ (fits g i) (edge g i) (here g i) (puts g i true c.if-added.true)
 
+-- whether it was there, as the result says
+is_new : (g : given.Over) (c : In_ok-added g)
+    → let s = c.args.self.now in
+    IsNewIf (x g c) (all_edges s.merged.nodes.kept.keys s.merged.roots.entries (masks_in (keys s.merged.roots) s.gathered.batches.items))
+    c.in_ok-added.added
+is_new g c = (
+  OnTrue_from c.in_ok-added.added _
+      (λ is. was_new _ _ (x g c) _ (old g c) (new g c) _ (fits g c) (edge g c) (here g c) (puts g c true is)),
+  OnFalse_from c.in_ok-added.added _
+      (λ is. was_known _ _ (x g c) _ (old g c) (new g c) _ (fits g c) (edge g c) (here g c) (puts g c false is)),
+)
+
 pub returns-then-added-clause-new : goal.returns-then-added-clause-new
-returns-then-added-clause-new g c =
-    let i = (goal.at.returns-then-added-clause-new g c).In_ok-added in
-    OnTrue_from c.in_ok-added.added _
-    (λ is. was_new _ _ (x g i) _ (old g i) (new g i) _ (fits g i) (edge g i) (here g i) (puts g i true is))
+returns-then-added-clause-new g c = is_new g (goal.at.returns-then-added-clause-new g c).In_ok-added
+
+pub returns-else-added-clause-new : goal.returns-else-added-clause-new
+returns-else-added-clause-new g c = is_new g (goal.at.returns-else-added-clause-new g c).In_ok-added
 
 pub returns-else-added-clause-members : goal.returns-else-added-clause-members
 returns-else-added-clause-members g c =
     let i = (goal.at.returns-else-added-clause-members g c).In_ok-added in
     members_kept _ _ (x g i) _ (old g i) (new g i) _ (fits g i) (edge g i) (here g i) (puts g i false c.if-added.false)
-
-pub returns-else-added-clause-known : goal.returns-else-added-clause-known
-returns-else-added-clause-known g c =
-    let i = (goal.at.returns-else-added-clause-known g c).In_ok-added in
-    OnFalse_from c.in_ok-added.added _
-    (λ is. was_known _ _ (x g i) _ (old g i) (new g i) _ (fits g i) (edge g i) (here g i) (puts g i false is))
 
 pub returns-then-added-clause-len : goal.returns-then-added-clause-len
 returns-then-added-clause-len g c =
@@ -125,8 +130,5 @@ pub gather-requires-clause-diagram : goal.gather-requires-clause-diagram
 gather-requires-clause-diagram g c =
     slice_get_within (keys c.settle.new.self.merged.roots) c.in_ok-diagram.diagram c.diagram_of.result c.in_ok-diagram.ensures.at
 
-pub gather-requires-clause-within : goal.gather-requires-clause-within
-gather-requires-clause-within g c = c.settle.new.self.within
-
-pub gather-requires-clause-covers : goal.gather-requires-clause-covers
-gather-requires-clause-covers g c = c.settle.new.self.covers
+pub gather-requires-clause-fit : goal.gather-requires-clause-fit
+gather-requires-clause-fit g c = c.settle.new.self.fit

@@ -1,7 +1,7 @@
 use Rattle.std.proofs.Common.{sym, subst, refl, true≢false}
 use Rattle.std.proofs.lemmas.Option.{slice_get_read}
 use Rattle.language.specs.Lists.{Member}
-use Rattle.path_sets.specs.Edges.{edges}
+use Rattle.path_sets.specs.Edges.{mask_edges}
 use Rattle.path_sets.specs.Triples.{triple}
 use Rattle.path_sets.proofs.ShardLemmas.{in_own, of_own, none_without}
 use Rattle.path_sets.proofs.ordered.ordered_edges.OrderedEdgesPathSet.contains.Goals as goal
@@ -15,7 +15,7 @@ returns-in-Some g c =
     let edge = c.key_and_bit-mask_key.ensures.edge in
     let own = sym c.in-Some.ensures in
     let within = s.there c.args.entry k own in
-    let es = edges c.index.result.now.masks.entries in
+    let es = mask_edges c.index.result.now.masks.entries in
     let at = slice_get_read ss _ k c.index.result.now refl within c.index.ensures in (
       λ h. of_own s.homes.entries ss s.home k c.index.result.now x own at
           (subst (λ t. Member t es) edge (c.contains.ensures.0 h)),

@@ -6,7 +6,7 @@ use Rattle.std.proofs.lemmas.Option.{slice_get_read}
 use Rattle.std.proofs.lemmas.Bool.{OnFalse_from, OnTrue_from}
 use Rattle.language.specs.Lists.{Member, NoneTwice}
 use Rattle.path_sets.specs.Edges.{edge_at}
-use Rattle.path_sets.specs.Inserts.{Inserts, PutsIn}
+use Rattle.path_sets.specs.Inserts.{Inserts, IsNewIf, PutsIn}
 use Rattle.path_sets.specs.declared.ordered.shard.Shard.{Shard}
 use Rattle.path_sets.specs.Shards.{all_in, AreHome, AreThere}
 use Rattle.path_sets.specs.Triples.{Triple, triple}
@@ -122,12 +122,23 @@ returns-then-added-clause-members g c =
       ],
     )
 
+-- whether it was there, as the result says
+is_new : (g : given.Over) (c : In_ok-added g)
+    → IsNewIf (triple c.args.entry c.args.point c.args.values) (all_in c.args.self.now.shards.items) c.in_ok-added.added
+is_new g c = (
+  OnTrue_from c.in_ok-added.added _ (λ is m. (settles g c true is).1
+      (subst (λ t. Member t (all_in (old g c))) (sym c.key_and_bit-mask_key.ensures.edge)
+      (subst (λ ts. Member (triple c.args.entry c.args.point c.args.values) ts) (sym c.in_ok-at.ensures.edges) m))),
+  OnFalse_from c.in_ok-added.added _
+      (λ is. subst (λ t. Member t (all_in c.args.self.now.shards.items)) c.key_and_bit-mask_key.ensures.edge
+      (subst (Member (x g c)) c.in_ok-at.ensures.edges (settles g c false is).1)),
+)
+
 pub returns-then-added-clause-new : goal.returns-then-added-clause-new
-returns-then-added-clause-new g c =
-    let i = (goal.at.returns-then-added-clause-new g c).In_ok-added in
-    OnTrue_from c.in_ok-added.added _ (λ is m. (settles g i true is).1
-    (subst (λ t. Member t (all_in (old g i))) (sym c.key_and_bit-mask_key.ensures.edge)
-    (subst (λ ts. Member (triple c.args.entry c.args.point c.args.values) ts) (sym c.in_ok-at.ensures.edges) m)))
+returns-then-added-clause-new g c = is_new g (goal.at.returns-then-added-clause-new g c).In_ok-added
+
+pub returns-else-added-clause-new : goal.returns-else-added-clause-new
+returns-else-added-clause-new g c = is_new g (goal.at.returns-else-added-clause-new g c).In_ok-added
 
 pub returns-else-added-clause-members : goal.returns-else-added-clause-members
 returns-else-added-clause-members g c =
@@ -142,13 +153,6 @@ returns-else-added-clause-members g c =
         | inr m ↦ subst (Member t) (sym kept) m
       ],
     )
-
-pub returns-else-added-clause-known : goal.returns-else-added-clause-known
-returns-else-added-clause-known g c =
-    let i = (goal.at.returns-else-added-clause-known g c).In_ok-added in
-    OnFalse_from c.in_ok-added.added _
-    (λ is. subst (λ t. Member t (all_in c.args.self.now.shards.items)) c.key_and_bit-mask_key.ensures.edge
-    (subst (Member (x g i)) c.in_ok-at.ensures.edges (settles g i false is).1))
 
 pub returns-then-added-clause-len : goal.returns-then-added-clause-len
 returns-then-added-clause-len g c =

@@ -1,7 +1,11 @@
 use Rattle.std.proofs.Common.{refl, sym, ◌∙◌, true≢false}
 use Rattle.path_sets.proofs.MaskLemmas.{bits_known, bits_hold}
 use Rattle.path_sets.proofs.EdgesLemmas.{pair_at, in_group, only_in_group, absent, no_edge}
+use Rattle.path_sets.proofs.MaskKeyLemmas.{same_mask_key}
 use Rattle.path_sets.proofs.ordered.shard.Shard.contains.Goals as goal
+
+pub find-requires : goal.find-requires
+find-requires g c = same_mask_key
 
 pub returns-in-Some : goal.returns-in-Some
 returns-in-Some g c =
