@@ -21,7 +21,7 @@ use Rattle.hints.specs.declared.group.Group.TheVariants as group
 use Rattle.fault_details.specs.Counting.{argument_count, count, items, side_count, statement_count}
 use Rattle.fault_details.specs.Seeking.{comes_first, seek}
 use Rattle.fault_details.specs.declared.seeking.Sought.TheVariants as sought
-use Rattle.fault_details.specs.Visible.{globals, like_variable}
+use Rattle.fault_details.specs.Visible.{global_tokens, like_variable}
 use Rattle.fault_details.specs.declared.details.TheConstants.{AND, ARGUMENT, ASSIGNED, CONSTANT, DECLARED, GIVEN, HAS, LABELS}
 use Rattle.fault_details.specs.declared.details.TheConstants.{LIKE, LIKE_END, MOST_PROCEDURES, MOST_STATEMENTS, MOST_THREADS}
 use Rattle.fault_details.specs.declared.details.TheConstants.{NO_LABEL, NO_PROCEDURE, NONE_FOR_THREADS, PAST, PROCEDURES, RESERVED}
@@ -215,5 +215,5 @@ CountsThreads text number =
 -- This is how many globals the text declares; 0 if no tokens of it are known.
 abbrev pub CountsGlobals : List ℕ → ℕ → Type 0
 CountsGlobals text number =
-    ((tokens : List Token) × Cuts 0 text (toks_of tokens) × (number ≡ count kind.Id (globals tokens)))
+    ((tokens : List Token) × Cuts 0 text (toks_of tokens) × (number ≡ count kind.Id (global_tokens tokens)))
     ⊎ (HasNoTokens text × (number ≡ 0))

@@ -24,7 +24,7 @@ fn to_paren(tokens: &[Token<'_>]) -> usize
 
 /// The tokens in which the globals are named.
 pub fn globals<'a>(tokens: &'a [Token<'a>]) -> &'a [Token<'a>]
-    ensures { result.now ≡ told.globals tokens.now }
+    ensures { result.now ≡ told.global_tokens tokens.now }
 {
     without_last(&tokens[..to_paren(tokens)])
 }
@@ -43,14 +43,14 @@ fn own_length(tokens: &[Token<'_>]) -> usize
 
 /// The tokens of the procedure in which these tokens end.
 fn own<'a>(tokens: &'a [Token<'a>]) -> &'a [Token<'a>]
-    ensures { result.now ≡ told.own tokens.now }
+    ensures { result.now ≡ told.own_tokens tokens.now }
 {
     &tokens[tokens.len() - own_length(tokens)..]
 }
 
 /// The tokens in which the formals of the first procedure are named.
 fn formals<'a>(tokens: &'a [Token<'a>]) -> &'a [Token<'a>]
-    ensures { result.now ≡ told.formals tokens.now }
+    ensures { result.now ≡ told.formal_tokens tokens.now }
 {
     let inside = &tokens[to_paren(tokens)..];
     &inside[..to_close(inside)]
@@ -84,7 +84,7 @@ fn listed_length(tokens: &[Token<'_>]) -> usize
 
 /// The tokens of that list.
 fn listed<'a, 't>(tokens: &'a [Token<'t>]) -> &'a [Token<'t>]
-    ensures { result.now ≡ told.listed tokens.now }
+    ensures { result.now ≡ told.list_tokens tokens.now }
 {
     let length = listed_length(tokens);
     let rest = from(1, tokens);

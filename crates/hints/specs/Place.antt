@@ -7,7 +7,7 @@ use Rattle.tokens.specs.declared.vocabulary.Token.{Token}
 use Rattle.hints.specs.Front.{front_to}
 use Rattle.hints.specs.declared.front.Brackets.TheVariants.{Parens, Blocks}
 use Rattle.hints.specs.declared.group.Group.TheVariants as group
-use Rattle.hints.specs.declared.place.Site.{Site}
+use Rattle.hints.specs.declared.place.Spot.{Spot}
 
 -- What is seen at a place: the kinds of the last two tokens, of the one that begins the phrase, of the one before a
 -- `(`, and of the one that begins the section; the texts of the last token and of the one before the `(`; and the rest
@@ -78,7 +78,7 @@ surroundings_at tokens rest = record {
 }
 
 -- what a place of the program's type stands for
-abbrev pub surroundings_of : Site → Surroundings
+abbrev pub surroundings_of : Spot → Surroundings
 surroundings_of place = record {
   last = place.last;
   second = place.second;

@@ -7,7 +7,7 @@ ghost use Rattle.hints.specs.Row as told;
 ghost use Rattle.diagnostics.specs.Message.{is_word_byte};
 
 use crate::group::allows;
-use crate::place::Site;
+use crate::place::Spot;
 use crate::row::{Next, Pattern, Row};
 use diagnostics::first_word;
 
@@ -99,7 +99,7 @@ fn is_next(next: Next, text: &[u8]) -> bool
 }
 
 /// Whether a pattern fits the tokens before a place, and what is there.
-fn matches(pattern: &Pattern, place: &Site<'_>) -> bool
+fn matches(pattern: &Pattern, place: &Spot<'_>) -> bool
     ensures { result ≡ told.matches (surroundings_of place.now) pattern.now }
 {
     allows(pattern.last, place.last)
@@ -111,7 +111,7 @@ fn matches(pattern: &Pattern, place: &Site<'_>) -> bool
 }
 
 /// Whether a row fits a place.
-fn fits(row: &Row, place: &Site<'_>) -> bool
+fn fits(row: &Row, place: &Spot<'_>) -> bool
     ensures { result ≡ told.fits (surroundings_of place.now) (told.row_of row.now) }
 {
     matches(&row.0, place)
@@ -121,7 +121,7 @@ fn fits(row: &Row, place: &Site<'_>) -> bool
 }
 
 /// The first row that fits.
-pub fn first_row(rows: &[Row], place: &Site<'_>) -> Option<Row>
+pub fn first_row(rows: &[Row], place: &Spot<'_>) -> Option<Row>
     ensures { option_map told.row_of result
         ≡ find (told.fits (surroundings_of place.now)) (map told.row_of rows.now) }
 {

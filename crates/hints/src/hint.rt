@@ -11,7 +11,7 @@ ghost use Rattle.hints.specs.Row.{row_of};
 use crate::front::{Brackets, front_to};
 use crate::group::Group;
 use crate::known::known_tokens;
-use crate::place::site_of;
+use crate::place::spot_of;
 use crate::row::{Mention, Row};
 use crate::tables::row_for;
 use diagnostics::push_place;
@@ -110,7 +110,7 @@ fn push_after<A: Allocator>(
     ensures { OnOk result (told.AddsRow text.now tokens.now (row_for (surroundings_at tokens.now rest.now))
         (string_bytes message.old) (string_bytes message.new)) }
 {
-    match row_for(&site_of(tokens, rest)) {
+    match row_for(&spot_of(tokens, rest)) {
         Some(row) => push_row(message, text, tokens, &row),
         None => Ok(()),
     }

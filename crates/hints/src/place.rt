@@ -9,7 +9,7 @@ use tokens::{Kind, Token};
 
 /// What is at a place, and before it.
 #[derive(Clone, Copy)]
-pub struct Site<'a> {
+pub struct Spot<'a> {
     /// The last token.
     pub last: Option<Kind>,
     /// The token before it.
@@ -75,7 +75,7 @@ fn without_kind<'a>(kind: Kind, tokens: &'a [Token<'a>]) -> &'a [Token<'a>]
 }
 
 /// What is before a place, and at it.
-pub fn site_of<'a>(tokens: &'a [Token<'a>], rest: &'a [u8]) -> Site<'a>
+pub fn spot_of<'a>(tokens: &'a [Token<'a>], rest: &'a [u8]) -> Spot<'a>
     ensures { told.surroundings_of result ≡ told.surroundings_at tokens.now rest.now }
 {
     let phrase = without_kind(Kind::Semicolon, tokens);
@@ -85,7 +85,7 @@ pub fn site_of<'a>(tokens: &'a [Token<'a>], rest: &'a [u8]) -> Site<'a>
         Group::Only(Kind::Open),
     );
     let before = without_last(inside);
-    Site {
+    Spot {
         last: last_kind(tokens),
         second: last_kind(without_last(tokens)),
         head: last_kind(front_to(phrase, Brackets::Parens, Group::Head)),

@@ -9,7 +9,7 @@ use crate::blocks::{BLOCKS, STATEMENTS};
 use crate::choosing::first_row;
 use crate::expressions::EXPRESSIONS;
 use crate::outside::{LINES, PROCEDURES};
-use crate::place::Site;
+use crate::place::Spot;
 use crate::row::Row;
 use crate::signs::SIGNS;
 use crate::words::WORDS;
@@ -68,7 +68,7 @@ fn or_row(first: Option<Row>, second: Option<Row>) -> Option<Row>
 }
 
 /// The first row that fits inside of a body.
-fn row_inside(place: &Site<'_>) -> Option<Row>
+fn row_inside(place: &Spot<'_>) -> Option<Row>
     ensures { option_map row_of result ≡ told.row_inside (surroundings_of place.now) }
 {
     let in_blocks = first_row(blocks(), place);
@@ -78,7 +78,7 @@ fn row_inside(place: &Site<'_>) -> Option<Row>
 }
 
 /// The first row that fits outside of bodies, or else inside.
-fn row_of_grammar(place: &Site<'_>) -> Option<Row>
+fn row_of_grammar(place: &Spot<'_>) -> Option<Row>
     ensures { option_map row_of result ≡ told.row_of_grammar (surroundings_of place.now) }
 {
     let in_lines = first_row(lines(), place);
@@ -87,7 +87,7 @@ fn row_of_grammar(place: &Site<'_>) -> Option<Row>
 }
 
 /// The first row that fits, in the order of the tables.
-pub fn row_for(place: &Site<'_>) -> Option<Row>
+pub fn row_for(place: &Spot<'_>) -> Option<Row>
     ensures { option_map row_of result ≡ told.row_for (surroundings_of place.now) }
 {
     let of_signs = first_row(signs(), place);
