@@ -1,9 +1,9 @@
 //! What is written to the standard output and the standard error.
 
-ghost use Rattle.std.specs.Prelude.{ℕ, IfOk, List};
+ghost use Rattle.std.specs.Prelude.{◌≡◌, ℕ, IfOk, List};
 ghost use Rattle.std.specs.String.{string_bytes};
 ghost use Rattle.cli.specs.Streams.{Logs, Writes, streams};
-ghost use Rattle.cli.specs.Told.{IsReason};
+ghost use Rattle.cli.specs.Told.{IsReason, file_hint};
 
 use crate::sink::Stream;
 use diagnostics::push_escaped;
@@ -18,7 +18,18 @@ pub(crate) fn tell<L: Stream>(log: &mut L, message: &[u8])
     let _ = log.put(message);
 }
 
-/// The line that names what is read or written, with control characters as escapes, and says why the system refuses it.
+/// What helps if the name of a file is `-`.
+const STDIN: &str = "hint: for the standard input write `/dev/stdin`\n";
+
+/// What helps if a file of this name cannot be read, if something does.
+fn file_hint(name: &str) -> &'static str
+    ensures { result.now ≡ file_hint name.now }
+{
+    if name == "-" { STDIN } else { "" }
+}
+
+/// The line that names what is read or written, with control characters as escapes, and says why the system refuses it;
+/// and the line that helps, if there is one.
 fn reason<A: Allocator + Copy>(
     alloc: A,
     name: &str,
@@ -30,6 +41,7 @@ fn reason<A: Allocator + Copy>(
     let mut line = String::new(alloc);
     push_escaped(&mut line, name)?;
     write!(line, ": {words}\n")?;
+    line.push_str(file_hint(name))?;
     Ok(line)
 }
 

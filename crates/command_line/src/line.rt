@@ -112,6 +112,18 @@ fn command<'a>(alloc: Global) -> Result<Command<'a>, AllocError>
         .subcommand(sequential)
 }
 
+/// What helps if a word in the place of the command is no command, as the name of a file.
+const NO_COMMAND: &str = "hint: a file is checked by `bebopk check FILE`\n";
+
+/// What helps after an error of this kind, if something does.
+fn help_after(kind: ErrorKind) -> &'static str {
+    if kind == ErrorKind::InvalidSubcommand {
+        NO_COMMAND
+    } else {
+        ""
+    }
+}
+
 /// The fault for an error of `clap`.
 fn fault_of(alloc: Global, error: &Error) -> LineFault
     ensures { line.IsOfKind (kind_of error.now) result }
@@ -121,7 +133,8 @@ fn fault_of(alloc: Global, error: &Error) -> LineFault
         return LineFault::Memory;
     }
     let help = !error.use_stderr();
-    match format!(in alloc; "{error}") {
+    let hint = help_after(kind);
+    match format!(in alloc; "{error}{hint}") {
         Ok(text) if help => LineFault::Help(text),
         Ok(text) => LineFault::Refused(text),
         Err(_) => LineFault::Memory,

@@ -1,14 +1,14 @@
 -- What a message about a place of a text says, part by part.
 use Rattle.std.specs.Prelude.{◌≡◌, ℕ, ◌-◌, Bool, not, ◌||◌, ◌==◌, List, [], ◌∷◌, ◌++◌, Option, MatchOption}
-use Rattle.std.specs.Prelude.{if◌then◌else◌, codes, drop, length, map, nat_le, nat_lt, position, take}
+use Rattle.std.specs.Prelude.{if◌then◌else◌, codes, drop, length, map, nat_eq, nat_le, nat_lt, position, take}
 use Rattle.std.specs.Char.{is_ascii_alphanumeric}
 use Rattle.std.specs.Fmt.{decimal}
 use Rattle.std.specs.Int.{is_in_range}
-use Rattle.std.specs.List.{before_first}
+use Rattle.std.specs.List.{before_first, starts_with}
 use Rattle.diagnostics.specs.Name.{escaped}
 use Rattle.diagnostics.specs.Position.{IsPosition}
 use Rattle.diagnostics.specs.declared.message.Wrong.{Wrong}
-use Rattle.diagnostics.specs.declared.message.Wrong.TheVariants.{Edges, NotAscii, Unexpected, Wide, Word}
+use Rattle.diagnostics.specs.declared.message.Wrong.TheVariants.{Edges, NotAscii, Place, Unexpected, Wide, Word}
 
 -- the line and the column of a place: `LINE:COLUMN`
 abbrev pub place_of : ℕ → ℕ → List ℕ
@@ -44,9 +44,14 @@ is_word_byte byte = is_ascii_alphanumeric byte || byte == 95
 abbrev pub first_word : List ℕ → List ℕ
 first_word bytes = before_first (λ byte. not (is_word_byte byte)) bytes
 
--- the word at the beginning of some bytes, else their first byte, if there is one
-abbrev pub word_or_sign : List ℕ → List ℕ
-word_or_sign bytes = if length (first_word bytes) == 0 then take 1 bytes else first_word bytes
+-- The bytes begin with a sign of two bytes.
+abbrev pub begins_long : List ℕ → Bool
+begins_long bytes =
+    starts_with nat_eq bytes (codes ":=") || starts_with nat_eq bytes (codes "=>") || starts_with nat_eq bytes (codes "!=")
+
+-- the sign at the beginning of some bytes: two bytes if it has so many, else the first one
+abbrev pub first_sign : List ℕ → List ℕ
+first_sign bytes = if begins_long bytes then take 2 bytes else take 1 bytes
 
 -- two dots if there are more bytes than are shown
 abbrev pub dots : ℕ → List ℕ → List ℕ
@@ -59,7 +64,7 @@ quoted name = codes "`" ++ (map shown (take 40 name) ++ (dots 40 name ++ codes "
 -- a sign between quotes, the number of a byte that is neither word nor sign, or that nothing more follows
 abbrev pub sign_or_number : List ℕ → List ℕ
 sign_or_number [] = codes "end of the text"
-sign_or_number (byte ∷ rest) = if is_in_range 33 126 byte then quoted (byte ∷ []) else codes "byte " ++ decimal byte
+sign_or_number (byte ∷ rest) = if is_in_range 33 126 byte then quoted (first_sign (byte ∷ rest)) else codes "byte " ++ decimal byte
 
 -- what comes first in the rest of a line: a word between quotes, or else what is there
 abbrev pub first_item : List ℕ → List ℕ
@@ -68,6 +73,10 @@ first_item rest = if length (first_word rest) == 0 then sign_or_number rest else
 -- the name at the beginning of the rest of a line, and what is said about it
 abbrev pub of_name : List ℕ → List ℕ → List ℕ
 of_name what rest = quoted (first_word rest) ++ what
+
+-- what is said of a place without a word
+abbrev pub here : List ℕ → List ℕ → List ℕ
+here what rest = what
 
 -- how many places a procedure needs for how many rounds, and how many it may have
 abbrev pub needs : ℕ → ℕ → ℕ → List ℕ
@@ -90,6 +99,7 @@ foreign rest = first_item rest ++ codes " is not ASCII\n"
 -- what is said about a fault where the rest of a line begins
 abbrev pub of_fault : Wrong → List ℕ → List ℕ
 of_fault (Word what) = of_name what.now
+of_fault (Place what) = here what.now
 of_fault (Wide places rounds most) = of_name (needs places rounds most)
 of_fault (Edges edges) = of_name (exceeds edges)
 of_fault Unexpected = unexpected

@@ -7,5 +7,5 @@ mod name;
 mod position;
 
 pub use laws::an_escaped_name_has_no_control_character;
-pub use message::{Wrong, at_offset, first_word, not_ascii, push_place, word_or_sign};
+pub use message::{Wrong, at_offset, first_word, not_ascii, push_name, push_place};
 pub use name::push_escaped;

@@ -24,6 +24,8 @@ const NAME: usize = 40;
 pub enum Wrong<'a> {
     /// The word there: what the message says after it.
     Word(&'a str),
+    /// The message says this of the place, and shows no word.
+    Place(&'a str),
     /// The procedure whose name is there: how many places it needs with how many rounds, and how many it may have.
     Wide(u128, u8, usize),
     /// The procedure whose name is there: it has more path edges than this.
@@ -80,15 +82,21 @@ pub fn first_word(bytes: &[u8]) -> &[u8]
     }
 }
 
-/// The word at the beginning of some bytes, else their first byte, if there is one.
-pub fn word_or_sign(bytes: &[u8]) -> &[u8]
-    ensures { result.now ≡ told.word_or_sign bytes.now }
+/// Whether some bytes begin with a sign of two bytes.
+fn begins_long(bytes: &[u8]) -> bool
+    ensures { result ≡ told.begins_long bytes.now }
 {
-    let word = first_word(bytes);
-    if word.is_empty() {
-        first(bytes, 1)
+    bytes.starts_with(b":=") || bytes.starts_with(b"=>") || bytes.starts_with(b"!=")
+}
+
+/// The sign at the beginning of some bytes: two bytes if it has so many, else the first one.
+fn first_sign(bytes: &[u8]) -> &[u8]
+    ensures { result.now ≡ told.first_sign bytes.now }
+{
+    if begins_long(bytes) {
+        first(bytes, 2)
     } else {
-        word
+        first(bytes, 1)
     }
 }
 
@@ -149,8 +157,8 @@ fn push_blanks<A: Allocator>(message: &mut String<A>, bytes: &[u8]) -> Result<()
     Ok(())
 }
 
-/// Writes a word between quotes, and no more of it than fits on a line.
-fn push_name<A: Allocator>(message: &mut String<A>, name: &[u8]) -> Result<(), AllocError>
+/// Writes a word between quotes, and at most 40 bytes of it, with `..` if it has more.
+pub fn push_name<A: Allocator>(message: &mut String<A>, name: &[u8]) -> Result<(), AllocError>
     ensures { OnOk result
         (string_bytes message.new ≡ string_bytes message.old ++ told.quoted name.now) }
 {
@@ -255,7 +263,7 @@ fn push_sign<A: Allocator>(message: &mut String<A>, rest: &[u8]) -> Result<(), A
         (string_bytes message.new ≡ string_bytes message.old ++ told.sign_or_number rest.now) }
 {
     match rest.first() {
-        Some(b'!'..=b'~') => push_name(message, first(rest, 1)),
+        Some(b'!'..=b'~') => push_name(message, first_sign(rest)),
         Some(byte) => push_number(message, *byte),
         None => push(message, "end of the text"),
     }
@@ -288,6 +296,7 @@ fn push_wrong<A: Allocator>(
             push_name(message, first_word(rest))?;
             push(message, what)
         }
+        Wrong::Place(what) => push(message, what),
         Wrong::Wide(places, rounds, most) => {
             push_name(message, first_word(rest))?;
             push_width(message, places, rounds, most)

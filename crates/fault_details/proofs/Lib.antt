@@ -1,1 +1,4 @@
 pub mod Suffixes
+pub mod Words
+pub mod Shallow
+pub mod Declared

@@ -8,7 +8,7 @@ use Rattle.fault_details.specs.Seeking.{seek, stands}
 use Rattle.fault_details.specs.declared.seeking.Sought.{Sought}
 
 -- the token that an index past the end stands for
-blank : Token
+pub blank : Token
 blank = record { kind = kind.Decl; at = 0; text = record { ref_ptr = (0, 0); now = [] } }
 
 -- what is sought stands first

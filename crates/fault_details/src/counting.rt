@@ -4,7 +4,7 @@ ghost use Rattle.std.specs.Prelude.{◌≡◌, ◌+◌, ◌-◌, ◌≤◌, coun
 ghost use Rattle.std.specs.List.{prefix_len};
 ghost use Rattle.fault_details.specs.Counting as told;
 
-use crate::seeking::begins;
+use crate::seeking::comes_first;
 use tokens::{Kind, Token};
 
 /// How many tokens are of this kind.
@@ -19,11 +19,11 @@ pub fn count(kind: Kind, tokens: &[Token<'_>]) -> usize
 fn is_listed(kind: Kind) -> bool
     ensures { result ≡ told.is_listed kind }
 {
-    !matches!(kind, Kind::Assign | Kind::Semicolon | Kind::Begin)
+    !(kind.is(Kind::Assign) || kind.is(Kind::Semicolon) || kind.is(Kind::Begin))
 }
 
 /// How many tokens come before the first `:=`, `;` or `begin`.
-fn list_length(tokens: &[Token<'_>]) -> usize
+pub fn list_length(tokens: &[Token<'_>]) -> usize
     ensures value { result ≡ prefix_len (λ t. told.is_listed t.kind) tokens.now }
     ensures few { result ≤ length tokens.now }
 {
@@ -41,7 +41,7 @@ pub fn items(tokens: &[Token<'_>]) -> usize
 }
 
 /// The tokens from an index on; none past the end.
-fn from<'a, 't>(index: usize, tokens: &'a [Token<'t>]) -> &'a [Token<'t>]
+pub fn from<'a, 't>(index: usize, tokens: &'a [Token<'t>]) -> &'a [Token<'t>]
     ensures { result.now ≡ drop index tokens.now }
 {
     if index < tokens.len() {
@@ -52,10 +52,10 @@ fn from<'a, 't>(index: usize, tokens: &'a [Token<'t>]) -> &'a [Token<'t>]
 }
 
 /// How many arguments or formals are in the parentheses after the first token.
-pub fn arguments(tokens: &[Token<'_>]) -> usize
-    ensures { result ≡ told.arguments tokens.now }
+pub fn argument_count(tokens: &[Token<'_>]) -> usize
+    ensures { result ≡ told.argument_count tokens.now }
 {
-    if begins(Kind::Close, from(2, tokens)) {
+    if comes_first(Kind::Close, from(2, tokens)) {
         0
     } else {
         items(tokens)
@@ -63,8 +63,8 @@ pub fn arguments(tokens: &[Token<'_>]) -> usize
 }
 
 /// How many right sides come after the first `:=`.
-pub fn sides(tokens: &[Token<'_>]) -> usize
-    ensures { result ≡ told.sides tokens.now }
+pub fn side_count(tokens: &[Token<'_>]) -> usize
+    ensures { result ≡ told.side_count tokens.now }
 {
     items(from(list_length(tokens) + 1, tokens))
 }
@@ -73,19 +73,19 @@ pub fn sides(tokens: &[Token<'_>]) -> usize
 fn is_counted(kind: Kind) -> bool
     ensures { result ≡ told.is_counted kind }
 {
-    matches!(kind, Kind::Semicolon | Kind::If | Kind::While)
+    kind.is(Kind::Semicolon) || kind.is(Kind::If) || kind.is(Kind::While)
 }
 
 /// Whether a token of this kind begins a declaration or a thread line.
 fn is_line(kind: Kind) -> bool
     ensures { result ≡ told.is_line kind }
 {
-    matches!(kind, Kind::Decl | Kind::Thread)
+    kind.is(Kind::Decl) || kind.is(Kind::Thread)
 }
 
 /// How many statements there are.
-pub fn statements(tokens: &[Token<'_>]) -> usize
-    ensures { result ≡ told.statements tokens.now }
+pub fn statement_count(tokens: &[Token<'_>]) -> usize
+    ensures { result ≡ told.statement_count tokens.now }
 {
     let counted = tokens.iter().filter(|token| is_counted(token.kind)).count();
     let lines = tokens.iter().filter(|token| is_line(token.kind)).count();

@@ -6,13 +6,14 @@ ghost use Rattle.std.specs.List.{prefix_len};
 ghost use Rattle.std.specs.String.{string_bytes};
 ghost use Rattle.fault_details.specs.Details as told;
 
-use crate::counting::{arguments, count, items, sides, statements};
-use crate::seeking::{Sought, begins, seek};
+use crate::counting::{argument_count, count, items, side_count, statement_count};
+use crate::seeking::{Sought, comes_first, seek};
+use crate::visible::{globals, like_variable};
 use checked::ScopeFault;
-use diagnostics::push_place;
-use hints::{Brackets, Group, front_to, last_kind, without_last};
+use diagnostics::{push_name, push_place};
+use hints::{Brackets, Group, front_to, known_tokens, last_kind, without_last};
 use std::alloc::{AllocError, Allocator};
-use tokens::{CutFault, Kind, MOST_BYTES, Token, as_ascii, cut};
+use tokens::{Kind, Token};
 
 /// What is said of a name that is declared again.
 const DECLARED: &str = " is declared a second time; the first is at ";
@@ -35,15 +36,46 @@ const RESERVED: &str = " has two underscores in a row, which only the rewriting 
 /// What is said of a name that is not declared.
 const UNDECLARED: &str = " is not declared\n";
 
+/// What is said of it if a name that is declared is like it; that name comes between.
+const LIKE: &str = " is not declared; did you mean ";
+
+const LIKE_END: &str = "?\n";
+
 /// What is said of a constant of other languages.
 const CONSTANT: &str = " is not declared; the constants are `0` and `1`\n";
 
-/// How many procedures, threads and statements a text has at most.
-const PROCEDURES: usize = 31;
+/// What is said of counts: the numbers, and the ending of a plural, come between.
+const TAKES: &str = " takes ";
 
-const THREADS: usize = 8;
+const ARGUMENT: &str = " argument";
 
-const STATEMENTS: usize = 1000;
+const AND: &str = ", and ";
+
+const GIVEN: &str = " given\n";
+
+const NONE_FOR_THREADS: &str = ", and the procedure of a thread takes none\n";
+
+const TARGET: &str = " target";
+
+const RIGHT_SIDE: &str = " right side";
+
+/// What is said of a limit: its number and what it limits, and how many there are, come between.
+const PAST: &str = " is past the limit of ";
+
+const HAS: &str = ": the text has ";
+
+const THREADS: &str = "threads";
+
+const PROCEDURES: &str = "procedures";
+
+const STATEMENTS: &str = "statements";
+
+/// How many threads, procedures and statements a text has at most.
+const MOST_THREADS: usize = 8;
+
+const MOST_PROCEDURES: usize = 31;
+
+const MOST_STATEMENTS: usize = 1000;
 
 /// The text of the first token.
 fn first_text<'a>(tokens: &'a [Token<'a>]) -> &'a [u8]
@@ -73,8 +105,8 @@ fn push_first<A: Allocator>(
 }
 
 /// The last token that begins a phrase.
-fn head(before: &[Token<'_>]) -> Option<Kind>
-    ensures { result ≡ told.head before.now }
+fn phrase_head(before: &[Token<'_>]) -> Option<Kind>
+    ensures { result ≡ told.phrase_head before.now }
 {
     last_kind(front_to(before, Brackets::Parens, Group::Head))
 }
@@ -98,7 +130,7 @@ fn is_outside(before: &[Token<'_>]) -> bool
 fn is_headed(kind: Kind, before: &[Token<'_>]) -> bool
     ensures { result ≡ told.is_headed kind before.now }
 {
-    match head(before) {
+    match phrase_head(before) {
         Some(other) => other.is(kind),
         None => false,
     }
@@ -115,8 +147,8 @@ fn formals_on<'a>(before: &'a [Token<'a>]) -> &'a [Token<'a>]
 }
 
 /// The tokens from the first declaration of a name on, or from the first target of that name; `tokens` are all.
-fn first_of<'a>(tokens: &'a [Token<'a>], before: &'a [Token<'a>], word: &[u8]) -> &'a [Token<'a>]
-    ensures { result.now ≡ told.first_of tokens.now before.now word.now }
+fn first_name<'a>(tokens: &'a [Token<'a>], before: &'a [Token<'a>], word: &[u8]) -> &'a [Token<'a>]
+    ensures { result.now ≡ told.first_name tokens.now before.now word.now }
 {
     if is_outside(before) {
         if is_headed(Kind::Decl, before) {
@@ -171,7 +203,7 @@ fn push_given<A: Allocator>(
     let are = verb(given);
     write!(
         words,
-        " takes {takes} argument{s}, and {given} {are} given\n"
+        "{TAKES}{takes}{ARGUMENT}{s}{AND}{given} {are}{GIVEN}"
     )
 }
 
@@ -186,7 +218,7 @@ fn push_sides<A: Allocator>(
 {
     let s = plural(targets);
     let t = plural(sides);
-    write!(words, ": {targets} target{s}, {sides} right side{t}\n")
+    write!(words, ": {targets}{TARGET}{s}, {sides}{RIGHT_SIDE}{t}\n")
 }
 
 /// Writes which counts differ, from the name on.
@@ -201,10 +233,10 @@ fn push_counts<A: Allocator>(
         ≡ string_bytes words.old ++ told.counts tokens.now after.now word.now) }
 {
     if is_call(after) {
-        let takes = arguments(seek(Sought::Procedure, word, tokens));
-        push_given(words, takes, arguments(after))
+        let takes = argument_count(seek(Sought::Procedure, word, tokens));
+        push_given(words, takes, argument_count(after))
     } else {
-        push_sides(words, items(after), sides(after))
+        push_sides(words, items(after), side_count(after))
     }
 }
 
@@ -213,7 +245,7 @@ fn is_call(after: &[Token<'_>]) -> bool
     ensures { result ≡ told.is_call after.now }
 {
     match after.split_first() {
-        Some((_, rest)) => begins(Kind::Open, rest),
+        Some((_, rest)) => comes_first(Kind::Open, rest),
         None => false,
     }
 }
@@ -224,10 +256,7 @@ fn push_takes<A: Allocator>(words: &mut String<A>, takes: usize) -> Result<(), A
         (string_bytes words.new ≡ string_bytes words.old ++ told.takes_some takes) }
 {
     let s = plural(takes);
-    write!(
-        words,
-        " takes {takes} argument{s}, and the procedure of a thread takes none\n"
-    )
+    write!(words, "{TAKES}{takes}{ARGUMENT}{s}{NONE_FOR_THREADS}")
 }
 
 /// Writes words.
@@ -250,7 +279,7 @@ fn push_thread<A: Allocator>(
     if named.is_empty() {
         return push(words, NO_PROCEDURE);
     }
-    push_takes(words, arguments(named))
+    push_takes(words, argument_count(named))
 }
 
 /// Whether the last token is of this kind.
@@ -281,10 +310,7 @@ fn push_limit<A: Allocator>(
     ensures { OnOk result
         (string_bytes words.new ≡ string_bytes words.old ++ told.limit most what.now many) }
 {
-    write!(
-        words,
-        " is past the limit of {most} {what}: the text has {many}\n"
-    )
+    write!(words, "{PAST}{most} {what}{HAS}{many}\n")
 }
 
 /// Writes which limit of a text is passed where these tokens begin.
@@ -297,12 +323,12 @@ fn push_too_many<A: Allocator>(
     ensures { OnOk result (string_bytes words.new
         ≡ string_bytes words.old ++ told.too_many tokens.now before.now after.now) }
 {
-    if begins(Kind::Thread, after) {
-        push_limit(words, THREADS, "threads", count(Kind::Thread, tokens))
+    if comes_first(Kind::Thread, after) {
+        push_limit(words, MOST_THREADS, THREADS, count(Kind::Thread, tokens))
     } else if is_outside(before) {
-        push_limit(words, PROCEDURES, "procedures", count(Kind::End, tokens))
+        push_limit(words, MOST_PROCEDURES, PROCEDURES, count(Kind::End, tokens))
     } else {
-        push_limit(words, STATEMENTS, "statements", statements(tokens))
+        push_limit(words, MOST_STATEMENTS, STATEMENTS, statement_count(tokens))
     }
 }
 
@@ -320,14 +346,63 @@ fn is_constant(word: &[u8]) -> bool
     is(word, "true") || is(word, "false") || is(word, "T") || is(word, "F")
 }
 
-/// What is said of a name that is not declared.
-fn undeclared(word: &[u8]) -> &'static str
-    ensures { result.now ≡ told.undeclared word.now }
+/// Writes the name that may be meant.
+fn push_meant<A: Allocator>(words: &mut String<A>, name: &[u8]) -> Result<(), AllocError>
+    ensures { OnOk result
+        (string_bytes words.new ≡ string_bytes words.old ++ told.meant name.now) }
+{
+    push_name(words, name)?;
+    push(words, LIKE_END)
+}
+
+/// Writes that a name is not declared, and which one is like it, if one is.
+fn push_unknown<A: Allocator>(
+    words: &mut String<A>,
+    like: Option<Token<'_>>,
+) -> Result<(), AllocError>
+    ensures { OnOk result
+        (string_bytes words.new ≡ string_bytes words.old ++ told.unknown like.entry) }
+{
+    match like {
+        Some(token) => {
+            push(words, LIKE)?;
+            push_meant(words, token.text.as_bytes())
+        }
+        None => push(words, UNDECLARED),
+    }
+}
+
+/// The first name like a word that would be declared in its place: a procedure if the word is called, else a variable.
+fn like<'a>(
+    tokens: &'a [Token<'a>],
+    before: &'a [Token<'a>],
+    after: &[Token<'_>],
+    word: &[u8],
+) -> Option<Token<'a>>
+    ensures { result ≡ told.like tokens.now before.now after.now word.now }
+{
+    if is_call(after) {
+        seek(Sought::Like, word, tokens).first().copied()
+    } else {
+        like_variable(tokens, before, word)
+    }
+}
+
+/// Writes what is said of a name that is not declared.
+fn push_undeclared<A: Allocator>(
+    words: &mut String<A>,
+    tokens: &[Token<'_>],
+    before: &[Token<'_>],
+    after: &[Token<'_>],
+    word: &[u8],
+) -> Result<(), AllocError>
+    ensures { OnOk result (string_bytes words.new
+        ≡ string_bytes words.old ++ told.undeclared tokens.now before.now after.now word.now) }
 {
     if is_constant(word) {
-        CONSTANT
+        push(words, CONSTANT)
     } else {
-        UNDECLARED
+        push_unknown(words, like(tokens, before, after, word))
     }
 }
 
@@ -359,7 +434,7 @@ fn push_twice<A: Allocator>(
     ensures { OnOk result (told.TellsTwice text.now tokens.now before.now word.now
         (string_bytes words.old) (string_bytes words.new)) }
 {
-    push_first(words, twice(before), text, first_of(tokens, before, word))?;
+    push_first(words, twice(before), text, first_name(tokens, before, word))?;
     push(words, "\n")
 }
 
@@ -377,7 +452,7 @@ fn push_fault<A: Allocator>(
 {
     let word = first_text(after);
     match fault {
-        ScopeFault::Undeclared(_) => push(words, undeclared(word)),
+        ScopeFault::Undeclared(_) => push_undeclared(words, tokens, before, after, word),
         ScopeFault::DeclaredTwice(_) => push_twice(words, text, tokens, before, word),
         ScopeFault::WrongCount(_) => push_counts(words, tokens, after, word),
         ScopeFault::BadThread(_) => push_thread(words, tokens, word),
@@ -429,16 +504,10 @@ pub fn words_of<A: Allocator + Copy>(
 ) -> Result<String<A>, AllocError>
     ensures { IfOk result (λ words. told.Says text.now fault.now (string_bytes words)) }
 {
-    if text.len() > MOST_BYTES {
-        return Ok(String::new(alloc));
-    }
-    let Some(known) = as_ascii(text) else {
-        return Ok(String::new(alloc));
-    };
-    match cut(alloc, known) {
-        Ok(tokens) => said(alloc, text, tokens.as_slice(), fault),
-        Err(CutFault::Syntax(_)) => Ok(String::new(alloc)),
-        Err(CutFault::Memory) => Err(AllocError),
+    match known_tokens(alloc, text) {
+        Ok(Some(tokens)) => said(alloc, text, tokens.as_slice(), fault),
+        Ok(None) => Ok(String::new(alloc)),
+        Err(_) => Err(AllocError),
     }
 }
 
@@ -446,15 +515,20 @@ pub fn words_of<A: Allocator + Copy>(
 pub fn threads_in<A: Allocator>(alloc: A, text: &[u8]) -> Result<usize, AllocError>
     ensures { IfOk result (λ n. told.CountsThreads text.now n) }
 {
-    if text.len() > MOST_BYTES {
-        return Ok(0);
+    match known_tokens(alloc, text) {
+        Ok(Some(tokens)) => Ok(count(Kind::Thread, tokens.as_slice())),
+        Ok(None) => Ok(0),
+        Err(_) => Err(AllocError),
     }
-    let Some(known) = as_ascii(text) else {
-        return Ok(0);
-    };
-    match cut(alloc, known) {
-        Ok(tokens) => Ok(count(Kind::Thread, tokens.as_slice())),
-        Err(CutFault::Syntax(_)) => Ok(0),
-        Err(CutFault::Memory) => Err(AllocError),
+}
+
+/// How many globals a text declares; 0 if it is not one of the language's tokens. The memory is taken from `alloc`.
+pub fn globals_in<A: Allocator>(alloc: A, text: &[u8]) -> Result<usize, AllocError>
+    ensures { IfOk result (λ n. told.CountsGlobals text.now n) }
+{
+    match known_tokens(alloc, text) {
+        Ok(Some(tokens)) => Ok(count(Kind::Id, globals(tokens.as_slice()))),
+        Ok(None) => Ok(0),
+        Err(_) => Err(AllocError),
     }
 }

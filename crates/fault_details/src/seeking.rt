@@ -1,9 +1,10 @@
 //! Where a procedure, a name or a label stands among tokens.
 
-ghost use Rattle.std.specs.Prelude.{◌≡◌, Bool, drop};
+ghost use Rattle.std.specs.Prelude.{◌≡◌, ◌≤◌, Bool, drop, length};
 ghost use Rattle.std.specs.List.{prefix_len};
 ghost use Rattle.fault_details.specs.Seeking as told;
 
+use crate::nearness::is_near;
 use tokens::{Kind, Token};
 
 /// What is sought.
@@ -15,11 +16,13 @@ pub enum Sought {
     Procedure,
     /// A label: a name and `:`.
     Label,
+    /// The head of a procedure whose name is like the word.
+    Like,
 }
 
 /// Whether a token of this kind comes first.
-pub fn begins(kind: Kind, tokens: &[Token<'_>]) -> bool
-    ensures { result ≡ told.begins kind tokens.now }
+pub fn comes_first(kind: Kind, tokens: &[Token<'_>]) -> bool
+    ensures { result ≡ told.comes_first kind tokens.now }
 {
     match tokens.first() {
         Some(first) => first.kind.is(kind),
@@ -28,8 +31,9 @@ pub fn begins(kind: Kind, tokens: &[Token<'_>]) -> bool
 }
 
 /// How many tokens come before the first `)`.
-fn to_close(tokens: &[Token<'_>]) -> usize
-    ensures { result ≡ prefix_len told.is_inside tokens.now }
+pub fn to_close(tokens: &[Token<'_>]) -> usize
+    ensures value { result ≡ prefix_len told.is_inside tokens.now }
+    ensures few { result ≤ length tokens.now }
 {
     tokens
         .iter()
@@ -53,8 +57,19 @@ fn goes_on(sought: Sought, rest: &[Token<'_>]) -> bool
 {
     match sought {
         Sought::Name => true,
-        Sought::Procedure => begins(Kind::Open, rest) && has_body(rest),
-        Sought::Label => begins(Kind::Colon, rest),
+        Sought::Procedure => comes_first(Kind::Open, rest) && has_body(rest),
+        Sought::Label => comes_first(Kind::Colon, rest),
+        Sought::Like => comes_first(Kind::Open, rest) && has_body(rest),
+    }
+}
+
+/// Whether a name is the word that is sought, or like it.
+fn is_named(sought: Sought, word: &[u8], name: &[u8]) -> bool
+    ensures { result ≡ told.is_named sought word.now name.now }
+{
+    match sought {
+        Sought::Like => is_near(word, name),
+        _ => name == word,
     }
 }
 
@@ -64,7 +79,9 @@ fn stands(sought: Sought, word: &[u8], tokens: &[Token<'_>]) -> bool
 {
     match tokens.split_first() {
         Some((first, rest)) => {
-            first.kind.is(Kind::Id) && first.text.as_bytes() == word && goes_on(sought, rest)
+            first.kind.is(Kind::Id)
+                && is_named(sought, word, first.text.as_bytes())
+                && goes_on(sought, rest)
         }
         None => false,
     }

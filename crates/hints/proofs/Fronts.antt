@@ -9,7 +9,7 @@ use Rattle.std.proofs.lemmas.List.Sums.{sum_by-cons}
 use mir.Val.{bool_byte}
 use Rattle.tokens.specs.declared.vocabulary.Kind.TheVariants as kind
 use Rattle.tokens.specs.declared.vocabulary.Token.{Token}
-use Rattle.hints.specs.Front.{closings, ends_front, front_to, longer, openings}
+use Rattle.hints.specs.Front.{closing_count, ends_front, front_to, extended, opening_count}
 use Rattle.hints.specs.Group.{includes}
 use Rattle.hints.specs.declared.front.Brackets.{Brackets}
 use Rattle.hints.specs.declared.group.Group.{Group}
@@ -23,9 +23,9 @@ lengthened : (b : Brackets) (g : Group) (before : List Token) (t : Token) (front
     → front_to b g after ≡ t ∷ front → front_to b g (before ++ after) ≡ before ++ (t ∷ front)
 unfolding front_to
 lengthened b g [] t front after e = e
-lengthened b g (x ∷ []) t front after e = ap (λ f. longer x f (ends_front b g x after)) e
+lengthened b g (x ∷ []) t front after e = ap (λ f. extended x f (ends_front b g x after)) e
 lengthened b g (x ∷ (y ∷ before)) t front after e =
-    ap (λ f. longer x f (ends_front b g x ((y ∷ before) ++ after))) (lengthened b g (y ∷ before) t front after e)
+    ap (λ f. extended x f (ends_front b g x ((y ∷ before) ++ after))) (lengthened b g (y ∷ before) t front after e)
 
 -- without tokens there is no front
 pub nothing : (b : Brackets) (g : Group) → front_to b g [] ≡ []
@@ -76,20 +76,20 @@ counted p ts left j n flag e within so_far is =
 
 -- the test of a front from its parts
 pub ends : (b : Brackets) (g : Group) (t : Token) (after : List Token) (opened closed : ℕ)
-    → includes g t.kind ≡ true → opened ≡ openings b after → closed ≡ closings b after → opened ≡ closed
+    → includes g t.kind ≡ true → opened ≡ opening_count b after → closed ≡ closing_count b after → opened ≡ closed
     → ends_front b g t after ≡ true
 ends b g t after opened closed in_group o c e =
-    let same : (openings b after == closings b after) ≡ true = eq-eqb _ _ (sym o ∙ e ∙ c) in
-    ap (λ k. k && (openings b after == closings b after)) in_group ∙ same
+    let same : (opening_count b after == closing_count b after) ≡ true = eq-eqb _ _ (sym o ∙ e ∙ c) in
+    ap (λ k. k && (opening_count b after == closing_count b after)) in_group ∙ same
 
 pub ends_not : (b : Brackets) (g : Group) (t : Token) (after : List Token) (opened closed : ℕ) (flag : Bool)
-    → flag ≡ includes g t.kind → opened ≡ openings b after → closed ≡ closings b after
+    → flag ≡ includes g t.kind → opened ≡ opening_count b after → closed ≡ closing_count b after
     → ((flag ≡ true) × (opened ≡ closed → ⊥)) ⊎ (flag ≡ false) → ends_front b g t after ≡ false
 ends_not b g t after opened closed flag is o c (inl (in_group, differ)) =
-    let no : (openings b after == closings b after) ≡ false = ne_eqb _ _ (λ e. differ (o ∙ e ∙ sym c)) in
-    ap (λ k. k && (openings b after == closings b after)) (sym is ∙ in_group) ∙ no
+    let no : (opening_count b after == closing_count b after) ≡ false = ne_eqb _ _ (λ e. differ (o ∙ e ∙ sym c)) in
+    ap (λ k. k && (opening_count b after == closing_count b after)) (sym is ∙ in_group) ∙ no
 ends_not b g t after opened closed flag is o c (inr outside) =
-    ap (λ k. k && (openings b after == closings b after)) (sym is ∙ outside)
+    ap (λ k. k && (opening_count b after == closing_count b after)) (sym is ∙ outside)
 
 -- a count stays within the tokens that were passed
 pub few : (n left most more : ℕ) (flag : Bool) → more ≡ bool_byte flag → n + left ≤ most → 0 < left

@@ -10,9 +10,9 @@ use Rattle.hints.specs.declared.front.Brackets.TheVariants.{Parens, Blocks}
 use Rattle.hints.specs.declared.group.Group.{Group}
 
 -- `(` opens, and so do `begin`, `if` and `while`.
-abbrev pub opens : Brackets → Kind → Bool
-opens Parens k = same_kind k kind.Open
-opens Blocks k = is_opener k
+abbrev pub is_opening : Brackets → Kind → Bool
+is_opening Parens k = same_kind k kind.Open
+is_opening Blocks k = is_opener k
 
 -- `end`, `fi` and `od` close.
 abbrev pub is_closer : Kind → Bool
@@ -22,30 +22,30 @@ is_closer kind.Od = true
 is_closer _ = false
 
 -- `)` closes, and so do `end`, `fi` and `od`.
-abbrev pub closes : Brackets → Kind → Bool
-closes Parens k = same_kind k kind.Close
-closes Blocks k = is_closer k
+abbrev pub is_closing : Brackets → Kind → Bool
+is_closing Parens k = same_kind k kind.Close
+is_closing Blocks k = is_closer k
 
 -- how many of the tokens open
-abbrev pub openings : Brackets → List Token → ℕ
-openings brackets tokens = count_by (λ t. opens brackets t.kind) tokens
+abbrev pub opening_count : Brackets → List Token → ℕ
+opening_count brackets tokens = count_by (λ t. is_opening brackets t.kind) tokens
 
 -- how many of them close
-abbrev pub closings : Brackets → List Token → ℕ
-closings brackets tokens = count_by (λ t. closes brackets t.kind) tokens
+abbrev pub closing_count : Brackets → List Token → ℕ
+closing_count brackets tokens = count_by (λ t. is_closing brackets t.kind) tokens
 
 -- The token is of the group, and what is opened after it is closed.
 abbrev pub ends_front : Brackets → Group → Token → List Token → Bool
-ends_front brackets group token after = includes group token.kind && (openings brackets after == closings brackets after)
+ends_front brackets group token after = includes group token.kind && (opening_count brackets after == closing_count brackets after)
 
 -- the token and the front of those after it; without such a front, the token alone if it ends one
-abbrev pub longer : Token → List Token → Bool → List Token
-longer token [] true = token ∷ []
-longer token [] false = []
-longer token (next ∷ front) ends = token ∷ (next ∷ front)
+abbrev pub extended : Token → List Token → Bool → List Token
+extended token [] true = token ∷ []
+extended token [] false = []
+extended token (next ∷ front) ends = token ∷ (next ∷ front)
 
 -- the tokens up to the last one that is of the group and after which what is opened is closed; no tokens without one
 unfoldable pub front_to : Brackets → Group → List Token → List Token
 front_to brackets group [] = []
 front_to brackets group (token ∷ after) =
-    longer token (front_to brackets group after) (ends_front brackets group token after)
+    extended token (front_to brackets group after) (ends_front brackets group token after)

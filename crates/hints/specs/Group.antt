@@ -1,5 +1,5 @@
 -- Groups of kinds of tokens.
-use Rattle.std.specs.Prelude.{Bool, true, false, ◌||◌, Option, None, Some}
+use Rattle.std.specs.Prelude.{Bool, true, false, ◌||◌, not, Option, None, Some}
 use Rattle.tokens.specs.Token.{is_operator, same_kind}
 use Rattle.tokens.specs.declared.vocabulary.Kind.{Kind}
 use Rattle.tokens.specs.declared.vocabulary.Kind.TheVariants as kind
@@ -14,33 +14,9 @@ is_operand kind.One = true
 is_operand kind.Close = true
 is_operand _ = false
 
--- A keyword, `;`, `:`, `:=` and `(` begin a phrase.
+-- A phrase begins with a keyword, `;`, `:`, `:=` or `(`: with all but operators, operands, `,` and `?`.
 abbrev pub is_head : Kind → Bool
-is_head kind.Comma = false
-is_head kind.Close = false
-is_head kind.Any = false
-is_head kind.Id = false
-is_head kind.Zero = false
-is_head kind.One = false
-is_head kind.Implies = false
-is_head kind.Or = false
-is_head kind.Xor = false
-is_head kind.And = false
-is_head kind.Equal = false
-is_head kind.Differs = false
-is_head kind.Not = false
-is_head _ = true
-
--- A statement comes directly after these, unless it has a label.
-abbrev pub is_start : Kind → Bool
-is_start kind.Begin = true
-is_start kind.Then = true
-is_start kind.Else = true
-is_start kind.Do = true
-is_start kind.Fi = true
-is_start kind.Od = true
-is_start kind.Semicolon = true
-is_start _ = false
+is_head k = not (is_operator k || is_operand k || same_kind k kind.Comma || same_kind k kind.Any)
 
 -- A statement ends with these.
 abbrev pub is_ended : Kind → Bool
@@ -48,6 +24,17 @@ is_ended kind.Semicolon = true
 is_ended kind.Fi = true
 is_ended kind.Od = true
 is_ended _ = false
+
+-- A block of statements begins after these, inside of an `if` or a `while`.
+abbrev pub is_branch : Kind → Bool
+is_branch kind.Then = true
+is_branch kind.Else = true
+is_branch kind.Do = true
+is_branch _ = false
+
+-- A statement comes directly after these, unless it has a label.
+abbrev pub is_start : Kind → Bool
+is_start k = is_ended k || is_branch k || same_kind k kind.Begin
 
 -- `begin`, `if` and `while` are closed by a word of their own.
 abbrev pub is_opener : Kind → Bool
@@ -58,13 +45,7 @@ is_opener _ = false
 
 -- Statements are in the sections that these begin.
 abbrev pub is_section : Kind → Bool
-is_section kind.Begin = true
-is_section kind.If = true
-is_section kind.While = true
-is_section kind.Then = true
-is_section kind.Else = true
-is_section kind.Do = true
-is_section _ = false
+is_section k = is_opener k || is_branch k
 
 -- `if`, `while`, `assert` and `assume` have a condition.
 abbrev pub is_test : Kind → Bool

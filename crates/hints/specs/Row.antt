@@ -6,7 +6,7 @@ use Rattle.std.specs.List.{list_any, starts_with}
 use denote.Ref.{Bor}
 use Rattle.diagnostics.specs.Message.{first_word, is_word_byte}
 use Rattle.hints.specs.Group.{allows}
-use Rattle.hints.specs.Place.{Seen}
+use Rattle.hints.specs.Place.{Surroundings}
 use Rattle.hints.specs.declared.row.Next.{Next}
 use Rattle.hints.specs.declared.row.Next.TheVariants as next
 use Rattle.hints.specs.declared.choosing.TheConstants.{SIGN_BYTES}
@@ -57,8 +57,8 @@ fixed_row r = record {
 }
 
 -- The word is one of these, or these are none.
-abbrev pub is_among : List (List ℕ) → List ℕ → Bool
-is_among words word = length words == 0 || list_any (λ w. bytes_eq word w) words
+abbrev pub admits : List (List ℕ) → List ℕ → Bool
+admits words word = length words == 0 || list_any (λ w. bytes_eq word w) words
 
 -- The word that the text begins with is this one, or the text begins with this sign.
 abbrev pub begins_with : List ℕ → List ℕ → Bool
@@ -94,12 +94,12 @@ is_next next.Strange text = is_strange text
 is_next next.Ended text = length text == 0
 
 -- The pattern fits what is seen at a place.
-abbrev pub matches : Seen → Pattern → Bool
+abbrev pub matches : Surroundings → Pattern → Bool
 matches seen pattern =
     allows pattern.last seen.last && allows pattern.second seen.second && allows pattern.head seen.head
     && allows pattern.owner seen.owner && allows pattern.block seen.block && is_next pattern.next seen.rest
 
 -- The row fits what is seen at a place: its pattern, and its words.
-abbrev pub fits : Seen → Row → Bool
+abbrev pub fits : Surroundings → Row → Bool
 fits seen row =
-    matches seen row.pattern && is_among row.after seen.word && is_among row.of seen.called && begins_among row.at seen.rest
+    matches seen row.pattern && admits row.after seen.word && admits row.of seen.called && begins_among row.at seen.rest

@@ -1,6 +1,6 @@
 -- The tables, as they stand in the code, and the first of their rows that fits.
 use Rattle.std.specs.Prelude.{List, Option, None, Some, find, map}
-use Rattle.hints.specs.Place.{Seen}
+use Rattle.hints.specs.Place.{Surroundings}
 use Rattle.hints.specs.Row.{Row, fits, fixed_row}
 use Rattle.hints.specs.declared.blocks.TheConstants.{BLOCKS, STATEMENTS}
 use Rattle.hints.specs.declared.expressions.TheConstants.{EXPRESSIONS}
@@ -42,13 +42,13 @@ or_row None second = second
 or_row (Some row) second = Some row
 
 -- the first row that fits, inside of a body
-abbrev pub row_inside : Seen → Option Row
+abbrev pub row_inside : Surroundings → Option Row
 row_inside seen = or_row (find (fits seen) blocks) (or_row (find (fits seen) statements) (find (fits seen) expressions))
 
 -- the first row that fits, outside of bodies or inside
-abbrev pub row_of_grammar : Seen → Option Row
+abbrev pub row_of_grammar : Surroundings → Option Row
 row_of_grammar seen = or_row (find (fits seen) lines) (or_row (find (fits seen) procedures) (row_inside seen))
 
 -- the first row that fits what is seen, in the order of the tables
-abbrev pub row_for : Seen → Option Row
+abbrev pub row_for : Surroundings → Option Row
 row_for seen = or_row (find (fits seen) signs) (or_row (find (fits seen) words) (row_of_grammar seen))

@@ -1,7 +1,7 @@
 //! Statements and the blocks that they are in.
 
 use crate::group::Group::{Either, Ended, Only, Section, Start};
-use crate::row::{ANY, Next, Pattern, Row, Told, row};
+use crate::row::{ANY, Mention, Next, Pattern, Row, row};
 use tokens::Kind::{
     Assert, Assume, Begin, Close, Colon, Comma, Do, Else, Fi, Goto, Id, If, Od, Return, Semicolon,
     Skip, Then, While,

@@ -2,12 +2,12 @@
 
 ghost use Rattle.std.specs.Prelude.{◌≡◌, bytes_eq, find, length, map, option_map};
 ghost use Rattle.std.specs.List.{list_any};
-ghost use Rattle.hints.specs.Place.{seen_of};
+ghost use Rattle.hints.specs.Place.{surroundings_of};
 ghost use Rattle.hints.specs.Row as told;
 ghost use Rattle.diagnostics.specs.Message.{is_word_byte};
 
 use crate::group::allows;
-use crate::place::Place;
+use crate::place::Spot;
 use crate::row::{Next, Pattern, Row};
 use diagnostics::first_word;
 
@@ -21,8 +21,8 @@ fn is_one_of(words: &[&str], word: &[u8]) -> bool
 }
 
 /// Whether the word is one of these, or these are none.
-fn is_among(words: &[&str], word: &[u8]) -> bool
-    ensures { result ≡ told.is_among (map (λ w. w.now) words.now) word.now }
+fn admits(words: &[&str], word: &[u8]) -> bool
+    ensures { result ≡ told.admits (map (λ w. w.now) words.now) word.now }
 {
     words.is_empty() || is_one_of(words, word)
 }
@@ -99,8 +99,8 @@ fn is_next(next: Next, text: &[u8]) -> bool
 }
 
 /// Whether a pattern fits the tokens before a place, and what is there.
-fn matches(pattern: &Pattern, place: &Place<'_>) -> bool
-    ensures { result ≡ told.matches (seen_of place.now) pattern.now }
+fn matches(pattern: &Pattern, place: &Spot<'_>) -> bool
+    ensures { result ≡ told.matches (surroundings_of place.now) pattern.now }
 {
     allows(pattern.last, place.last)
         && allows(pattern.second, place.second)
@@ -111,19 +111,19 @@ fn matches(pattern: &Pattern, place: &Place<'_>) -> bool
 }
 
 /// Whether a row fits a place.
-fn fits(row: &Row, place: &Place<'_>) -> bool
-    ensures { result ≡ told.fits (seen_of place.now) (told.row_of row.now) }
+fn fits(row: &Row, place: &Spot<'_>) -> bool
+    ensures { result ≡ told.fits (surroundings_of place.now) (told.row_of row.now) }
 {
     matches(&row.0, place)
-        && is_among(row.1, place.word)
-        && is_among(row.2, place.called)
+        && admits(row.1, place.word)
+        && admits(row.2, place.called)
         && begins_among(row.3, place.rest)
 }
 
 /// The first row that fits.
-pub fn first_row(rows: &[Row], place: &Place<'_>) -> Option<Row>
+pub fn first_row(rows: &[Row], place: &Spot<'_>) -> Option<Row>
     ensures { option_map told.row_of result
-        ≡ find (told.fits (seen_of place.now)) (map told.row_of rows.now) }
+        ≡ find (told.fits (surroundings_of place.now)) (map told.row_of rows.now) }
 {
     for row in rows {
         if fits(row, place) {

@@ -1,7 +1,7 @@
 //! Expressions, and the lists that they are in.
 
 use crate::group::Group::{Either, Nothing, Only, Operand, Operator, Test};
-use crate::row::{ANY, Next, Pattern, Row, Told, row};
+use crate::row::{ANY, Mention, Next, Pattern, Row, row};
 use tokens::Kind::{Any, Assign, Comma, Id, Open, Return};
 
 /// Right sides, conditions, arguments and values.

@@ -15,8 +15,8 @@ pub enum Brackets {
     Blocks,
 }
 
-fn opens(brackets: Brackets, kind: Kind) -> bool
-    ensures { result ≡ told.opens brackets kind }
+fn is_opening(brackets: Brackets, kind: Kind) -> bool
+    ensures { result ≡ told.is_opening brackets kind }
 {
     match brackets {
         Brackets::Parens => kind.is(Kind::Open),
@@ -24,8 +24,8 @@ fn opens(brackets: Brackets, kind: Kind) -> bool
     }
 }
 
-fn closes(brackets: Brackets, kind: Kind) -> bool
-    ensures { result ≡ told.closes brackets kind }
+fn is_closing(brackets: Brackets, kind: Kind) -> bool
+    ensures { result ≡ told.is_closing brackets kind }
 {
     match brackets {
         Brackets::Parens => kind.is(Kind::Close),
@@ -50,8 +50,8 @@ pub fn front_to<'a, 't>(
         if includes(group, kind) && opened == closed {
             return &tokens[..left];
         }
-        opened += usize::from(opens(brackets, kind));
-        closed += usize::from(closes(brackets, kind));
+        opened += usize::from(is_opening(brackets, kind));
+        closed += usize::from(is_closing(brackets, kind));
         left -= 1;
     }
     &tokens[..0]

@@ -43,28 +43,25 @@ fn is_operand(kind: Kind) -> bool
 fn is_head(kind: Kind) -> bool
     ensures { result ≡ told.is_head kind }
 {
-    match kind {
-        Kind::Comma | Kind::Close | Kind::Any | Kind::Id | Kind::Zero | Kind::One => false,
-        Kind::Implies | Kind::Or | Kind::Xor | Kind::And => false,
-        Kind::Equal | Kind::Differs | Kind::Not => false,
-        _ => true,
-    }
-}
-
-fn is_start(kind: Kind) -> bool
-    ensures { result ≡ told.is_start kind }
-{
-    match kind {
-        Kind::Begin | Kind::Then | Kind::Else | Kind::Do | Kind::Fi | Kind::Od => true,
-        Kind::Semicolon => true,
-        _ => false,
-    }
+    !(kind.is_operator() || is_operand(kind) || kind.is(Kind::Comma) || kind.is(Kind::Any))
 }
 
 fn is_ended(kind: Kind) -> bool
     ensures { result ≡ told.is_ended kind }
 {
     matches!(kind, Kind::Semicolon | Kind::Fi | Kind::Od)
+}
+
+fn is_branch(kind: Kind) -> bool
+    ensures { result ≡ told.is_branch kind }
+{
+    matches!(kind, Kind::Then | Kind::Else | Kind::Do)
+}
+
+fn is_start(kind: Kind) -> bool
+    ensures { result ≡ told.is_start kind }
+{
+    is_ended(kind) || is_branch(kind) || kind.is(Kind::Begin)
 }
 
 fn is_opener(kind: Kind) -> bool
@@ -76,7 +73,7 @@ fn is_opener(kind: Kind) -> bool
 fn is_section(kind: Kind) -> bool
     ensures { result ≡ told.is_section kind }
 {
-    is_opener(kind) || matches!(kind, Kind::Then | Kind::Else | Kind::Do)
+    is_opener(kind) || is_branch(kind)
 }
 
 fn is_test(kind: Kind) -> bool

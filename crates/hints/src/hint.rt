@@ -4,18 +4,19 @@ ghost use Rattle.std.specs.Prelude.{◌≡◌, ◌++◌, IfOk, List, OnOk, drop,
 ghost use Rattle.std.specs.Prelude.{take, ℕ};
 ghost use Rattle.std.specs.String.{string_bytes};
 ghost use Rattle.hints.specs.Hint as told;
-ghost use Rattle.hints.specs.Place.{seen_at};
+ghost use Rattle.hints.specs.Place.{surroundings_at};
 ghost use Rattle.hints.specs.Tables.{row_for};
 ghost use Rattle.hints.specs.Row.{row_of};
 
 use crate::front::{Brackets, front_to};
 use crate::group::Group;
-use crate::place::place_of;
-use crate::row::{Row, Told};
+use crate::known::known_tokens;
+use crate::place::spot_of;
+use crate::row::{Mention, Row};
 use crate::tables::row_for;
 use diagnostics::push_place;
 use std::alloc::{AllocError, Allocator};
-use tokens::{CutFault, Kind, MOST_BYTES, Token, as_ascii, cut};
+use tokens::{Kind, Token};
 
 /// Writes a token between quotes, and where it is; nothing, if there is no token.
 fn push_token<A: Allocator>(
@@ -23,7 +24,7 @@ fn push_token<A: Allocator>(
     text: &[u8],
     token: Option<&Token<'_>>,
 ) -> Result<(), AllocError>
-    ensures { OnOk result (told.TellsToken text.now (option_map (λ t. t.now) token.entry)
+    ensures { OnOk result (told.MentionsToken text.now (option_map (λ t. t.now) token.entry)
         (string_bytes message.old) (string_bytes message.new)) }
 {
     match token {
@@ -42,7 +43,7 @@ fn push_end<A: Allocator>(
     text: &[u8],
     token: Option<&Token<'_>>,
 ) -> Result<(), AllocError>
-    ensures { OnOk result (told.TellsEnd text.now (option_map (λ t. t.now) token.entry)
+    ensures { OnOk result (told.MentionsEnd text.now (option_map (λ t. t.now) token.entry)
         (string_bytes message.old) (string_bytes message.new)) }
 {
     match token {
@@ -52,26 +53,26 @@ fn push_end<A: Allocator>(
 }
 
 /// Writes what a hint tells between its parts.
-fn push_told<A: Allocator>(
+fn push_mention<A: Allocator>(
     message: &mut String<A>,
     text: &[u8],
     tokens: &[Token<'_>],
-    what: Told,
+    what: Mention,
 ) -> Result<(), AllocError>
-    ensures { OnOk result (told.Tells what text.now tokens.now
+    ensures { OnOk result (told.Mentions what text.now tokens.now
         (string_bytes message.old) (string_bytes message.new)) }
 {
     match what {
-        Told::Nothing => Ok(()),
-        Told::Block => {
+        Mention::Nothing => Ok(()),
+        Mention::Block => {
             let open = front_to(tokens, Brackets::Blocks, Group::Opener);
             push_token(message, text, open.last())
         }
-        Told::Paren => {
+        Mention::Paren => {
             let open = front_to(tokens, Brackets::Parens, Group::Only(Kind::Open));
             push_token(message, text, open.last())
         }
-        Told::Behind => push_end(message, text, tokens.last()),
+        Mention::Behind => push_end(message, text, tokens.last()),
     }
 }
 
@@ -94,7 +95,7 @@ fn push_row<A: Allocator>(
 {
     push(message, "hint: ")?;
     push(message, row.4)?;
-    push_told(message, text, tokens, row.0.told)?;
+    push_mention(message, text, tokens, row.0.mention)?;
     push(message, row.5)?;
     push(message, "\n")
 }
@@ -106,10 +107,10 @@ fn push_after<A: Allocator>(
     tokens: &[Token<'_>],
     rest: &[u8],
 ) -> Result<(), AllocError>
-    ensures { OnOk result (told.AddsRow text.now tokens.now (row_for (seen_at tokens.now rest.now))
+    ensures { OnOk result (told.AddsRow text.now tokens.now (row_for (surroundings_at tokens.now rest.now))
         (string_bytes message.old) (string_bytes message.new)) }
 {
-    match row_for(&place_of(tokens, rest)) {
+    match row_for(&spot_of(tokens, rest)) {
         Some(row) => push_row(message, text, tokens, &row),
         None => Ok(()),
     }
@@ -142,16 +143,9 @@ pub fn push_hint<A: Allocator>(
     ensures { OnOk result (told.AddsHint text.now (min (length text.now) at)
         (string_bytes message.old) (string_bytes message.new)) }
 {
-    let before = front_of(text, at);
-    if before.len() > MOST_BYTES {
-        return Ok(());
-    }
-    let Some(before) = as_ascii(before) else {
-        return Ok(());
-    };
-    match cut(alloc, before) {
-        Ok(tokens) => push_after(message, text, tokens.as_slice(), rest_of(text, at)),
-        Err(CutFault::Syntax(_)) => Ok(()),
-        Err(CutFault::Memory) => Err(AllocError),
+    match known_tokens(alloc, front_of(text, at)) {
+        Ok(Some(tokens)) => push_after(message, text, tokens.as_slice(), rest_of(text, at)),
+        Ok(None) => Ok(()),
+        Err(_) => Err(AllocError),
     }
 }

@@ -1,7 +1,7 @@
 //! What comes outside of bodies: declarations, procedures and thread lines.
 
 use crate::group::Group::{Either, Nothing, Only};
-use crate::row::{ANY, Next, Pattern, Row, Told, row};
+use crate::row::{ANY, Mention, Next, Pattern, Row, row};
 use tokens::Kind::{Begin, Close, Comma, Decl, End, Id, Open, Semicolon, Thread};
 
 /// Declarations and thread lines, and what comes after them.

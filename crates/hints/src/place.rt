@@ -9,7 +9,7 @@ use tokens::{Kind, Token};
 
 /// What is at a place, and before it.
 #[derive(Clone, Copy)]
-pub struct Place<'a> {
+pub struct Spot<'a> {
     /// The last token.
     pub last: Option<Kind>,
     /// The token before it.
@@ -59,8 +59,8 @@ pub fn without_last<'a>(tokens: &'a [Token<'a>]) -> &'a [Token<'a>]
 }
 
 /// The tokens, without the last one if that is of this kind.
-fn without<'a>(kind: Kind, tokens: &'a [Token<'a>]) -> &'a [Token<'a>]
-    ensures { result.now ≡ told.without kind tokens.now }
+fn without_kind<'a>(kind: Kind, tokens: &'a [Token<'a>]) -> &'a [Token<'a>]
+    ensures { result.now ≡ told.without_kind kind tokens.now }
 {
     match last_kind(tokens) {
         Some(last) => {
@@ -75,17 +75,17 @@ fn without<'a>(kind: Kind, tokens: &'a [Token<'a>]) -> &'a [Token<'a>]
 }
 
 /// What is before a place, and at it.
-pub fn place_of<'a>(tokens: &'a [Token<'a>], rest: &'a [u8]) -> Place<'a>
-    ensures { told.seen_of result ≡ told.seen_at tokens.now rest.now }
+pub fn spot_of<'a>(tokens: &'a [Token<'a>], rest: &'a [u8]) -> Spot<'a>
+    ensures { told.surroundings_of result ≡ told.surroundings_at tokens.now rest.now }
 {
-    let phrase = without(Kind::Semicolon, tokens);
+    let phrase = without_kind(Kind::Semicolon, tokens);
     let inside = front_to(
-        without(Kind::Close, tokens),
+        without_kind(Kind::Close, tokens),
         Brackets::Parens,
         Group::Only(Kind::Open),
     );
     let before = without_last(inside);
-    Place {
+    Spot {
         last: last_kind(tokens),
         second: last_kind(without_last(tokens)),
         head: last_kind(front_to(phrase, Brackets::Parens, Group::Head)),

@@ -17,9 +17,9 @@ pub enum Next {
     Ended,
 }
 
-/// What is told between the two parts of a hint.
+/// What a hint mentions between its two parts.
 #[derive(Clone, Copy)]
-pub enum Told {
+pub enum Mention {
     /// Nothing.
     Nothing,
     /// The innermost `begin`, `if` or `while` that is open, and where it is.
@@ -45,8 +45,8 @@ pub struct Pattern {
     pub block: Group,
     /// What is there.
     pub next: Next,
-    /// What the hint tells between its parts.
-    pub told: Told,
+    /// What the hint mentions between its parts.
+    pub mention: Mention,
 }
 
 /// A pattern that fits everywhere.
@@ -57,7 +57,7 @@ pub const ANY: Pattern = Pattern {
     owner: Group::Each,
     block: Group::Each,
     next: Next::Each,
-    told: Told::Nothing,
+    mention: Mention::Nothing,
 };
 
 /// Words, or signs. An empty list stands for all.
@@ -73,9 +73,9 @@ macro_rules! row {
     ([$($field:ident: $group:expr),*] $after:expr, $of:expr, $at:expr => $hint:expr) => {
         (Pattern { $($field: $group,)* ..ANY }, &$after, &$of, &$at, $hint, "")
     };
-    ([$($field:ident: $group:expr),*] $after:expr, $of:expr, $at:expr => $front:expr, $told:ident,
+    ([$($field:ident: $group:expr),*] $after:expr, $of:expr, $at:expr => $front:expr, $mention:ident,
     $back:expr) => {
-        (Pattern { $($field: $group,)* told: Told::$told, ..ANY }, &$after, &$of, &$at, $front,
+        (Pattern { $($field: $group,)* mention: Mention::$mention, ..ANY }, &$after, &$of, &$at, $front,
         $back)
     };
 }

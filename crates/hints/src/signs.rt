@@ -1,7 +1,7 @@
 //! Signs and numbers of other languages, and how they are written here.
 
 use crate::group::Group::{Either, Nothing, Only, Operand};
-use crate::row::{ANY, Next, Pattern, Row, Told, row};
+use crate::row::{ANY, Mention, Next, Pattern, Row, row};
 use tokens::Kind::{And, Assert, Assign, Close, Differs, Equal, Id, If, Open, Or, Return, While};
 
 /// What is there, whatever comes before.

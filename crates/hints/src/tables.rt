@@ -1,7 +1,7 @@
 //! The tables, in the order in which they are looked at.
 
 ghost use Rattle.std.specs.Prelude.{◌≡◌, map, option_map};
-ghost use Rattle.hints.specs.Place.{seen_of};
+ghost use Rattle.hints.specs.Place.{surroundings_of};
 ghost use Rattle.hints.specs.Row.{row_of};
 ghost use Rattle.hints.specs.Tables as told;
 
@@ -9,7 +9,7 @@ use crate::blocks::{BLOCKS, STATEMENTS};
 use crate::choosing::first_row;
 use crate::expressions::EXPRESSIONS;
 use crate::outside::{LINES, PROCEDURES};
-use crate::place::Place;
+use crate::place::Spot;
 use crate::row::Row;
 use crate::signs::SIGNS;
 use crate::words::WORDS;
@@ -68,8 +68,8 @@ fn or_row(first: Option<Row>, second: Option<Row>) -> Option<Row>
 }
 
 /// The first row that fits inside of a body.
-fn row_inside(place: &Place<'_>) -> Option<Row>
-    ensures { option_map row_of result ≡ told.row_inside (seen_of place.now) }
+fn row_inside(place: &Spot<'_>) -> Option<Row>
+    ensures { option_map row_of result ≡ told.row_inside (surroundings_of place.now) }
 {
     let in_blocks = first_row(blocks(), place);
     let in_statements = first_row(statements(), place);
@@ -78,8 +78,8 @@ fn row_inside(place: &Place<'_>) -> Option<Row>
 }
 
 /// The first row that fits outside of bodies, or else inside.
-fn row_of_grammar(place: &Place<'_>) -> Option<Row>
-    ensures { option_map row_of result ≡ told.row_of_grammar (seen_of place.now) }
+fn row_of_grammar(place: &Spot<'_>) -> Option<Row>
+    ensures { option_map row_of result ≡ told.row_of_grammar (surroundings_of place.now) }
 {
     let in_lines = first_row(lines(), place);
     let in_procedures = first_row(procedures(), place);
@@ -87,8 +87,8 @@ fn row_of_grammar(place: &Place<'_>) -> Option<Row>
 }
 
 /// The first row that fits, in the order of the tables.
-pub fn row_for(place: &Place<'_>) -> Option<Row>
-    ensures { option_map row_of result ≡ told.row_for (seen_of place.now) }
+pub fn row_for(place: &Spot<'_>) -> Option<Row>
+    ensures { option_map row_of result ≡ told.row_for (surroundings_of place.now) }
 {
     let of_signs = first_row(signs(), place);
     let of_words = first_row(words(), place);

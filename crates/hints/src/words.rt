@@ -1,7 +1,7 @@
 //! Words of other languages, which are names here, and how what they mean is written.
 
 use crate::group::Group::{Either, Only, Operand, Operator};
-use crate::row::{ANY, Next, Pattern, Row, Told, row};
+use crate::row::{ANY, Mention, Next, Pattern, Row, row};
 use tokens::Kind::{Assign, Close, Id, Open, Return};
 
 /// Words that are names here.

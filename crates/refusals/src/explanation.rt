@@ -8,12 +8,13 @@ ghost use Rattle.refusals.specs.Explained.{ExplainsUnread, TellsOver, ascii_hint
 ghost use Rattle.refusals.specs.Explained.{no_memory};
 ghost use Rattle.diagnostics.specs.Name.{escaped};
 ghost use Rattle.orders.specs.Parts.{rounds_of};
-ghost use Rattle.refusals.specs.Explained.{long_line, main_line, places_line, ways_out, wide_line};
-ghost use Rattle.refusals.specs.declared.refusal.Refusal.TheVariants.{TooWide};
+ghost use Rattle.refusals.specs.Explained.{ExplainsDepth, ExplainsWide, LocatesDepth, LocatesWide};
+ghost use Rattle.refusals.specs.Explained.{depth_hint, depth_words, long_line, main_line};
+ghost use Rattle.refusals.specs.Explained.{places_line, ways_out, wide_line};
 
 use crate::refusal::Refusal;
 use diagnostics::{Wrong, at_offset, not_ascii, push_escaped};
-use fault_details::{threads_in, words_of};
+use fault_details::{deep_in, globals_in, threads_in, words_of};
 use hints::push_hint;
 use orders::Order;
 use path_sets::MOST_EDGES;
@@ -22,7 +23,7 @@ use round_rewrite::Wide;
 use scopes::ScopeFault;
 use std::alloc::{AllocError, Allocator};
 use syntax::ReadFault;
-use tokens::MOST_BYTES;
+use tokens::{Kind, MOST_BYTES, Token};
 
 /// The message for lack of memory.
 pub const NO_MEMORY: &str = "bebopk: out of memory\n";
@@ -43,10 +44,46 @@ const FEWER: &str = "hint: fewer rounds than ";
 const FEWER_END: &str =
     " may answer, and another order of the thread lines may need fewer rounds\n";
 
-/// What is said of places, before and after how many each global takes.
-const PLACES: &str = "hint: a place is a variable of the sequential program: each global takes ";
+/// What is said of places: how many the globals take, and the others, come between.
+const PLACES: &str = "hint: a place is a variable of the sequential program: the globals take ";
 
-const PLACES_END: &str = ", and each formal, local and temporary takes one\n";
+const PLACES_END: &str = ", and formals, locals, temporaries and the rewriting's own the other ";
+
+/// What is said of the token with which a text becomes too deep, and what helps: if it opens something, and if it is an
+/// operator.
+const OPEN: &str = "more than 64 of `(`, `begin`, `if` and `while` are open here\n";
+
+const RUN: &str =
+    "more than 64 operators are in one run, which only a keyword, `,`, `;` or `:=` ends\n";
+
+const LESS_OPEN: &str =
+    "hint: move inner statements into a procedure, or assign an inner expression to a variable first\n";
+
+const SHORTER: &str = "hint: assign a part of the expression to a variable first\n";
+
+/// What is said of a text that is too deep, without a place.
+const TOO_DEEP: &str =
+    ": error: more than 64 of `(`, `begin`, `if` and `while` are open at once, or more than 64 operators are in one run\n";
+
+/// What is said of a text that is too long, before and after the limit.
+const TOO_LONG: &str = ": error: the text has more than ";
+
+const BYTES: &str = " bytes\n";
+
+/// What is said of `main__`, before and after the limit that it passed.
+const MAIN: &str = ": error: `main__`, which calls the threads, has more than ";
+
+const EDGES: &str = " path edges\n";
+
+/// What is said of a program that is too wide in a procedure that is not named: the limit and the rounds come between.
+const WIDE: &str = ": error: some procedure needs more than ";
+
+const ROUNDS: &str = " places with --rounds ";
+
+/// What is said if a thread was refused, and if a worker's calls are used up.
+const NO_THREAD: &str = ": error: the system refused a thread for a procedure\n";
+
+const NO_CALLS: &str = ": error: the worker of a procedure has used up its calls\n";
 
 /// What is said of bytes that are not ASCII: at the beginning of a text with a byte-order mark, of one in UTF-16,
 /// elsewhere.
@@ -61,6 +98,13 @@ fn push_no_memory<A: Allocator>(message: &mut String<A>) -> Result<(), AllocErro
     ensures { OnOk result (string_bytes message.new ≡ string_bytes message.old ++ no_memory) }
 {
     message.push_str(NO_MEMORY)
+}
+
+/// Writes words.
+fn push<A: Allocator>(message: &mut String<A>, words: &str) -> Result<(), AllocError>
+    ensures { OnOk result (string_bytes message.new ≡ string_bytes message.old ++ words.now) }
+{
+    message.push_str(words)
 }
 
 /// Writes the name of the file, and these words after it.
@@ -82,10 +126,7 @@ fn push_too_long<A: Allocator>(message: &mut String<A>, path: &str) -> Result<()
         (string_bytes message.new ≡ string_bytes message.old ++ long_line path.now) }
 {
     push_escaped(message, path)?;
-    write!(
-        message,
-        ": error: the text has more than {MOST_BYTES} bytes\n"
-    )
+    write!(message, "{TOO_LONG}{MOST_BYTES}{BYTES}")
 }
 
 /// The hint for a text with a byte that is not ASCII.
@@ -98,6 +139,56 @@ fn ascii_hint(text: &[u8]) -> &'static str
         WIDE_CHARACTERS
     } else {
         ALL_ASCII
+    }
+}
+
+/// What is said of a token of this kind, with which a text becomes too deep.
+fn depth_words(kind: Kind) -> &'static str
+    ensures { result.now ≡ depth_words kind }
+{
+    if kind.is_operator() { RUN } else { OPEN }
+}
+
+/// What helps if a text becomes too deep with a token of this kind.
+fn depth_hint(kind: Kind) -> &'static str
+    ensures { result.now ≡ depth_hint kind }
+{
+    if kind.is_operator() {
+        SHORTER
+    } else {
+        LESS_OPEN
+    }
+}
+
+/// Writes at a token that the text becomes too deep with it, and what helps.
+fn push_depth<A: Allocator>(
+    message: &mut String<A>,
+    path: &str,
+    text: &[u8],
+    token: Token<'_>,
+) -> Result<(), AllocError>
+    ensures { OnOk result (LocatesDepth path.now text.now token.entry (string_bytes message.old)
+        (string_bytes message.new)) }
+{
+    let what = Wrong::Place(depth_words(token.kind));
+    at_offset(message, path, text, token.at, what)?;
+    push(message, depth_hint(token.kind))
+}
+
+/// Writes that a text is too deep, at the first token with which it is.
+fn too_deep<A: Allocator>(
+    alloc: A,
+    message: &mut String<A>,
+    path: &str,
+    text: &[u8],
+) -> Result<(), AllocError>
+    ensures { OnOk result (ExplainsDepth path.now text.now (string_bytes message.old)
+        (string_bytes message.new)) }
+{
+    match deep_in(alloc, text) {
+        Ok(Some(token)) => push_depth(message, path, text, token),
+        Ok(None) => push_about(message, path, TOO_DEEP),
+        Err(_) => Err(AllocError),
     }
 }
 
@@ -122,11 +213,7 @@ fn unread<A: Allocator>(
             at_offset(message, path, text, *at, Wrong::Unexpected)?;
             push_hint(alloc, message, text, *at as usize)
         }
-        ReadFault::TooDeep => push_about(
-            message,
-            path,
-            ": error: more than 64 of `(`, `begin`, `if` and `while` are open at once, or more than 64 operators are in one run\n",
-        ),
+        ReadFault::TooDeep => too_deep(alloc, message, path, text),
         ReadFault::Memory => push_no_memory(message),
     }
 }
@@ -212,10 +299,7 @@ fn push_main<A: Allocator>(
         (string_bytes message.new ≡ string_bytes message.old ++ main_line path.now edges) }
 {
     push_escaped(message, path)?;
-    write!(
-        message,
-        ": error: `main__`, which calls the threads, has more than {edges} path edges\n"
-    )
+    write!(message, "{MAIN}{edges}{EDGES}")
 }
 
 /// Writes which procedure has more path edges than a limit: that whose name is at an offset, or `main__`.
@@ -302,40 +386,60 @@ fn push_wide<A: Allocator>(
         (string_bytes message.new ≡ string_bytes message.old ++ wide_line path.now rounds) }
 {
     push_escaped(message, path)?;
+    write!(message, "{WIDE}{MOST_PLACES}{ROUNDS}{rounds}\n")
+}
+
+/// Writes what a place is, and how many of a procedure's places the globals take, of which there are so many.
+fn push_places<A: Allocator>(
+    message: &mut String<A>,
+    places: u128,
+    globals: usize,
+    rounds: u8,
+) -> Result<(), AllocError>
+    ensures { OnOk result (string_bytes message.new
+        ≡ string_bytes message.old ++ places_line places globals rounds) }
+{
+    let each = (u32::from(rounds) * 2).saturating_sub(1);
+    let all = u128::from(each) * (globals as u128);
+    let others = places.saturating_sub(all);
     write!(
         message,
-        ": error: some procedure needs more than {MOST_PLACES} places with --rounds {rounds}\n"
+        "{PLACES}{globals} * {each} = {all}{PLACES_END}{others}\n"
     )
 }
 
-/// Writes what a place is, and how many of them a global takes.
-fn push_places<A: Allocator>(message: &mut String<A>, rounds: u8) -> Result<(), AllocError>
-    ensures { OnOk result
-        (string_bytes message.new ≡ string_bytes message.old ++ places_line rounds) }
+/// Writes at its name which procedure has too many places, and what takes them.
+fn push_wide_at<A: Allocator>(
+    alloc: A,
+    message: &mut String<A>,
+    path: &str,
+    text: &[u8],
+    rounds: u8,
+    wide: Wide,
+) -> Result<(), AllocError>
+    ensures { OnOk result (LocatesWide path.now text.now rounds wide (string_bytes message.old)
+        (string_bytes message.new)) }
 {
-    let each = (u32::from(rounds) * 2).saturating_sub(1);
-    write!(message, "{PLACES}{each}{PLACES_END}")
+    let globals = globals_in(alloc, text)?;
+    let what = Wrong::Wide(wide.places, rounds, MOST_PLACES);
+    at_offset(message, path, text, wide.at, what)?;
+    push_places(message, wide.places, globals, rounds)
 }
 
 /// Writes which procedure has too many places, and how many it needs for how many rounds.
 fn too_wide<A: Allocator>(
+    alloc: A,
     message: &mut String<A>,
     path: &str,
     text: &[u8],
-    order: Order,
+    rounds: u8,
     wide: Option<Wide>,
 ) -> Result<(), AllocError>
-    ensures { OnOk result
-        (Explains path.now text.now order (TooWide wide) (string_bytes message.old)
+    ensures { OnOk result (ExplainsWide path.now text.now rounds wide (string_bytes message.old)
         (string_bytes message.new)) }
 {
-    let rounds = rounds_in(order);
     match wide {
-        Some(wide) => {
-            let what = Wrong::Wide(wide.places, rounds, MOST_PLACES);
-            at_offset(message, path, text, wide.at, what)?;
-            push_places(message, rounds)
-        }
+        Some(wide) => push_wide_at(alloc, message, path, text, rounds, wide),
         None => push_wide(message, path, rounds),
     }
 }
@@ -344,8 +448,8 @@ fn too_wide<A: Allocator>(
 /// is wrong there, the source line (at most 60 bytes of it before the place and 40 from it on, with `..` for what is
 /// left out), and a caret under the place; for each other refusal one line. Each control character of the file's name
 /// is written as an escape (`push_escaped`). Lines and columns are counted from 1, and each byte is a column. A line
-/// `hint: ` follows if a rule of the language, or of the command line, may help. The memory for the tokens before a
-/// syntax fault is taken from `alloc`. An error means that memory ran out; a part of the message may have been written.
+/// `hint: ` follows if a rule of the language, or of the command line, may help. The memory for the tokens of the
+/// text is taken from `alloc`. An error means that memory ran out; a part of the message may have been written.
 pub fn explain<A: Allocator + Copy>(
     alloc: A,
     message: &mut String<A>,
@@ -360,18 +464,10 @@ pub fn explain<A: Allocator + Copy>(
     match refusal {
         Refusal::Unread(fault) => unread(alloc, message, path, text, fault),
         Refusal::Unchecked(fault) => unchecked(alloc, message, path, text, fault),
-        Refusal::TooWide(wide) => too_wide(message, path, text, order, *wide),
+        Refusal::TooWide(wide) => too_wide(alloc, message, path, text, rounds_in(order), *wide),
         Refusal::EdgeLimit(at) => edge_limit(alloc, message, path, text, *at, order),
         Refusal::Memory => push_no_memory(message),
-        Refusal::NoWorker => push_about(
-            message,
-            path,
-            ": error: the system refused a thread for a procedure\n",
-        ),
-        Refusal::Spent => push_about(
-            message,
-            path,
-            ": error: the worker of a procedure has used up its calls\n",
-        ),
+        Refusal::NoWorker => push_about(message, path, NO_THREAD),
+        Refusal::Spent => push_about(message, path, NO_CALLS),
     }
 }

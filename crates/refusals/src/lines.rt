@@ -15,6 +15,38 @@ use syntax::ReadFault;
 /// The line for lack of memory: it is fixed, and takes no memory.
 pub const MEMORY_LINE: &str = "no verdict: memory\n";
 
+/// The line of a refusal without an offset: it is fixed.
+const TOO_LONG: &str = "refused: 1 too long\n";
+
+const NOT_ASCII: &str = "refused: 2 not ascii\n";
+
+const TOO_DEEP: &str = "refused: 4 too deep\n";
+
+const TOO_WIDE: &str = "refused: 14 too wide\n";
+
+const EDGE_LIMIT: &str = "no verdict: edge limit\n";
+
+const NO_WORKER: &str = "no verdict: no worker\n";
+
+const SPENT: &str = "no verdict: spent\n";
+
+/// What the line of a refusal with an offset says before it.
+const SYNTAX: &str = "3 syntax";
+
+const UNDECLARED: &str = "6 undeclared";
+
+const DECLARED_TWICE: &str = "7 declared twice";
+
+const WRONG_COUNT: &str = "8 wrong count";
+
+const BAD_THREAD: &str = "9 bad thread";
+
+const BAD_LABEL: &str = "10 bad label";
+
+const RESERVED: &str = "11 reserved";
+
+const TOO_MANY: &str = "12 too many";
+
 /// The bytes of a line, which is fixed.
 fn fixed<A: Allocator>(line: &'static str) -> CowSlice<'static, u8, A>
     ensures { cow_slice_items result ≡ line.entry.now }
@@ -40,10 +72,10 @@ fn unread<A: Allocator>(alloc: A, fault: &ReadFault) -> Result<CowSlice<'static,
     ensures memory { IfErr result (λ _. NamesOffset (why.Unread fault.now)) }
 {
     match fault {
-        ReadFault::TooLong => Ok(fixed("refused: 1 too long\n")),
-        ReadFault::NotAscii => Ok(fixed("refused: 2 not ascii\n")),
-        ReadFault::Syntax(at) => located(alloc, "3 syntax", *at),
-        ReadFault::TooDeep => Ok(fixed("refused: 4 too deep\n")),
+        ReadFault::TooLong => Ok(fixed(TOO_LONG)),
+        ReadFault::NotAscii => Ok(fixed(NOT_ASCII)),
+        ReadFault::Syntax(at) => located(alloc, SYNTAX, *at),
+        ReadFault::TooDeep => Ok(fixed(TOO_DEEP)),
         ReadFault::Memory => Ok(fixed(MEMORY_LINE)),
     }
 }
@@ -57,13 +89,13 @@ fn unchecked<A: Allocator>(
     ensures memory { IfErr result (λ _. NamesOffset (why.Unchecked fault.now)) }
 {
     match fault {
-        ScopeFault::Undeclared(at) => located(alloc, "6 undeclared", *at),
-        ScopeFault::DeclaredTwice(at) => located(alloc, "7 declared twice", *at),
-        ScopeFault::WrongCount(at) => located(alloc, "8 wrong count", *at),
-        ScopeFault::BadThread(at) => located(alloc, "9 bad thread", *at),
-        ScopeFault::BadLabel(at) => located(alloc, "10 bad label", *at),
-        ScopeFault::Reserved(at) => located(alloc, "11 reserved", *at),
-        ScopeFault::TooMany(at) => located(alloc, "12 too many", *at),
+        ScopeFault::Undeclared(at) => located(alloc, UNDECLARED, *at),
+        ScopeFault::DeclaredTwice(at) => located(alloc, DECLARED_TWICE, *at),
+        ScopeFault::WrongCount(at) => located(alloc, WRONG_COUNT, *at),
+        ScopeFault::BadThread(at) => located(alloc, BAD_THREAD, *at),
+        ScopeFault::BadLabel(at) => located(alloc, BAD_LABEL, *at),
+        ScopeFault::Reserved(at) => located(alloc, RESERVED, *at),
+        ScopeFault::TooMany(at) => located(alloc, TOO_MANY, *at),
         ScopeFault::Memory => Ok(fixed(MEMORY_LINE)),
     }
 }
@@ -79,11 +111,11 @@ pub fn line<A: Allocator>(
     match refusal {
         Refusal::Unread(fault) => unread(alloc, fault),
         Refusal::Unchecked(fault) => unchecked(alloc, fault),
-        Refusal::TooWide(_) => Ok(fixed("refused: 14 too wide\n")),
-        Refusal::EdgeLimit(_) => Ok(fixed("no verdict: edge limit\n")),
+        Refusal::TooWide(_) => Ok(fixed(TOO_WIDE)),
+        Refusal::EdgeLimit(_) => Ok(fixed(EDGE_LIMIT)),
         Refusal::Memory => Ok(fixed(MEMORY_LINE)),
-        Refusal::NoWorker => Ok(fixed("no verdict: no worker\n")),
-        Refusal::Spent => Ok(fixed("no verdict: spent\n")),
+        Refusal::NoWorker => Ok(fixed(NO_WORKER)),
+        Refusal::Spent => Ok(fixed(SPENT)),
     }
 }
 

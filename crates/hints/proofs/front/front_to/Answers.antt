@@ -1,7 +1,7 @@
 -- A step back passes a token or finds the last one of the front.
 use Rattle.std.proofs.Common.{◌≡◌, ◌∙◌, ◌+◌, ◌-◌, ◌<◌, length, arith, ap, sym, drop, get_or}
 use Rattle.std.proofs.Math.Seq.{drop-length}
-use Rattle.hints.specs.Front.{closes, closings, front_to, openings, opens}
+use Rattle.hints.specs.Front.{is_closing, closing_count, front_to, opening_count, is_opening}
 use Rattle.hints.proofs.Fronts.{blank, counted, ends, ends_not, few, found, nothing, passed}
 use Rattle.hints.proofs.front.front_to.Goals as goal
 
@@ -10,8 +10,8 @@ loop-left-init c =
     let none = drop-length c.args.tokens.now in
     record {
       within = omega arith;
-      opened = ap (openings c.args.brackets) (sym none);
-      closed = ap (closings c.args.brackets) (sym none);
+      opened = ap (opening_count c.args.brackets) (sym none);
+      closed = ap (closing_count c.args.brackets) (sym none);
       none = ap (front_to c.args.brackets c.args.group) none ∙ nothing c.args.brackets c.args.group;
       few_opened = omega arith;
       few_closed = omega arith;
@@ -42,16 +42,16 @@ loop-left-preserved c =
     ends_not b c.args.group at (drop left ts) c.loop-left.opened c.loop-left.closed c.includes.result c.includes.ensures
     loop.opened loop.closed c.else-includes.either in
     let more_opened =
-    counted (λ t. opens b t.kind) ts left j c.loop-left.opened c.opens.result e within loop.opened c.opens.ensures in
+    counted (λ t. is_opening b t.kind) ts left j c.loop-left.opened c.is_opening.result e within loop.opened c.is_opening.ensures in
     let more_closed =
-    counted (λ t. closes b t.kind) ts left j c.loop-left.closed c.closes.result e within loop.closed c.closes.ensures in
+    counted (λ t. is_closing b t.kind) ts left j c.loop-left.closed c.is_closing.result e within loop.closed c.is_closing.ensures in
     record {
       within = omega arith;
       opened = ap (λ n. c.loop-left.opened + n) c.from-opened.ensures ∙ more_opened;
       closed = ap (λ n. c.loop-left.closed + n) c.from-closed.ensures ∙ more_closed;
       none = passed b c.args.group ts left j e within ends_none loop.none;
       few_opened =
-          few c.loop-left.opened left (length ts) c.from-opened.result c.opens.result c.from-opened.ensures loop.few_opened (omega arith);
+          few c.loop-left.opened left (length ts) c.from-opened.result c.is_opening.result c.from-opened.ensures loop.few_opened (omega arith);
       few_closed =
-          few c.loop-left.closed left (length ts) c.from-closed.result c.closes.result c.from-closed.ensures loop.few_closed (omega arith);
+          few c.loop-left.closed left (length ts) c.from-closed.result c.is_closing.result c.from-closed.ensures loop.few_closed (omega arith);
     }

@@ -1,7 +1,7 @@
 -- The words are none, or one of them is the word.
 use Rattle.std.specs.Prelude.{bytes_eq}
 use Rattle.hints.proofs.Rows.{among_none, among_some}
-use Rattle.hints.proofs.choosing.is_among.Goals as goal
+use Rattle.hints.proofs.choosing.admits.Goals as goal
 
 pub returns-then-is_empty : goal.returns-then-is_empty
 returns-then-is_empty c =
