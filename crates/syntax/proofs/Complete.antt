@@ -11,7 +11,8 @@ use Rattle.grammar.specs.Grammar.{Perhaps, IsExpression, IsRight, is_any, is_val
 use Rattle.grammar.specs.Grammar.{is_give, is_goto, is_assert, is_assume, is_assign, is_call, is_call_for, IsSome, Statements, nothing_more}
 use Rattle.grammar.specs.Grammar.{statement, if_statement, while_statement}
 use Rattle.trees.specs.Trees.{Deed, simple, branch, repeat, before, marked_before}
-use Rattle.syntax.specs.Exact.{name, name_list, expression, rights, argument_list, condition, marked, assignment, calling, asking, names_call}
+use Rattle.syntax.specs.Exact.{name, name_list, expression, rights, argument_list, condition, marked, assignment, calling, asking}
+use Rattle.syntax.specs.Exact.{names_call}
 use Rattle.syntax.specs.Exact.{asks_behind, named, giving, returning, branching, repeating, deed_by, deed_step, starts, starts_here}
 use Rattle.syntax.specs.Exact.{item_step, rest_step, section}
 use Rattle.syntax.proofs.KindTests.{same_kind-true, same_kind-is}
@@ -163,11 +164,6 @@ simple_reads f (is_call_for {xs = xs} {es = es} (is_name {t = x} is) (takes {t =
     ∙ bind_is argument_list (λ es. take kind.Semicolon >>= λ _. give (simple (call_for (name_at x) (name_at p) es))) ws es xs
     (exactly_arguments.reads ws es xs h tt)
     ∙ ends (simple (call_for (name_at x) (name_at p) es)) c)
-
--- no statement continues as a label would
-if_no : {k : Kind} {ts us : List Tok} {t : Tok} → Takes k (t ∷ ts) us → same_kind k kind.Id ≡ false
-    → same_kind t.kind kind.Id && begins kind.Colon ts ≡ false
-if_no {ts = ts} (takes e) h = rw (e, h) refl
 
 colon_no : (t : Tok) (ts : List Tok) → begins kind.Colon ts ≡ false → same_kind t.kind kind.Id && begins kind.Colon ts ≡ false
 colon_no t ts e = rw e (by_test (same_kind t.kind kind.Id))

@@ -37,7 +37,8 @@ syntax_or_deep : (bytes : List ℕ) (at : ℕ) → BadAt 0 bytes at ⊎ NoProgra
 syntax_or_deep bytes at (inl bad) d = never_both 0 at bytes d.0 bad d.1
 syntax_or_deep bytes at (inr none) d = no_deep bytes none.0 none.1 none.2 d
 
-pub one_fault : (bytes : List ℕ) (f g : ReadFault) → ReadFaultStands f bytes → ReadFaultStands g bytes → fault_number f < 5 → fault_number g < 5
+pub one_fault : (bytes : List ℕ) (f g : ReadFault) → ReadFaultStands f bytes → ReadFaultStands g bytes → fault_number f < 5
+    → fault_number g < 5
     → fault_number f ≡ fault_number g
 one_fault bytes fault.TooLong fault.TooLong s t a b = refl
 one_fault bytes fault.TooLong fault.NotAscii s t a b = absurd (let h = t.0 in omega arith)

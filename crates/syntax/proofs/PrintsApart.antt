@@ -241,7 +241,8 @@ block_fits (choose m r a b k) ok level more apart =
     let h5 : AreApart from_yes = block_fits a ok.3 (suc level) from_else h4 in
     put _ (line_parts level (label_parts m.label ++ test_parts kind.If r kind.Then) ++ from_yes)
     (six (line_parts level (label_parts m.label ++ test_parts kind.If r kind.Then)) (block_parts (suc level) a)
-    (line_parts level (fixed kind.Else ∷ [])) (block_parts (suc level) b) (line_parts level (fixed kind.Fi ∷ [])) (block_parts level k) more)
+    (line_parts level (fixed kind.Else ∷ [])) (block_parts (suc level) b) (line_parts level (fixed kind.Fi ∷ []))
+    (block_parts level k) more)
     (first_line_fits level m.label ok.0 (test_parts kind.If r kind.Then) from_yes
     (test_fits kind.If kind.Then (inl (reserved refl)) (inl (reserved refl)) r ok.1 from_yes h5))
 block_fits (loop m r a k) ok level more apart =

@@ -251,7 +251,8 @@ block_shows (choose m r a b k) ok level at more =
     put_tokens _ _
     (ap (tokens_of at)
     (six (line_parts level (label_parts m.label ++ test_parts kind.If r kind.Then)) (block_parts (suc level) a)
-    (line_parts level (fixed kind.Else ∷ [])) (block_parts (suc level) b) (line_parts level (fixed kind.Fi ∷ [])) (block_parts level k) more)
+    (line_parts level (fixed kind.Else ∷ [])) (block_parts (suc level) b) (line_parts level (fixed kind.Fi ∷ []))
+    (block_parts level k) more)
     ∙ start.1)
     (record {
       found = choose mark.found test.found yes.found no.found others.found;

@@ -9,7 +9,8 @@ use Rattle.grammar.specs.Grammar.{Takes, takes, InParens, IsRight, name_at, IsMa
 use Rattle.grammar.specs.Grammar.{is_goto, is_assert, is_assume, is_assign, is_call, is_call_for, IsSome, Statements, nothing_more}
 use Rattle.grammar.specs.Grammar.{statement, if_statement, while_statement}
 use Rattle.trees.specs.Trees.{Deed, simple, branch, repeat, Item, before, marked_before}
-use Rattle.syntax.specs.Exact.{name, name_list, expression, rights, argument_list, condition, marked, assignment, calling, asking, asks_behind}
+use Rattle.syntax.specs.Exact.{name, name_list, expression, rights, argument_list, condition, marked, assignment, calling, asking}
+use Rattle.syntax.specs.Exact.{asks_behind}
 use Rattle.syntax.specs.Exact.{named, giving, returning, branching, repeating, deed_by, deed_step, starts_here, item_step, rest_step}
 use Rattle.syntax.specs.Exact.{section_step, section}
 use Rattle.syntax.proofs.KindTests.{same_kind-true}
