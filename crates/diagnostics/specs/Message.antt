@@ -11,8 +11,8 @@ use Rattle.diagnostics.specs.declared.message.Wrong.{Wrong}
 use Rattle.diagnostics.specs.declared.message.Wrong.TheVariants.{Edges, NotAscii, Place, Unexpected, Wide, Word}
 
 -- the line and the column of a place: `LINE:COLUMN`
-abbrev pub place_of : ℕ → ℕ → List ℕ
-place_of line column = decimal line ++ (codes ":" ++ decimal column)
+abbrev pub line_and_column : ℕ → ℕ → List ℕ
+line_and_column line column = decimal line ++ (codes ":" ++ decimal column)
 
 -- The message is the old one, and the line and the column of the offset.
 pub record WritesPlace (text : List ℕ) (at : ℕ) (old new : List ℕ) : Type 0 where
@@ -21,11 +21,11 @@ pub record WritesPlace (text : List ℕ) (at : ℕ) (old new : List ℕ) : Type 
   pub before : List ℕ
   pub behind : List ℕ
   pub place : IsPosition text at line column before behind
-  pub message : new ≡ old ++ place_of line column
+  pub message : new ≡ old ++ line_and_column line column
 
 -- the beginning of a message about a place: `FILE:LINE:COLUMN: error: `
-abbrev pub head : List ℕ → ℕ → ℕ → List ℕ
-head path line column = escaped path ++ (codes ":" ++ (decimal line ++ (codes ":" ++ (decimal column ++ codes ": error: "))))
+abbrev pub message_head : List ℕ → ℕ → ℕ → List ℕ
+message_head path line column = escaped path ++ (codes ":" ++ (decimal line ++ (codes ":" ++ (decimal column ++ codes ": error: "))))
 
 -- how a byte of a text is shown: a tab and what is printable stay, a carriage return is a blank, and another byte is a
 -- question mark
@@ -127,7 +127,7 @@ pub record Locates (path text : List ℕ) (at : ℕ) (told : List ℕ → List �
   pub behind : List ℕ
   pub place : IsPosition text at line column before behind
   pub message : new ≡ old
-      ++ (head path line column ++ (told behind ++ (source_line before behind ++ caret_line before)))
+      ++ (message_head path line column ++ (told behind ++ (source_line before behind ++ caret_line before)))
 
 -- the offset of the first byte that is not ASCII, if there is one
 abbrev pub first_foreign : List ℕ → Option ℕ

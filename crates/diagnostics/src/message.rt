@@ -216,7 +216,7 @@ fn push_head<A: Allocator>(
     place: &Position,
 ) -> Result<(), AllocError>
     ensures { OnOk result (string_bytes message.new
-        ≡ string_bytes message.old ++ told.head path.now place.now.line place.now.column) }
+        ≡ string_bytes message.old ++ told.message_head path.now place.now.line place.now.column) }
 {
     push_escaped(message, path)?;
     let line = place.line;

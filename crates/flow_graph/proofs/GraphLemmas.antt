@@ -27,7 +27,7 @@ use Rattle.resolved.specs.Resolves.{Resolves}
 use Rattle.resolved.specs.Narrow.{AllNarrow}
 use Rattle.resolved.proofs.Sequences.{resolving_fit, routines_counted, routine_at, narrow_places}
 use Rattle.flow_graph.specs.Bits.{has_any, worth_of, coded}
-use Rattle.flow_graph.specs.Nodes.{Node, number, point_at, node_of, nodes_of, goes_to, target_in, Leads, NodeCalls}
+use Rattle.flow_graph.specs.Nodes.{Node, point_number, point_at, node_of, nodes_of, goes_to, target_in, Leads, NodeCalls}
 use Rattle.flow_graph.specs.Flows.{code, Widths, widths_of, HasWidths, NodeEnters, Does, AllDo, Lowered}
 use Rattle.flow_graph.specs.Graphs.{StepEnters, HasSteps, AtFlow, IsGraph}
 use Rattle.flow_graph.specs.Drawing.{IsGraphOf, ScopeHasRoom, names_in, drawn_routine}
@@ -66,7 +66,7 @@ rest_placed b r (inl e) = subst (λ z. slice_get (done ∷ rests (numbered 1 b) 
 rest_placed b r (inr h) =
     let (i, is) = member_place r (rests (numbered 1 b) done) h in
     let point = ((rest_at_point b r i).0 is).1 in
-    ap (λ o. slice_get (done ∷ rests (numbered 1 b) done) (number o)) point ∙ is
+    ap (λ o. slice_get (done ∷ rests (numbered 1 b) done) (point_number o)) point ∙ is
 
 -- places of 0 add nothing to a number
 coded_fresh : (g : List Bool) (n : ℕ) (args : List Bool) → coded (g ++ fresh n args) ≡ coded (g ++ args)

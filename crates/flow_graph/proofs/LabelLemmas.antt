@@ -99,24 +99,6 @@ place_split x n s m (repeat r a) t k = go (tail n s m (repeat r a) t) (behind_re
         (first_of_two (rest_from x A (loop (marked n (resolve_mark m)) (resolve_side s r) A (join z k))) None))
         (place x z k)) e
 
--- a statement with the label, and one without it
-pub place_here : (x : Label) (n : ℕ) (s : Scope) (m : Mark tree.Name) (d : Deed) (k : Code) → has_label x (resolve_mark m) ≡ true →
-    place x (led n s m d done) k ≡ Some n
-place_here x n s m (simple c) k e =
-    ap (λ h. option_map point_at (cond h (Some (one (marked n (resolve_mark m)) (resolve_simple s c) k)) None)) e
-place_here x n s m (branch r a b) k e =
-    ap (λ h. option_map point_at (cond h
-    (Some (choose (marked n (resolve_mark m)) (resolve_side s r) (numbered (suc n) (resolve_block s a))
-    (numbered (suc n + statements (resolve_block s a)) (resolve_block s b)) k))
-    (first_of_two (rest_from x (numbered (suc n) (resolve_block s a)) k)
-    (first_of_two (rest_from x (numbered (suc n + statements (resolve_block s a)) (resolve_block s b)) k) None)))) e
-place_here x n s m (repeat r a) k e =
-    ap (λ h. option_map point_at (cond h
-    (Some (loop (marked n (resolve_mark m)) (resolve_side s r) (numbered (suc n) (resolve_block s a)) k))
-    (first_of_two
-    (rest_from x (numbered (suc n) (resolve_block s a))
-    (loop (marked n (resolve_mark m)) (resolve_side s r) (numbered (suc n) (resolve_block s a)) k)) None))) e
-
 -- what is left to run after the first block inside of a statement: after the body of a loop the loop again
 abbrev behind_first : ℕ → Scope → Mark tree.Name → Deed → Code → Code
 behind_first n s m (simple c) k = k

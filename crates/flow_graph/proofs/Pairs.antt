@@ -12,7 +12,7 @@ use Rattle.language.proofs.Gathered.{edge_reached, edge_point, pair_exit}
 use Rattle.language.proofs.Sound.{owed_due}
 use Rattle.language.proofs.Widths.{due_message, reached_valuation}
 use Rattle.flow_graph.specs.Bits.{bit_of}
-use Rattle.flow_graph.specs.Nodes.{number, point_at}
+use Rattle.flow_graph.specs.Nodes.{point_number, point_at}
 use Rattle.flow_graph.specs.Flows.{code, exit_code}
 use Rattle.flow_graph.specs.Returns.{left_by}
 use Rattle.flow_graph.specs.Graphs.{AreGraphs, IsInTextOrder}
@@ -33,7 +33,7 @@ edge_numbers p q a n v = (there, back)
 
     back : AreNumbersOfEdge p q a n v → AreNumbersOf (EdgeTo p q) a n v
     back (x, y, point, edge, ea, en, ev) = let (r, is, inside) = (edge_point p q x y point).0 edge in
-        (x, y, r, inside, ea, en ∙ ap number is, ev)
+        (x, y, r, inside, ea, en ∙ ap point_number is, ev)
 
 module _ (p : Program) (fit : ArgumentsFit p) where
   -- a path edge is reached by the messages that are due

@@ -193,10 +193,6 @@ bit_inside [] i bits within = absurd (omega (arith, within))
 bit_inside (x ∷ xs) zero bits within = bits.0
 bit_inside (x ∷ xs) (suc i) bits within = bit_inside xs i bits.1 (omega (arith, within))
 
--- inputs widen to themselves, and step by step
-pub widens_same : (xs : List ℕ) → Widens xs xs
-widens_same xs = ([], sym (append-nil xs))
-
 pub widens_more : (xs ys zs : List ℕ) → Widens xs ys → Widens ys zs → Widens xs zs
 widens_more xs ys zs (more, is) (others, are) = (more ++ others, are ∙ ap (λ l. l ++ others) is ∙ append_assoc xs more others)
 
@@ -215,15 +211,6 @@ pub decided_rows : (ones l w : List ℕ) (o : Operator) (a c : Bool) → all_bel
 decided_rows ones l w o a c all whole is decides j right less =
     constant w c whole j less ∙ decides right
     ∙ ap (λ x. operate o x right) (sym (constant ones a all j less) ∙ ap (λ xs. output xs j) (sym is))
-
--- what is known of a bit is its value
-pub known_read : (known : List ℕ) (row b : ℕ) (c : Bool) (f : ℕ → Bool) → known_bit known row b ≡ Some c
-    → HaveRow known row f → c ≡ f b
-known_read known row b c f is have = go (is_input b known) refl is
-  where
-    go : (k : Bool) → is_input b known ≡ k → cond k (Some (bit_of row (slot b known))) None ≡ Some c → c ≡ f b
-    go true e some = sym (same_Some _ _ some) ∙ sym (have b e)
-    go false e none = absurd (none-some _ none)
 
 -- the values have the row of the inputs without those after them
 have_first : (xs ys : List ℕ) (j : ℕ) (f : ℕ → Bool) → HaveRow (xs ++ ys) j f → HaveRow xs j f

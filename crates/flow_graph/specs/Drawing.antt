@@ -12,7 +12,7 @@ use Rattle.flow_graph.specs.Located.{given_mask}
 use Rattle.flow_graph.specs.declared.graph.Graph.{Graph}
 use Rattle.resolved.specs.Limits.{most_places}
 use Rattle.resolved.specs.Narrow.{width}
-use Rattle.flow_graph.specs.Drawn.{flows_of, start_of, globals_of, result_mask}
+use Rattle.flow_graph.specs.Drawn.{flows_of, opening_point, globals_of, result_mask}
 
 -- the procedure's valuations fit a word, and there are at most 32 procedures
 abbrev pub ScopeHasRoom : {TreeAlloc : Type 0} → Program TreeAlloc → Proc TreeAlloc → Type 0
@@ -32,6 +32,6 @@ drawn_routine program procedure = numbered_routine (routine_of (tree_of program)
 abbrev pub IsGraphOf : {TreeAlloc Alloc : Type 0} → Program TreeAlloc → Proc TreeAlloc → Graph Alloc → Type 0
 IsGraphOf program procedure graph =
     let routine = drawn_routine program procedure in
-    (globals_of graph ≡ length (names_in program procedure).globals) × (start_of graph ≡ point_at routine.body)
+    (globals_of graph ≡ length (names_in program procedure).globals) × (opening_point graph ≡ point_at routine.body)
     × AllDo (flows_of graph) (nodes_of routine) (widths_of (names_in program procedure) routine.gives)
     × (result_mask graph ≡ given_mask (length (names_in program procedure).globals) routine)

@@ -12,8 +12,8 @@ abbrev pub flows_of : {Alloc : Type 0} → Graph Alloc → List (Flow Alloc)
 flows_of graph = graph.flows.items
 
 -- the point where a run begins
-abbrev pub start_of : {Alloc : Type 0} → Graph Alloc → ℕ
-start_of graph = graph.start
+abbrev pub opening_point : {Alloc : Type 0} → Graph Alloc → ℕ
+opening_point graph = graph.start
 
 -- how many globals there are
 abbrev pub globals_of : {Alloc : Type 0} → Graph Alloc → ℕ

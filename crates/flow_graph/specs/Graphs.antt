@@ -11,7 +11,7 @@ use Rattle.flow_graph.specs.Flows.{code, exit_code, Behaves}
 use Rattle.flow_graph.specs.Returns.{left_by}
 use Rattle.flow_graph.specs.declared.flow.Flow.{Flow}
 use Rattle.flow_graph.specs.declared.graph.Graph.{Graph}
-use Rattle.flow_graph.specs.Drawn.{flows_of, start_of, globals_of}
+use Rattle.flow_graph.specs.Drawn.{flows_of, opening_point, globals_of}
 
 -- a step inside the call, with this left to run, leads to the point and the valuation with this number
 abbrev pub StepsToNumber : Program → ℕ → Code → Valuation → ℕ → ℕ → Type 0
@@ -41,7 +41,7 @@ AtFlow (Some flow) P = P flow
 -- leaves with that.
 pub record IsGraph {Alloc : Type 0} (program : Program) (procedure : ℕ) (graph : Graph Alloc) : Type 0 where
   pub globals : globals_of graph ≡ program.globals
-  pub start : start_of graph ≡ point_at (body_of (slice_get program.routines procedure))
+  pub start : opening_point graph ≡ point_at (body_of (slice_get program.routines procedure))
   pub points : length (flows_of graph) ≡ suc (statements (body_of (slice_get program.routines procedure)))
   pub steps : (rest : Code) → IsRestOf (body_of (slice_get program.routines procedure)) rest →
       AtFlow (slice_get (flows_of graph) (point_at rest)) (HasSteps program procedure rest)

@@ -9,13 +9,13 @@ use Rattle.language.specs.Sequential.{Valuation, point_of}
 use Rattle.language.specs.Flow.{rests}
 
 -- the number of a point: that of its statement, or 0 for the exit
-abbrev pub number : Option ℕ → ℕ
-number None = 0
-number (Some n) = n
+abbrev pub point_number : Option ℕ → ℕ
+point_number None = 0
+point_number (Some n) = n
 
 -- the number of the point at which a rest begins
 abbrev pub point_at : Code → ℕ
-point_at rest = number (point_of rest)
+point_at rest = point_number (point_of rest)
 
 -- What happens at a point: values are written, a test leads to one of two points, an assumption lets only 1 pass on, a
 -- procedure is called, for a variable or for none, and left to at a point, or the procedure is left.

@@ -6,13 +6,13 @@ use Rattle.language.specs.Sequential.{Valuation, Edge, Exit as ExitValues, Pair,
 use Rattle.language.specs.Sequential.{IsDue}
 use Rattle.language.specs.Lists.{Member}
 use Rattle.language.specs.Messages.{IsValuationOf, ArgumentsFit}
-use Rattle.flow_graph.specs.Nodes.{number, point_at}
+use Rattle.flow_graph.specs.Nodes.{point_number, point_at}
 use Rattle.flow_graph.specs.Flows.{code, exit_code, last_of, next_of, entered_by}
 use Rattle.flow_graph.specs.Returns.{left_by, resumed_at}
 use Rattle.flow_graph.specs.declared.flow.Flow.{Flow}
 use Rattle.flow_graph.specs.declared.graph.Graph.{Graph}
 use Rattle.flow_graph.specs.declared.exit.Exit.{Exit}
-use Rattle.flow_graph.specs.Drawn.{flows_of, start_of}
+use Rattle.flow_graph.specs.Drawn.{flows_of, opening_point}
 use Rattle.flow_graph.specs.Graphs.{AreGraphs}
 
 -- A message by numbers: an entry has who enters and the number of the entry valuation; a summary has the procedure
@@ -38,7 +38,7 @@ by_numbers (summary callee entered exit) = numbered_summary callee (code entered
 -- valuation: its start from each entry, what a flow leads to for one of its choices, and, after a call, what a
 -- summary of it leads to.
 pub data GraphReaches {Alloc : Type 0} (graph : Graph Alloc) (Taken : NumberedMessage → Type 0) : ℕ → ℕ → ℕ → Type 0 where
-  starts : (from : Caller) (own : ℕ) → Taken (numbered_entry from own) → GraphReaches graph Taken own (start_of graph) own
+  starts : (from : Caller) (own : ℕ) → Taken (numbered_entry from own) → GraphReaches graph Taken own (opening_point graph) own
   flows : (own point values next next_values choice : ℕ) (flow : Flow Alloc) → GraphReaches graph Taken own point values →
       slice_get (flows_of graph) point ≡ Some flow → choice ≤ last_of flow →
       next_of flow values choice ≡ Some (next, next_values) → GraphReaches graph Taken own next next_values
@@ -85,7 +85,7 @@ IsNumberOfEntry program procedure entered = (valuation : Valuation) × Entered p
 abbrev pub AreNumbersOfEdge : Program → ℕ → ℕ → ℕ → ℕ → Type 0
 AreNumbersOfEdge program procedure entered at values =
     (valuation : Valuation) × (later : Valuation) × (point : Option ℕ) × Edge program procedure valuation point later
-    × (entered ≡ code valuation) × (at ≡ number point) × (values ≡ code later)
+    × (entered ≡ code valuation) × (at ≡ point_number point) × (values ≡ code later)
 
 -- the numbers are those of a pair of the procedure
 abbrev pub AreNumbersOfPair : Program → ℕ → ℕ → Exit → Type 0

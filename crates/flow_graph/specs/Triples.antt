@@ -10,12 +10,12 @@ use Rattle.flow_graph.specs.Numbers.{NumberedMessage, numbered_entry, numbered_s
 use Rattle.flow_graph.specs.declared.flow.Flow.{Flow}
 use Rattle.flow_graph.specs.declared.graph.Graph.{Graph}
 use Rattle.flow_graph.specs.declared.exit.Exit.{Exit}
-use Rattle.flow_graph.specs.Drawn.{flows_of, start_of}
+use Rattle.flow_graph.specs.Drawn.{flows_of, opening_point}
 
 -- the triples hold the start of each entry of these messages
 abbrev pub HoldStarts : {Alloc : Type 0} → Graph Alloc → List NumberedMessage → List (ℕ × ℕ × ℕ) → Type 0
 HoldStarts graph ms ts =
-    (from : Caller) (own : ℕ) → Member (numbered_entry from own) ms → Member (own, start_of graph, own) ts
+    (from : Caller) (own : ℕ) → Member (numbered_entry from own) ms → Member (own, opening_point graph, own) ts
 
 -- with each triple they hold what a flow leads to from it
 abbrev pub HoldFlows : {Alloc : Type 0} → Graph Alloc → List (ℕ × ℕ × ℕ) → Type 0

@@ -29,12 +29,12 @@ pub struct Graph<A: Allocator> {
 }
 
 impl<A: Allocator> Graph<A> {
-    ghost use Rattle.flow_graph.specs.Drawn.{flows_of, globals_of, start_of};
+    ghost use Rattle.flow_graph.specs.Drawn.{flows_of, globals_of, opening_point};
     ghost use Rattle.flow_graph.specs.Returns.{left_by, AreGlobalsOf};
 
     /// The point of the first statement; the exit, if there is none.
     pub fn start(&self) -> Point
-        ensures { result ≡ start_of self.now }
+        ensures { result ≡ opening_point self.now }
     {
         self.start
     }

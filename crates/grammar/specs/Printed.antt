@@ -95,8 +95,8 @@ margin zero = []
 margin (suc level) = space ∷ space ∷ margin level
 
 -- A line has the spaces of its level in front, and ends with a line feed.
-abbrev pub line_of : ℕ → List Part → List Part
-line_of level parts = margin level ++ (parts ++ (line ∷ []))
+abbrev pub line_parts : ℕ → List Part → List Part
+line_parts level parts = margin level ++ (parts ++ (line ∷ []))
 
 -- A test stands between its keywords, in parentheses, with a space on both sides of them.
 abbrev pub test_parts : Kind → RightSide Name → Kind → List Part
@@ -106,30 +106,30 @@ test_parts first side last = fixed first ∷ space ∷ (in_parens (side_parts si
 -- lines of their own, and what they enclose is one level further in.
 abbrev pub block_parts : ℕ → Block Name Name Name → List Part
 block_parts level done = []
-block_parts level (one mark statement rest) = line_of level (label_parts mark.label ++ simple_parts statement) ++ block_parts level rest
+block_parts level (one mark statement rest) = line_parts level (label_parts mark.label ++ simple_parts statement) ++ block_parts level rest
 block_parts level (choose mark side if_true if_false rest) =
-    line_of level (label_parts mark.label ++ test_parts kind.If side kind.Then) ++ (block_parts (suc level) if_true
-    ++ (line_of level (fixed kind.Else ∷ []) ++ (block_parts (suc level) if_false
-    ++ (line_of level (fixed kind.Fi ∷ []) ++ block_parts level rest))))
+    line_parts level (label_parts mark.label ++ test_parts kind.If side kind.Then) ++ (block_parts (suc level) if_true
+    ++ (line_parts level (fixed kind.Else ∷ []) ++ (block_parts (suc level) if_false
+    ++ (line_parts level (fixed kind.Fi ∷ []) ++ block_parts level rest))))
 block_parts level (loop mark side body rest) =
-    line_of level (label_parts mark.label ++ test_parts kind.While side kind.Do) ++ (block_parts (suc level) body
-    ++ (line_of level (fixed kind.Od ∷ []) ++ block_parts level rest))
+    line_parts level (label_parts mark.label ++ test_parts kind.While side kind.Do) ++ (block_parts (suc level) body
+    ++ (line_parts level (fixed kind.Od ∷ []) ++ block_parts level rest))
 
 -- All names declared in one place are on one line, if there are any.
 abbrev pub declaration_parts : ℕ → List Name → List Part
 declaration_parts level [] = []
-declaration_parts level (name ∷ names) = line_of level (ended (fixed kind.Decl ∷ space ∷ separated name_parts (name ∷ names)))
+declaration_parts level (name ∷ names) = line_parts level (ended (fixed kind.Decl ∷ space ∷ separated name_parts (name ∷ names)))
 
 -- A procedure is its name with its formals in parentheses, `begin`, its locals and its statements one level further
 -- in, and `end`.
 abbrev pub procedure_parts : Procedure → List Part
 procedure_parts procedure =
-    line_of 0 (name_parts procedure.name ++ in_parens (separated name_parts procedure.formals)) ++ (line_of 0 (fixed kind.Begin ∷ [])
-    ++ (declaration_parts 1 procedure.locals ++ (block_parts 1 procedure.body ++ line_of 0 (fixed kind.End ∷ []))))
+    line_parts 0 (name_parts procedure.name ++ in_parens (separated name_parts procedure.formals)) ++ (line_parts 0 (fixed kind.Begin ∷ [])
+    ++ (declaration_parts 1 procedure.locals ++ (block_parts 1 procedure.body ++ line_parts 0 (fixed kind.End ∷ []))))
 
 -- A thread line.
 abbrev pub thread_parts : ThreadLine → List Part
-thread_parts thread_line = line_of 0 (ended (fixed kind.Thread ∷ space ∷ name_parts thread_line.name))
+thread_parts thread_line = line_parts 0 (ended (fixed kind.Thread ∷ space ∷ name_parts thread_line.name))
 
 -- The declaration of all globals, the procedures, and a line for each thread.
 abbrev pub program_parts : Tree → List Part

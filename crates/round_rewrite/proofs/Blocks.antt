@@ -1,6 +1,5 @@
 -- How the rewriting goes with joining, with leaving out labels and numbers, and with jumps.
-use Rattle.std.proofs.Common.{◌≡◌, ℕ, zero, suc, Bool, true, false, cond, Option, Some, None, option_map, refl, sym, ◌∙◌, ap}
-use Rattle.std.proofs.Common.{ap₂, map}
+use Rattle.std.proofs.Common.{◌≡◌, ℕ, zero, suc, Bool, true, false, cond, Option, Some, None, option_map, refl, sym, ◌∙◌, ap, ap₂, map}
 use Rattle.language.specs.Tree.{Simple, skip, assign, assert, assume, goto, leave, call, leave_with, call_for, Mark, Block, done, one}
 use Rattle.language.specs.Tree.{choose, loop, RightSide}
 use Rattle.language.specs.Value.{Place}

@@ -11,8 +11,7 @@ use Rattle.round_rewrite.specs.Places.{places, is_global}
 use Rattle.resolved.specs.Scoped.{PlacesInScope, SidesInScope}
 use Rattle.round_rewrite.proofs.LayoutLemmas.{row, bits_of, lay, Moment, turned, unturned, row_long}
 use Rattle.round_rewrite.proofs.AssignmentLemmas.{drawn_to, length-drawn, bit-undrawn, picks, Picked, picked, any_are, drawn_writes}
-use Rattle.round_rewrite.proofs.AssignmentLemmas.{spread_all}
-use Rattle.round_rewrite.proofs.AssignmentLemmas.{sides_are, sides_back, writes, writes_locals}
+use Rattle.round_rewrite.proofs.AssignmentLemmas.{spread_all, sides_are, sides_back, writes, writes_locals}
 use Rattle.round_rewrite.proofs.Plain.{World, PlainAfter}
 use Rattle.round_rewrite.proofs.RunLemmas.{Leads, Never, unstep, Later, later_now}
 use Rattle.round_rewrite.specs.Limits.{most_rounds}

@@ -9,8 +9,7 @@ use Rattle.language.specs.Step.{Routine, Program, Frame, frame, waiting, State, 
 use Rattle.language.specs.Step.{AtRest, body_of, StepsTo, AfterSteps}
 use Rattle.language.specs.Sequential.{statements, numbered, numbered_routine, in_text_order, Valuation, Calls, Asks}
 use Rattle.round_rewrite.specs.Table.{Naming, numbers, no_mark, side, draws, drawing, statement, prologue, rewritten, guess, guesses}
-use Rattle.round_rewrite.specs.Table.{starts}
-use Rattle.round_rewrite.specs.Table.{check, checks, main, received, all_rounds, copy_value}
+use Rattle.round_rewrite.specs.Table.{starts, check, checks, main, received, all_rounds, copy_value}
 use Rattle.round_rewrite.specs.Places.{places, all_globals, rewritten_routine, main_routine, rewritten_program}
 use Rattle.resolved.specs.Scoped.{Throughout}
 use Rattle.round_rewrite.proofs.Frames.{throughout-join, throughout-rest, IfThere}

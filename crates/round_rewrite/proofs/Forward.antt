@@ -11,6 +11,7 @@ use Rattle.language.proofs.Lengths.{length_zeros, length_fresh, length_values, l
 use Rattle.round_rewrite.specs.Table.{Naming, no_mark, receiver_draws, draws, temporaries, expression_form, side, prologue, stop_test}
 use Rattle.round_rewrite.specs.Places.{places, is_global}
 use Rattle.resolved.specs.Scoped.{PlaceInScope, AreInScope, SideInScope, RoutineInScope, FitsScopes}
+use Rattle.language.proofs.Results.{zeros_bit}
 use Rattle.round_rewrite.proofs.LayoutLemmas.{row, Moment, globals_at, turned, unturned, row_long}
 use Rattle.round_rewrite.proofs.Translate.{side_is, expression_is, expressions_are}
 use Rattle.round_rewrite.proofs.AssignmentLemmas.{writes_more}
@@ -21,9 +22,8 @@ use Rattle.round_rewrite.proofs.Blocks.{put-join, put-again}
 use Rattle.round_rewrite.proofs.Prologue.{stop_leads}
 use Rattle.round_rewrite.proofs.Frames.{Activation, both, awaiting, results, entered, given, source_values, put_values, Fits, Roomy, Both}
 use Rattle.round_rewrite.proofs.Frames.{source, Good, AllGood, GoodStack, put_rest, inner, behind, callers, stack, Setting, put_routine}
-use Rattle.round_rewrite.proofs.Frames.{roomy, top, site, throughout-join, throughout-rest, IfThere, bit_zeros, source_fresh, put_fresh}
-use Rattle.round_rewrite.proofs.Frames.{source_with, put_given, Waits, put_result, put_with, resulting, resulting_good, draws_room}
-use Rattle.round_rewrite.proofs.Frames.{takes_room}
+use Rattle.round_rewrite.proofs.Frames.{roomy, top, site, throughout-join, throughout-rest, IfThere, source_fresh, put_fresh, source_with}
+use Rattle.round_rewrite.proofs.Frames.{put_given, Waits, put_result, put_with, resulting, resulting_good, draws_room, takes_room}
 use Rattle.resolved.proofs.Each.{each_at}
 
 -- an open call that has new values and continues in the same procedure
@@ -133,7 +133,7 @@ call_good p last q r vs fits e short =
       long = length_fresh r.places vs short;
       gives = length_zeros (results r);
       room = length_zeros (d + results r) ∙ ap (λ k. d + k) (sym (length_zeros (results r)));
-      result = bit_zeros (d + results r) d ∙ sym (bit_zeros (results r) 0);
+      result = zeros_bit (d + results r) d ∙ sym (zeros_bit (results r) 0);
       waits = tt;
       fits = body_fits p q r d fits e (omega arith);
     }

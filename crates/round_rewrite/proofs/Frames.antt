@@ -195,10 +195,6 @@ module _ (p : Program) (last : ℕ) where
     pub waits : Waits p.globals b.own (temporaries is_global routine.body) b.awaits
     pub fits : Fits p.routines p.globals b.own (temporaries is_global routine.body) b.rest
 
-  -- how many temporaries the procedure of a frame has
-  abbrev pub room_of : {b : Both} → Good b → ℕ
-  room_of h = temporaries is_global h.routine.body
-
   -- the same for all frames
   abbrev pub AllGood : List Both → Type 0
   AllGood [] = Unit {0}
@@ -279,12 +275,6 @@ pub record Setting : Type 0 where
   pub small : last < most_rounds
   pub w : World
   pub isw : IsWorld p last w
-
--- zeros are 0
-pub bit_zeros : (n i : ℕ) → bit (zeros n) i ≡ false
-bit_zeros zero i = refl
-bit_zeros (suc n) zero = refl
-bit_zeros (suc n) (suc i) = bit_zeros n i
 
 -- zeros after zeros
 pub zeros-add : (a b : ℕ) → zeros (a + b) ≡ zeros a ++ zeros b

@@ -1,6 +1,5 @@
 -- The names of the rewritten program are names of the grammar.
-use Rattle.std.proofs.Common.{◌≡◌, ℕ, zero, suc, ◌+◌, ◌-◌, ◌<◌, ◌^◌, true, false, List, [], ◌∷◌, ◌++◌}
-use Rattle.std.proofs.Common.{codes, refl, sym, ◌∙◌, subst, arith}
+use Rattle.std.proofs.Common.{◌≡◌, ℕ, zero, suc, ◌+◌, ◌-◌, ◌<◌, ◌^◌, true, false, List, [], ◌∷◌, ◌++◌, codes, refl, sym, ◌∙◌, subst, arith}
 use Rattle.std.specs.Prelude.{decimal, option_map, unwrap_or}
 use Rattle.std.specs.Str.Parse.{AllDigits}
 use Rattle.std.proofs.lemmas.Fmt.{decimal_is_IsNumeral}

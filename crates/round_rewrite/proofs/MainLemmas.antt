@@ -7,7 +7,7 @@ use Rattle.language.specs.Rest.{Code, same_text}
 use Rattle.language.specs.Resolve.{number_of, is_declared, Scope, place_of, resolve_side, resolve_block}
 use Rattle.round_rewrite.specs.Table.{Naming, numbers, no_mark, each, reset_targets, guess, guesses, starts, check, checks, main}
 use Rattle.round_rewrite.specs.Places.{places, copy_at, save_at, all_globals}
-use Rattle.round_rewrite.specs.Names.{copy_name, save_name, spelling}
+use Rattle.round_rewrite.specs.Names.{copy_name, save_name, by_names}
 use Rattle.checked.specs.Rewritable.{AreFree, AreDistinct, EachLine}
 use Rattle.round_rewrite.proofs.SpellingLemmas.{same_text_refl, same_text_false}
 use Rattle.round_rewrite.proofs.NumberingLemmas.{number_right}
@@ -60,7 +60,7 @@ module _ (t : Tree) (gs ps : List Name) (last : ℕ) (gs_free : AreFree gs) (dis
   sm' = wider vocabulary ps'
 
   abbrev N : Naming Name Name Name Name
-  N = spelling []
+  N = by_names []
 
   abbrev P : Naming Place Place ℕ ℕ
   P = places n last 0

@@ -1,7 +1,6 @@
 -- The rewritten tree means the rewritten program, and the theorem over names.
-use Rattle.std.proofs.Common.{◌≡◌, ℕ, zero, suc, ◌+◌, ◌<◌, ◌≤◌, true, false, cond, List, [], ◌∷◌}
-use Rattle.std.proofs.Common.{◌++◌, length, map, codes, Option, Some, None, option_map, slice_get, refl, sym, ◌∙◌, ap, subst}
-use Rattle.std.proofs.Common.{ap₂, arith, append_assoc, length-append}
+use Rattle.std.proofs.Common.{◌≡◌, ℕ, zero, suc, ◌+◌, ◌<◌, ◌≤◌, true, false, cond, List, [], ◌∷◌, ◌++◌, length, map, codes, Option, Some}
+use Rattle.std.proofs.Common.{None, option_map, slice_get, refl, sym, ◌∙◌, ap, subst, ap₂, arith, append_assoc, length-append}
 use Rattle.std.proofs.lemmas.List.{length-map}
 use Rattle.std.proofs.lemmas.Option.{slice_get-map}
 use Rattle.language.specs.Tree.{Name, Expression, const, var, negation, two, RightSide, any, value, Simple}
@@ -17,7 +16,7 @@ use Rattle.language.specs.Resolve.{scope_of, routine_of, meaning_of}
 use Rattle.language.specs.Sequential.{in_text_order, sequential_of, SomeBad}
 use Rattle.round_rewrite.specs.Table.{numbers, temporaries, rewritten}
 use Rattle.round_rewrite.specs.Places.{places, is_global, rewritten_routine, main_routine, rewritten_program, bad_at, global_count}
-use Rattle.round_rewrite.specs.Names.{drawn_name, spelling, rewritten_procedure, main_procedure, rewritten_tree}
+use Rattle.round_rewrite.specs.Names.{drawn_name, by_names, rewritten_procedure, main_procedure, rewritten_tree}
 use Rattle.resolved.specs.Scoped.{PlaceInScope, InScope, AreInScope, SideInScope, SidesInScope, PlacesInScope, SimpleInScope, Throughout}
 use Rattle.resolved.specs.Scoped.{EachThread, RoutineInScope, FitsScopes}
 use Rattle.language.proofs.Names.{number_less}
@@ -92,7 +91,7 @@ module _ (t : Tree) (last : ℕ) (ok : IsRewritable t) (small : last < most_roun
   main_is =
       λ i. record {
         places = 0;
-        gives = gives_main Name (spelling []) last gs (map (λ (line : ThreadLine). line.name) t.threads) i;
+        gives = gives_main Name (by_names []) last gs (map (λ (line : ThreadLine). line.name) t.threads) i;
         body = main_resolved t gs ps last ok.globals ok.distinct (omega arith) small ps' called t.threads ok.threads i;
       }
 
@@ -100,7 +99,7 @@ module _ (t : Tree) (last : ℕ) (ok : IsRewritable t) (small : last < most_roun
   own_of p = p.formals ++ p.locals
 
   abbrev drawn_of : Procedure → ℕ
-  drawn_of p = temporaries (spelling (own_of p)).is_shared p.body
+  drawn_of p = temporaries (by_names (own_of p)).is_shared p.body
 
   abbrev temps_of : Procedure → List Name
   temps_of p = map drawn_name (numbers 0 (drawn_of p))
@@ -123,19 +122,19 @@ module _ (t : Tree) (last : ℕ) (ok : IsRewritable t) (small : last < most_roun
       let d : ℕ = drawn_of p in
       let few : d ≤ most_places = few_drawn p narrow in
       let words : Vocabulary = vocabulary own d h.own few in
-      let counts : temporaries (spelling own).is_shared p.body ≡ temporaries is_global (resolve_block (scope_of t p) p.body) =
+      let counts : temporaries (by_names own).is_shared p.body ≡ temporaries is_global (resolve_block (scope_of t p) p.body) =
       temporaries_resolved t words ps' called p.body in
-      let bodies : resolve_block (wider words ps') (rewritten (spelling own) last p.body) ≡ rewritten
+      let bodies : resolve_block (wider words ps') (rewritten (by_names own) last p.body) ≡ rewritten
       (places (length gs) last (length own)) last (resolve_block (scope_of t p) p.body) =
       block_resolved t words ps' called p.body h.body (omega arith) in
-      let scoped : resolve_block (scope_of t' (rewritten_procedure last p)) (rewritten (spelling own) last p.body) ≡ resolve_block
-      (wider words ps') (rewritten (spelling own) last p.body) =
+      let scoped : resolve_block (scope_of t' (rewritten_procedure last p)) (rewritten (by_names own) last p.body) ≡ resolve_block
+      (wider words ps') (rewritten (by_names own) last p.body) =
       ap (λ l.
-      resolve_block (record { globals = t'.globals; locals = l; procedures = ps' }) (rewritten (spelling own) last p.body))
+      resolve_block (record { globals = t'.globals; locals = l; procedures = ps' }) (rewritten (by_names own) last p.body))
       (sym (append_assoc p.formals p.locals (temps_of p))) in
       λ i. record {
         places = (length-own p ∙ ap (λ z. length own + z) counts) i;
-        gives = gives_rewritten (spelling own) last p.body i;
+        gives = gives_rewritten (by_names own) last p.body i;
         body = (scoped ∙ bodies) i;
       }
 

@@ -9,11 +9,10 @@ use Rattle.language.specs.Rest.{same_text}
 use Rattle.language.specs.Resolve.{number_of, is_declared, Scope, place_of}
 use Rattle.round_rewrite.specs.Table.{numbers, copied, globals}
 use Rattle.round_rewrite.specs.Places.{copy_at, save_at, bits_at, bits_from, stop_at, bad_at, global_count}
-use Rattle.round_rewrite.specs.Names.{fresh_name, bit_name, bit_names, copy_name, save_name, drawn_name, spelling}
+use Rattle.round_rewrite.specs.Names.{fresh_name, bit_name, bit_names, copy_name, save_name, drawn_name, by_names}
 use Rattle.checked.specs.Rewritable.{has_double, AreFree}
 use Rattle.round_rewrite.proofs.SpellingLemmas.{same_text_refl, same_text_false, same_text-append, copies_differ, saves_differ}
-use Rattle.round_rewrite.proofs.SpellingLemmas.{save_no_copy}
-use Rattle.round_rewrite.proofs.SpellingLemmas.{low_no_copy, low_no_save, drawn_differ, no_drawn, digit_is}
+use Rattle.round_rewrite.proofs.SpellingLemmas.{save_no_copy, low_no_copy, low_no_save, drawn_differ, no_drawn, digit_is}
 use Rattle.round_rewrite.proofs.NumberingLemmas.{number_right, number_left, not_free, free_name, Spelled, length-rows, none_in_rows}
 use Rattle.round_rewrite.proofs.NumberingLemmas.{in_rows}
 use Rattle.resolved.specs.Limits.{most_places}
@@ -73,13 +72,13 @@ length-bit_names count =
 abbrev pub last_names : List Name
 last_names = fresh_name (codes "stop__") ∷ fresh_name (codes "bad__") ∷ []
 
-pub length-globals : (last : ℕ) (xs : List Name) → length (globals (spelling []) last xs) ≡ global_count (length xs) last
+pub length-globals : (last : ℕ) (xs : List Name) → length (globals (by_names []) last xs) ≡ global_count (length xs) last
 length-globals last xs =
-    let first : List Name = copied (spelling []) last copy_name xs (numbers 0 (suc last)) in
-    let second : List Name = copied (spelling []) last save_name xs (numbers 1 last) in
+    let first : List Name = copied (by_names []) last copy_name xs (numbers 0 (suc last)) in
+    let second : List Name = copied (by_names []) last save_name xs (numbers 1 last) in
     let bits : List Name = reverse (bit_names (round_bits last)) in
-    let a : length first ≡ suc last * length xs = length-rows (spelling []) last copy_name xs 0 (suc last) in
-    let b : length second ≡ last * length xs = length-rows (spelling []) last save_name xs 1 last in
+    let a : length first ≡ suc last * length xs = length-rows (by_names []) last copy_name xs 0 (suc last) in
+    let b : length second ≡ last * length xs = length-rows (by_names []) last save_name xs 1 last in
     let c : length bits ≡ round_bits last = length-bit_names (round_bits last) in
     let d : length (first ++ second) ≡ length first + length second = length-append first second in
     let e : length (first ++ second ++ bits) ≡ length (first ++ second) + length bits = length-append (first ++ second) bits in
@@ -132,10 +131,10 @@ module _ (vocabulary : Vocabulary) where
   scope = record { globals = gs; locals = own; procedures = ps }
 
   abbrev A : List Name
-  A = copied (spelling []) last copy_name gs (numbers 0 (suc last))
+  A = copied (by_names []) last copy_name gs (numbers 0 (suc last))
 
   abbrev B : List Name
-  B = copied (spelling []) last save_name gs (numbers 1 last)
+  B = copied (by_names []) last save_name gs (numbers 1 last)
 
   -- the bits of the round, the highest first
   abbrev bits : List Name
@@ -143,13 +142,13 @@ module _ (vocabulary : Vocabulary) where
 
   -- the scope of a rewritten procedure
   abbrev pub wider : List Name → Scope
-  wider ps' = record { globals = globals (spelling []) last gs; locals = own ++ temps; procedures = ps' }
+  wider ps' = record { globals = globals (by_names []) last gs; locals = own ++ temps; procedures = ps' }
 
   length-A : length A ≡ suc last * length gs
-  length-A = length-rows (spelling []) last copy_name gs 0 (suc last)
+  length-A = length-rows (by_names []) last copy_name gs 0 (suc last)
 
   length-B : length B ≡ last * length gs
-  length-B = length-rows (spelling []) last save_name gs 1 last
+  length-B = length-rows (by_names []) last save_name gs 1 last
 
   -- a name with two underscores that is not a temporary is not a formal or a local either
   outside : (a s : List ℕ) → ((i : ℕ) → same_text (a ++ 95 ∷ 95 ∷ s) (drawn_name i).text ≡ false)
@@ -158,9 +157,9 @@ module _ (vocabulary : Vocabulary) where
       ∙ no_temporary (a ++ 95 ∷ 95 ∷ s) 0 d h
 
   as_global : (ps' : List Name) (x : Name) (i j : ℕ) → is_declared x.text (own ++ temps) ≡ false
-      → number_of x.text (globals (spelling []) last gs) ≡ i → i ≡ j → place_of (wider ps') x ≡ global j
+      → number_of x.text (globals (by_names []) last gs) ≡ i → i ≡ j → place_of (wider ps') x ≡ global j
   as_global ps' x i j h e e' =
-      ap (λ c. cond c (local (number_of x.text (own ++ temps))) (global (number_of x.text (globals (spelling []) last gs)))) h
+      ap (λ c. cond c (local (number_of x.text (own ++ temps))) (global (number_of x.text (globals (by_names []) last gs)))) h
       ∙ ap global (e ∙ e')
 
   digit_not_t : (k : ℕ) → k < most_rounds → (t r : List ℕ) (x : List ℕ) → has_double x ≡ false →
@@ -177,7 +176,7 @@ module _ (vocabulary : Vocabulary) where
       let out : is_declared t (own ++ temps) ≡ false =
       outside x.text (decimal (suc k))
       (λ i. same_text_false t (drawn_name i).text (digit_not_t k (omega arith) [] (decimal (suc i)) x.text free)) in
-      let r = in_rows (spelling []) last copy_name gs copies_spelled x there k 0 (suc last) (omega arith) (omega arith) in
+      let r = in_rows (by_names []) last copy_name gs copies_spelled x there k 0 (suc last) (omega arith) (omega arith) in
       let z : 0 + k ≡ k = omega arith in
       let inA : is_declared t A ≡ true = ap (λ y. is_declared (copy_name y x).text A) (sym z) ∙ r.0 in
       let atA : number_of t A ≡ k * length gs + number_of x.text gs = ap (λ y. number_of (copy_name y x).text A) (sym z) ∙ r.1 in
@@ -197,12 +196,12 @@ module _ (vocabulary : Vocabulary) where
       outside x.text (115 ∷ decimal (suc (suc k)))
       (λ i.
       same_text_false t (drawn_name i).text (no_drawn x.text 115 (decimal (suc (suc k))) (decimal (suc i)) free (λ z. omega arith))) in
-      let r = in_rows (spelling []) last save_name gs saves_spelled x there k 1 last lt (omega arith) in
+      let r = in_rows (by_names []) last save_name gs saves_spelled x there k 1 last lt (omega arith) in
       let z : 1 + k ≡ suc k = omega arith in
       let inB : is_declared t B ≡ true = ap (λ y. is_declared (save_name y x).text B) (sym z) ∙ r.0 in
       let atB : number_of t B ≡ k * length gs + number_of x.text gs = ap (λ y. number_of (save_name y x).text B) (sym z) ∙ r.1 in
       let noA : is_declared t A ≡ false =
-      none_in_rows (spelling []) last copy_name gs t 0 (suc last)
+      none_in_rows (by_names []) last copy_name gs t 0 (suc last)
       (λ i y l. save_no_copy x.text y.text (suc k) i (omega arith) (omega arith)) in
       let l1 = number_right t A B noA in
       let l2 = number_left t (A ++ B) bits (l1.1 ∙ inB) in
@@ -215,7 +214,7 @@ module _ (vocabulary : Vocabulary) where
   pub kept_place : (ps' : List Name) (x : Name) → is_declared x.text own ≡ true → place_of (wider ps') x ≡ place_of scope x
   kept_place ps' x here =
       let l = number_left x.text own temps here in
-      ap (λ c. cond c (local (number_of x.text (own ++ temps))) (global (number_of x.text (globals (spelling []) last gs)))) l.1
+      ap (λ c. cond c (local (number_of x.text (own ++ temps))) (global (number_of x.text (globals (by_names []) last gs)))) l.1
       ∙ (ap local l.0 ∙ sym (ap (λ c. cond c (local (number_of x.text own)) (global (number_of x.text gs))) here))
 
   pub drawn_place : (ps' : List Name) (j : ℕ) → j < d → place_of (wider ps') (drawn_name j) ≡ local (length own + j)
@@ -226,7 +225,7 @@ module _ (vocabulary : Vocabulary) where
       let k = the_temporary j 0 d lt (omega arith) in
       let ink : is_declared t temps ≡ true = ap (λ y. is_declared (drawn_name y).text temps) (sym z) ∙ k.0 in
       let atk : number_of t temps ≡ j = ap (λ y. number_of (drawn_name y).text temps) (sym z) ∙ k.1 in
-      ap (λ c. cond c (local (number_of t (own ++ temps))) (global (number_of t (globals (spelling []) last gs)))) (r.1 ∙ ink)
+      ap (λ c. cond c (local (number_of t (own ++ temps))) (global (number_of t (globals (by_names []) last gs)))) (r.1 ∙ ink)
       ∙ ap local (r.0 ∙ ap (λ y. length own + y) atk)
 
   -- a name of the rewriting's own that ends in two underscores
@@ -237,10 +236,10 @@ module _ (vocabulary : Vocabulary) where
       let t : List ℕ = a ++ 95 ∷ 95 ∷ [] in
       let split : a ++ 95 ∷ 95 ∷ [] ≡ (a ++ 95 ∷ []) ++ 95 ∷ [] = sym (append_assoc a (95 ∷ []) (95 ∷ [])) in
       let noA : is_declared t A ≡ false =
-      none_in_rows (spelling []) last copy_name gs t 0 (suc last)
+      none_in_rows (by_names []) last copy_name gs t 0 (suc last)
       (λ i y l. ap (λ z. same_text z (copy_name i y).text) split ∙ low_no_copy (a ++ 95 ∷ []) y.text i (omega arith)) in
       let noB : is_declared t B ≡ false =
-      none_in_rows (spelling []) last save_name gs t 1 last
+      none_in_rows (by_names []) last save_name gs t 1 last
       (λ i y l. ap (λ z. same_text z (save_name i y).text) split ∙ low_no_save (a ++ 95 ∷ []) y.text i (omega arith)) in
       let r1 = number_right t A B noA in
       let r2 = number_right t (A ++ B) (bits ++ last_names) (r1.1 ∙ noB) in

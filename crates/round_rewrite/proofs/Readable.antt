@@ -2,11 +2,9 @@
 use Rattle.std.proofs.Common.{◌≡◌, ℕ, zero, suc, ◌+◌, ◌<◌, ◌≤◌, true, false, cond, not, List, [], ◌∷◌, ◌++◌}
 use Rattle.std.proofs.Common.{length, map, reverse, codes, Some, refl, sym, ◌∙◌, subst, arith, length-append}
 use Rattle.std.proofs.lemmas.List.{length-map}
-use Rattle.std.specs.List.{AllByRecursion}
-use Rattle.std.specs.List.{AllByRecursion}
-use Rattle.language.specs.Tree.{Name, Expression, const, var, negation, two, RightSide, any, value, Simple, skip, assign, assert}
-use Rattle.language.specs.Tree.{assume, goto, leave, call, leave_with, call_for, Mark, Block, done, one, choose, loop, Procedure}
-use Rattle.language.specs.Tree.{ThreadLine, Tree}
+use Rattle.std.specs.List.{AllByRecursion, AllByRecursion}
+use Rattle.language.specs.Tree.{Name, Expression, const, var, negation, two, RightSide, any, value, Simple, skip, assign, assert, assume}
+use Rattle.language.specs.Tree.{goto, leave, call, leave_with, call_for, Mark, Block, done, one, choose, loop, Procedure, ThreadLine, Tree}
 use Rattle.language.specs.Rest.{join}
 use Rattle.language.specs.Resolve.{is_declared}
 use Rattle.grammar.specs.Grammar.{IsSome}
@@ -15,11 +13,9 @@ use Rattle.grammar.specs.InGrammar.{ProcedureInGrammar, ThreadInGrammar, InGramm
 use Rattle.resolved.specs.Statements.{variables_of, variables_of_side, variables_of_sides, variables_of_all}
 use Rattle.resolved.proofs.Each.{each_left, each_right}
 use Rattle.round_rewrite.specs.Table.{numbers, no_mark, temporaries, in_round, expression_form, side, all_rounds, targets, sides, draws}
-use Rattle.round_rewrite.specs.Table.{drawing}
-use Rattle.round_rewrite.specs.Table.{stop_test, rise, prologue, statement, rewritten, guess, guesses, starts, check, checks, copied}
-use Rattle.round_rewrite.specs.Table.{globals, receiver_draws, received, raised, each, reset_targets}
-use Rattle.round_rewrite.specs.Names.{fresh_name, bit_name, bit_names, copy_name, save_name, drawn_name, spelling}
-use Rattle.round_rewrite.specs.Names.{rewritten_procedure}
+use Rattle.round_rewrite.specs.Table.{drawing, stop_test, rise, prologue, statement, rewritten, guess, guesses, starts, check, checks}
+use Rattle.round_rewrite.specs.Table.{copied, globals, receiver_draws, received, raised, each, reset_targets}
+use Rattle.round_rewrite.specs.Names.{fresh_name, bit_name, bit_names, copy_name, save_name, drawn_name, by_names, rewritten_procedure}
 use Rattle.round_rewrite.specs.Names.{main_procedure, rewritten_tree}
 use Rattle.round_rewrite.specs.Narrow.{IsNarrow}
 use Rattle.round_rewrite.specs.Places.{global_count}
@@ -129,19 +125,19 @@ module _ (own : List Name) (last d : ℕ) (small : last < most_rounds) (few : d 
     drawn = λ j lt. drawn_id j (omega arith);
   }
 
-  some_rewritten : (b : Block Name Name Name) → IsSome b → IsSome (rewritten (spelling own) last b)
+  some_rewritten : (b : Block Name Name Name) → IsSome b → IsSome (rewritten (by_names own) last b)
   some_rewritten done h = h
   some_rewritten (one m c k) h = tt
   some_rewritten (choose m r a b k) h = tt
   some_rewritten (loop m r a k) h = tt
 
-  stop_test_in_grammar : (k : Block Name Name Name) → BlockInGrammar k → BlockInGrammar (stop_test (spelling own) last k)
+  stop_test_in_grammar : (k : Block Name Name Name) → BlockInGrammar k → BlockInGrammar (stop_test (by_names own) last k)
   stop_test_in_grammar k h = (tt, stop_id, tt, (tt, tt, tt), tt, (tt, tt, tt), h)
 
-  rise_in_grammar : BlockInGrammar (rise (spelling own) last)
+  rise_in_grammar : BlockInGrammar (rise (by_names own) last)
   rise_in_grammar = (
     tt,
-    ids_used (in_round (spelling own) last last) (at_uses own last d IsId IsId held last),
+    ids_used (in_round (by_names own) last last) (at_uses own last d IsId IsId held last),
     (
       tt,
       assign_in_grammar (reverse (bit_names (round_bits last))) (reverse (raised (bit_names (round_bits last))))
@@ -152,7 +148,7 @@ module _ (own : List Name) (last d : ℕ) (small : last < most_rounds) (few : d 
   )
 
   prologue_in_grammar : (m : Mark Name) (k : Block Name Name Name) → LabelInGrammar m.label → BlockInGrammar k
-      → BlockInGrammar (prologue (spelling own) last m k)
+      → BlockInGrammar (prologue (by_names own) last m k)
   prologue_in_grammar m k l h = (
     l,
     tt,
@@ -170,7 +166,7 @@ module _ (own : List Name) (last d : ℕ) (small : last < most_rounds) (few : d 
   )
 
   drawing_in_grammar : (n : ℕ) (k : Block Name Name Name) → n ≤ d → BlockInGrammar k
-      → BlockInGrammar (drawing (spelling own) last n k)
+      → BlockInGrammar (drawing (by_names own) last n k)
   drawing_in_grammar zero k le h = h
   drawing_in_grammar (suc n) k le h = (
     tt,
@@ -181,31 +177,31 @@ module _ (own : List Name) (last d : ℕ) (small : last < most_rounds) (few : d 
   )
 
   some_target : (x : Name) (xs : List Name) (r : RightSide Name) (rs : List (RightSide Name))
-      → 0 < length (targets (spelling own) last (x ∷ xs) (r ∷ rs))
+      → 0 < length (targets (by_names own) last (x ∷ xs) (r ∷ rs))
   some_target x xs r rs =
-      let here : List Name = map (λ k. copy_name k x) (all_rounds (spelling own) last) in
+      let here : List Name = map (λ k. copy_name k x) (all_rounds (by_names own) last) in
       by_test (is_declared x.text own)
       (λ e.
-      subst (λ c. 0 < length (cond (not c) (here ++ targets (spelling own) last xs rs) (x ∷ targets (spelling own) last xs rs))) (sym e)
+      subst (λ c. 0 < length (cond (not c) (here ++ targets (by_names own) last xs rs) (x ∷ targets (by_names own) last xs rs))) (sym e)
       (omega arith))
       (λ e.
-      subst (λ c. 0 < length (cond (not c) (here ++ targets (spelling own) last xs rs) (x ∷ targets (spelling own) last xs rs))) (sym e)
+      subst (λ c. 0 < length (cond (not c) (here ++ targets (by_names own) last xs rs) (x ∷ targets (by_names own) last xs rs))) (sym e)
       (omega arith))
 
   some_targets : (xs : List Name) (rs : List (RightSide Name)) → 0 < length xs → 0 < length rs
-      → 0 < length (targets (spelling own) last xs rs)
+      → 0 < length (targets (by_names own) last xs rs)
   some_targets [] rs h g = absurd (omega arith)
   some_targets (x ∷ xs) [] h g = absurd (omega arith)
   some_targets (x ∷ xs) (r ∷ rs) h g = some_target x xs r rs
 
   statement_in_grammar : (m : Mark Name) (c : Simple Name Name Name) (b k : Block Name Name Name) → SimpleInGrammar c
-      → temporaries (spelling own).is_shared (one m c b) ≤ d → BlockInGrammar k → BlockInGrammar (statement (spelling own) last c k)
+      → temporaries (by_names own).is_shared (one m c b) ≤ d → BlockInGrammar k → BlockInGrammar (statement (by_names own) last c k)
   statement_in_grammar m skip b k w room h = (tt, tt, h)
   statement_in_grammar m (assign xs rs) b k w room h =
-      drawing_in_grammar (draws (spelling own).is_shared xs rs)
-      (one no_mark (assign (targets (spelling own) last xs rs) (sides (spelling own) last 0 xs rs)) k) (omega arith) (
+      drawing_in_grammar (draws (by_names own).is_shared xs rs)
+      (one no_mark (assign (targets (by_names own) last xs rs) (sides (by_names own) last 0 xs rs)) k) (omega arith) (
         tt,
-        assign_in_grammar (targets (spelling own) last xs rs) (sides (spelling own) last 0 xs rs) (some_targets xs rs w.0 w.2)
+        assign_in_grammar (targets (by_names own) last xs rs) (sides (by_names own) last 0 xs rs) (some_targets xs rs w.0 w.2)
             (sides_even own last 0 xs rs)
             (targets_held own last d IsId IsId held xs rs (ids_each xs w.1))
             (sides_use own last d IsId IsId held 0 xs rs (ids_each xs w.1) (sides_use_ids rs w.3) (omega arith)),
@@ -213,7 +209,7 @@ module _ (own : List Name) (last d : ℕ) (small : last < most_rounds) (few : d 
       )
   statement_in_grammar m (assert r) b k w room h = (
     tt,
-    side_ids_used (side (spelling own) last r) (side_uses own last d IsId IsId held r (side_uses_ids r w)),
+    side_ids_used (side (by_names own) last r) (side_uses own last d IsId IsId held r (side_uses_ids r w)),
     tt,
     (tt, tt, tt),
     tt,
@@ -226,21 +222,21 @@ module _ (own : List Name) (last d : ℕ) (small : last < most_rounds) (few : d 
     h,
   )
   statement_in_grammar m (assume r) b k w room h =
-      (tt, side_ids_used (side (spelling own) last r) (side_uses own last d IsId IsId held r (side_uses_ids r w)), h)
+      (tt, side_ids_used (side (by_names own) last r) (side_uses own last d IsId IsId held r (side_uses_ids r w)), h)
   statement_in_grammar m (goto l) b k w room h = (tt, w, h)
   statement_in_grammar m leave b k w room h = (tt, tt, h)
   statement_in_grammar m (leave_with e) b k w room h =
-      (tt, ids_used (expression_form (spelling own) last e) (expression_uses own last d IsId IsId held e (uses_ids e w)), h)
+      (tt, ids_used (expression_form (by_names own) last e) (expression_uses own last d IsId IsId held e (uses_ids e w)), h)
   statement_in_grammar m (call_for x q es) b k w room h =
-      let taken : receiver_draws (spelling own).is_shared (Some x) ≤ d = omega arith in (
+      let taken : receiver_draws (by_names own).is_shared (Some x) ≤ d = omega arith in (
         tt,
         (
           receiver_held own last d IsId IsId held x w.0 taken,
           w.1,
-          arguments_ids_used (map (expression_form (spelling own) last) es)
+          arguments_ids_used (map (expression_form (by_names own) last) es)
               (arguments_use own last d IsId IsId held es (arguments_use_ids es w.2)),
         ),
-        stop_test_in_grammar (cond ((spelling own).is_shared x) (received (spelling own) last x k) k)
+        stop_test_in_grammar (cond ((by_names own).is_shared x) (received (by_names own) last x k) k)
             (landing_has own last d IsId IsId held BlockInGrammar x k w.0 taken h
             (λ xs rs some even hx hr.
             prologue_in_grammar no_mark (one no_mark (assign xs rs) k) tt (tt, assign_in_grammar xs rs some even hx hr, h))),
@@ -249,25 +245,25 @@ module _ (own : List Name) (last d : ℕ) (small : last < most_rounds) (few : d 
     tt,
     (
       w.0,
-      arguments_ids_used (map (expression_form (spelling own) last) es)
+      arguments_ids_used (map (expression_form (by_names own) last) es)
           (arguments_use own last d IsId IsId held es (arguments_use_ids es w.1)),
     ),
     stop_test_in_grammar k h,
   )
 
-  block_in_grammar : (b : Block Name Name Name) → BlockInGrammar b → temporaries (spelling own).is_shared b ≤ d
-      → BlockInGrammar (rewritten (spelling own) last b)
+  block_in_grammar : (b : Block Name Name Name) → BlockInGrammar b → temporaries (by_names own).is_shared b ≤ d
+      → BlockInGrammar (rewritten (by_names own) last b)
   block_in_grammar done h room = tt
   block_in_grammar (one m c k) h room =
-      prologue_in_grammar m (statement (spelling own) last c (rewritten (spelling own) last k)) h.0
-      (statement_in_grammar m c k (rewritten (spelling own) last k) h.1 room
-      (block_in_grammar k h.2 (rest_room (spelling own).is_shared d m c k room)))
+      prologue_in_grammar m (statement (by_names own) last c (rewritten (by_names own) last k)) h.0
+      (statement_in_grammar m c k (rewritten (by_names own) last k) h.1 room
+      (block_in_grammar k h.2 (rest_room (by_names own).is_shared d m c k room)))
   block_in_grammar (choose m r a b k) h room =
       prologue_in_grammar m
-      (choose no_mark (side (spelling own) last r) (rewritten (spelling own) last a) (rewritten (spelling own) last b)
-      (rewritten (spelling own) last k)) h.0 (
+      (choose no_mark (side (by_names own) last r) (rewritten (by_names own) last a) (rewritten (by_names own) last b)
+      (rewritten (by_names own) last k)) h.0 (
         tt,
-        side_ids_used (side (spelling own) last r) (side_uses own last d IsId IsId held r (side_uses_ids r h.1)),
+        side_ids_used (side (by_names own) last r) (side_uses own last d IsId IsId held r (side_uses_ids r h.1)),
         some_rewritten a h.2,
         block_in_grammar a h.3 (omega arith),
         some_rewritten b h.4,
@@ -276,12 +272,12 @@ module _ (own : List Name) (last d : ℕ) (small : last < most_rounds) (few : d 
       )
   block_in_grammar (loop m r a k) h room =
       prologue_in_grammar m
-      (loop no_mark (side (spelling own) last r) (join (rewritten (spelling own) last a) (prologue (spelling own) last no_mark done))
-      (rewritten (spelling own) last k)) h.0 (
+      (loop no_mark (side (by_names own) last r) (join (rewritten (by_names own) last a) (prologue (by_names own) last no_mark done))
+      (rewritten (by_names own) last k)) h.0 (
         tt,
-        side_ids_used (side (spelling own) last r) (side_uses own last d IsId IsId held r (side_uses_ids r h.1)),
-        some_joined (rewritten (spelling own) last a) (prologue (spelling own) last no_mark done) tt,
-        join_in_grammar (rewritten (spelling own) last a) (prologue (spelling own) last no_mark done) (block_in_grammar a h.3 (omega arith))
+        side_ids_used (side (by_names own) last r) (side_uses own last d IsId IsId held r (side_uses_ids r h.1)),
+        some_joined (rewritten (by_names own) last a) (prologue (by_names own) last no_mark done) tt,
+        join_in_grammar (rewritten (by_names own) last a) (prologue (by_names own) last no_mark done) (block_in_grammar a h.3 (omega arith))
             (prologue_in_grammar no_mark done tt tt),
         block_in_grammar k h.4 (omega arith),
       )
@@ -309,16 +305,16 @@ procedures_in_grammar last small (p ∷ ps) few h =
 module _ (last : ℕ) (small : last < most_rounds) where
   rows_ids : (write : ℕ → Name → Name) → ((k : ℕ) (x : Name) → k < most_rounds → IsId x → IsId (write k x)) →
       (xs : List Name) → AllByRecursion IsId xs → (j m : ℕ) → j + m ≤ most_rounds
-      → AllByRecursion IsId (copied (spelling []) last write xs (numbers j m))
+      → AllByRecursion IsId (copied (by_names []) last write xs (numbers j m))
   rows_ids write f xs h j zero le = tt
   rows_ids write f xs h j (suc m) le =
-      each_both IsId (map (write j) xs) (copied (spelling []) last write xs (numbers (suc j) m))
+      each_both IsId (map (write j) xs) (copied (by_names []) last write xs (numbers (suc j) m))
       (written_each IsId IsId (write j) xs (λ x i. f j x (omega arith) i) h) (rows_ids write f xs h (suc j) m (omega arith))
 
-  globals_ids : (xs : List Name) → AllByRecursion IsId xs → AllByRecursion IsId (globals (spelling []) last xs)
+  globals_ids : (xs : List Name) → AllByRecursion IsId xs → AllByRecursion IsId (globals (by_names []) last xs)
   globals_ids xs h =
-      let A : List Name = copied (spelling []) last copy_name xs (numbers 0 (suc last)) in
-      let B : List Name = copied (spelling []) last save_name xs (numbers 1 last) in
+      let A : List Name = copied (by_names []) last copy_name xs (numbers 0 (suc last)) in
+      let B : List Name = copied (by_names []) last save_name xs (numbers 1 last) in
       let bits : List Name = reverse (bit_names (round_bits last)) in
       let lasts : List Name = fresh_name (codes "stop__") ∷ fresh_name (codes "bad__") ∷ [] in
       each_both IsId (A ++ B ++ bits) lasts
@@ -334,7 +330,7 @@ module _ (last : ℕ) (small : last < most_rounds) where
   reads_ids k (x ∷ xs) lt h = (copy_id k x lt h.0, reads_ids k xs lt h.1)
 
   guess_in_grammar : (xs : List Name) (k : ℕ) (b : Block Name Name Name) → k < most_rounds → AllByRecursion IsId xs →
-      BlockInGrammar b → BlockInGrammar (guess (spelling []) last xs k b)
+      BlockInGrammar b → BlockInGrammar (guess (by_names []) last xs k b)
   guess_in_grammar [] k b lt h g = g
   guess_in_grammar (x ∷ xs) k b lt h g =
       let written : (write : ℕ → Name → Name) → ((k : ℕ) (x : Name) → k < most_rounds → IsId x → IsId (write k x)) →
@@ -354,59 +350,59 @@ module _ (last : ℕ) (small : last < most_rounds) where
 
   guesses_in_grammar : (xs : List Name) (k m : ℕ) (b : Block Name Name Name) → k + m ≤ most_rounds → AllByRecursion IsId xs
       → BlockInGrammar b
-      → BlockInGrammar (guesses (spelling []) last xs (numbers k m) b)
+      → BlockInGrammar (guesses (by_names []) last xs (numbers k m) b)
   guesses_in_grammar xs k zero b le h g = g
   guesses_in_grammar xs k (suc m) b le h g =
-      guess_in_grammar xs k (guesses (spelling []) last xs (numbers (suc k) m) b) (omega arith) h
+      guess_in_grammar xs k (guesses (by_names []) last xs (numbers (suc k) m) b) (omega arith) h
       (guesses_in_grammar xs (suc k) m b (omega arith) h g)
 
   starts_in_grammar : (lines : List ThreadLine) (b : Block Name Name Name) → AllByRecursion ThreadInGrammar lines → BlockInGrammar b
-      → BlockInGrammar (starts (spelling []) last (map (λ (line : ThreadLine). line.name) lines) b)
+      → BlockInGrammar (starts (by_names []) last (map (λ (line : ThreadLine). line.name) lines) b)
   starts_in_grammar [] b s g = g
   starts_in_grammar (line ∷ lines) b s g = (
     tt,
-    assign_in_grammar (reset_targets (spelling []) last) (each (value (const false)) (reset_targets (spelling []) last))
+    assign_in_grammar (reset_targets (by_names []) last) (each (value (const false)) (reset_targets (by_names []) last))
         (let sum = length-append (reverse (bit_names (round_bits last))) (fresh_name (codes "stop__") ∷ []) in omega (arith, sum))
-        (sym (length-map {B = RightSide Name} (reset_targets (spelling []) last) (λ x. value (const false))))
+        (sym (length-map {B = RightSide Name} (reset_targets (by_names []) last) (λ x. value (const false))))
         (each_both IsId (reverse (bit_names (round_bits last))) (fresh_name (codes "stop__") ∷ [])
         (each_reversed IsId (bit_names (round_bits last)) (bit_ids (round_bits last))) (stop_id, tt))
-        (zeros_use IsId (reset_targets (spelling []) last)),
+        (zeros_use IsId (reset_targets (by_names []) last)),
     (tt, (s.0, tt), starts_in_grammar lines b s.1 g),
   )
 
   check_in_grammar : (xs : List Name) (k : ℕ) (b : Block Name Name Name) → suc k < most_rounds → AllByRecursion IsId xs →
-      BlockInGrammar b → BlockInGrammar (check (spelling []) last xs k b)
+      BlockInGrammar b → BlockInGrammar (check (by_names []) last xs k b)
   check_in_grammar [] k b lt h g = g
   check_in_grammar (x ∷ xs) k b lt h g = (tt, (save_id (suc k) x lt h.0, copy_id k x (omega arith) h.0), check_in_grammar xs k b lt h.1 g)
 
   checks_in_grammar : (xs : List Name) (k m : ℕ) (b : Block Name Name Name) → k + m < most_rounds → AllByRecursion IsId xs
       → BlockInGrammar b
-      → BlockInGrammar (checks (spelling []) last xs (numbers k m) b)
+      → BlockInGrammar (checks (by_names []) last xs (numbers k m) b)
   checks_in_grammar xs k zero b le h g = g
   checks_in_grammar xs k (suc m) b le h g =
-      check_in_grammar xs k (checks (spelling []) last xs (numbers (suc k) m) b) (omega arith) h
+      check_in_grammar xs k (checks (by_names []) last xs (numbers (suc k) m) b) (omega arith) h
       (checks_in_grammar xs (suc k) m b (omega arith) h g)
 
   -- `main__` has a statement
-  some_guess : (xs : List Name) (k : ℕ) (b : Block Name Name Name) → IsSome b → IsSome (guess (spelling []) last xs k b)
+  some_guess : (xs : List Name) (k : ℕ) (b : Block Name Name Name) → IsSome b → IsSome (guess (by_names []) last xs k b)
   some_guess [] k b h = h
   some_guess (x ∷ xs) k b h = tt
 
   some_guesses : (xs : List Name) (k m : ℕ) (b : Block Name Name Name) → IsSome b
-      → IsSome (guesses (spelling []) last xs (numbers k m) b)
+      → IsSome (guesses (by_names []) last xs (numbers k m) b)
   some_guesses xs k zero b h = h
-  some_guesses xs k (suc m) b h = some_guess xs k (guesses (spelling []) last xs (numbers (suc k) m) b) (some_guesses xs (suc k) m b h)
+  some_guesses xs k (suc m) b h = some_guess xs k (guesses (by_names []) last xs (numbers (suc k) m) b) (some_guesses xs (suc k) m b h)
 
   some_starts : (lines : List ThreadLine) (b : Block Name Name Name) → 0 < length lines
-      → IsSome (starts (spelling []) last (map (λ (line : ThreadLine). line.name) lines) b)
+      → IsSome (starts (by_names []) last (map (λ (line : ThreadLine). line.name) lines) b)
   some_starts [] b lt = absurd (omega arith)
   some_starts (line ∷ lines) b lt = tt
 
   main_in_grammar : (t : Tree) → InGrammar t → ProcedureInGrammar (main_procedure last t)
   main_in_grammar t h =
       let ids : AllByRecursion IsId t.globals = ids_each t.globals h.globals in
-      let last_part : Block Name Name Name = checks (spelling []) last t.globals (numbers 0 last) done in
-      let second : Block Name Name Name = starts (spelling []) last (map (λ (line : ThreadLine). line.name) t.threads) last_part in
+      let last_part : Block Name Name Name = checks (by_names []) last t.globals (numbers 0 last) done in
+      let second : Block Name Name Name = starts (by_names []) last (map (λ (line : ThreadLine). line.name) t.threads) last_part in
       record {
         name = main_id;
         formals = tt;
@@ -424,7 +420,7 @@ rewritten_in_grammar t last small narrow h =
     let n : ℕ = global_count (length t.globals) last in
     let few : AreFew t.procedures = few_needs n t.procedures (narrow_procedures t last n refl narrow) in
     record {
-      globals = each_ids (globals (spelling []) last t.globals) (globals_ids last small t.globals (ids_each t.globals h.globals));
+      globals = each_ids (globals (by_names []) last t.globals) (globals_ids last small t.globals (ids_each t.globals h.globals));
       some_procedure = omega arith;
       procedures = (main_in_grammar last small t h, procedures_in_grammar last small t.procedures few h.procedures);
       some_thread = omega arith;

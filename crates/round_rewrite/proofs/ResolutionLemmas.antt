@@ -1,7 +1,6 @@
 -- The rewritten block by names, resolved, is the rewritten block by places of the resolved block.
-use Rattle.std.proofs.Common.{◌≡◌, ℕ, zero, suc, ◌+◌, ◌/◌, ◌%◌, ◌<◌, ◌≤◌, max, Bool, true, false, cond, not}
-use Rattle.std.proofs.Common.{List, [], ◌∷◌, ◌++◌, Some, length, map, reverse, codes, refl, sym, ◌∙◌, ap, subst, ap₂}
-use Rattle.std.proofs.Common.{arith}
+use Rattle.std.proofs.Common.{◌≡◌, ℕ, zero, suc, ◌+◌, ◌/◌, ◌%◌, ◌<◌, ◌≤◌, max, Bool, true, false, cond, not, List, [], ◌∷◌, ◌++◌, Some}
+use Rattle.std.proofs.Common.{length, map, reverse, codes, refl, sym, ◌∙◌, ap, subst, ap₂, arith}
 use Rattle.std.proofs.lemmas.List.{map-append}
 use Rattle.language.specs.Tree.{Name, Expression, const, var, negation, two, or, and, xor, RightSide, any, value, Simple, skip, assign}
 use Rattle.language.specs.Tree.{assert, assume, goto, leave, call, leave_with, call_for, Mark, Block, done, one, choose, loop, Tree}
@@ -10,13 +9,11 @@ use Rattle.language.specs.Rest.{Label, join}
 use Rattle.language.specs.Resolve.{number_of, is_declared, Scope, place_of, resolve_expression, resolve_side, resolve_simple, resolve_mark}
 use Rattle.language.specs.Resolve.{resolve_block}
 use Rattle.round_rewrite.specs.Table.{Naming, numbers, no_mark, literal, has_value, added, raised, each, reset_targets, in_round}
-use Rattle.round_rewrite.specs.Table.{read_by_round}
-use Rattle.round_rewrite.specs.Table.{read, expression_form, side, copy_value, all_rounds, targets}
-use Rattle.round_rewrite.specs.Table.{sides, draws, receiver_draws, temporaries, drawing, stop_test, prologue, received, receiver}
-use Rattle.round_rewrite.specs.Table.{statement}
-use Rattle.round_rewrite.specs.Table.{rewritten, draws_of}
+use Rattle.round_rewrite.specs.Table.{read_by_round, read, expression_form, side, copy_value, all_rounds, targets, sides, draws}
+use Rattle.round_rewrite.specs.Table.{receiver_draws, temporaries, drawing, stop_test, prologue, received, receiver, statement, rewritten}
+use Rattle.round_rewrite.specs.Table.{draws_of}
 use Rattle.round_rewrite.specs.Places.{places, is_global, copy_at, stop_at, bad_at}
-use Rattle.round_rewrite.specs.Names.{fresh_name, copy_name, drawn_name, spelling}
+use Rattle.round_rewrite.specs.Names.{fresh_name, copy_name, drawn_name, by_names}
 use Rattle.checked.specs.Rewritable.{Declared, AllDeclared, ExpressionDeclared, ExpressionsDeclared, SideDeclared, SidesDeclared}
 use Rattle.checked.specs.Rewritable.{SimpleDeclared, BlockDeclared}
 use Rattle.round_rewrite.proofs.RoundBitLemmas.{map-reversed}
@@ -77,7 +74,7 @@ module _ (t : Tree) (vocabulary : Vocabulary) (ps' : List Name)
   s' = wider vocabulary ps'
 
   abbrev pub N : Naming Name Name Name Name
-  N = spelling own
+  N = by_names own
 
   abbrev pub P : Naming Place Place ℕ ℕ
   P = places (length gs) last (length own)

@@ -1,6 +1,5 @@
 -- A rewritten block gives a value if the block does.
-use Rattle.std.proofs.Common.{◌≡◌, ℕ, zero, suc, Bool, true, false, ◌||◌, cond, List, [], ◌∷◌, refl, sym, ◌∙◌}
-use Rattle.std.proofs.Common.{ap, ap₂}
+use Rattle.std.proofs.Common.{◌≡◌, ℕ, zero, suc, Bool, true, false, ◌||◌, cond, List, [], ◌∷◌, refl, sym, ◌∙◌, ap, ap₂}
 use Rattle.language.specs.Tree.{Simple, skip, assign, assert, assume, goto, leave, call, leave_with, call_for, Block, done, one, choose}
 use Rattle.language.specs.Tree.{loop}
 use Rattle.language.specs.Parts as parts

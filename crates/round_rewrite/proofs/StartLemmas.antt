@@ -1,8 +1,6 @@
 -- The first procedure runs the threads, one after the other, both ways.
-use Rattle.std.proofs.Common.{◌≡◌, ℕ, suc, ◌+◌, ◌-◌, Bool, true, false, List, [], ◌∷◌, ◌++◌, length, map}
-use Rattle.std.proofs.Common.{reverse, Option}
-use Rattle.std.proofs.Common.{Some, None, option_map, slice_get, refl, sym, ◌∙◌, ap, ap₂, subst, arith, length-append}
-use Rattle.std.proofs.Common.{◌⊎◌, inl, inr}
+use Rattle.std.proofs.Common.{◌≡◌, ℕ, suc, ◌+◌, ◌-◌, Bool, true, false, List, [], ◌∷◌, ◌++◌, length, map, reverse, Option, Some, None}
+use Rattle.std.proofs.Common.{option_map, slice_get, refl, sym, ◌∙◌, ap, ap₂, subst, arith, length-append, ◌⊎◌, inl, inr}
 use Rattle.language.specs.Tree.{RightSide, value, const, assign, call, one}
 use Rattle.language.specs.Value.{Place, global, with_bit, written_globals, written_locals}
 use Rattle.language.specs.Rest.{Code}
@@ -13,8 +11,7 @@ use Rattle.round_rewrite.specs.Table.{Naming, no_mark, temporaries, each, reset_
 use Rattle.round_rewrite.specs.Places.{places, is_global, bits_at, bits_from, stop_at}
 use Rattle.resolved.specs.Scoped.{EachThread}
 use Rattle.round_rewrite.proofs.RoundBitLemmas.{low_first, Outside, outside_both, outside_bits, frame_kept, certain_zeros, one_choice}
-use Rattle.round_rewrite.proofs.RoundBitLemmas.{zeros_are}
-use Rattle.round_rewrite.proofs.RoundBitLemmas.{written_both, zeros_first, length-bits, length-reversed_low}
+use Rattle.round_rewrite.proofs.RoundBitLemmas.{zeros_are, written_both, zeros_first, length-bits, length-reversed_low}
 use Rattle.round_rewrite.proofs.LayoutLemmas.{Long, AreRows, bits_of, lay, Shape, stop_with, bits_written}
 use Rattle.round_rewrite.proofs.Plain.{PlainAfter}
 use Rattle.round_rewrite.proofs.RunLemmas.{Leads}

@@ -1,7 +1,6 @@
 -- A run of a rewritten thread down to the first procedure is the thread's turns, or turns that fail.
-use Rattle.std.proofs.Common.{◌≡◌, ℕ, zero, suc, ◌+◌, ◌<◌, ◌≤◌, Bool, true, false, List, [], ◌∷◌, ◌++◌}
-use Rattle.std.proofs.Common.{Option, Some, None, slice_get, length, map, refl, sym, ◌∙◌, ap, subst, arith, append_assoc}
-use Rattle.std.proofs.Common.{length-append, ◌⊎◌, inl, inr}
+use Rattle.std.proofs.Common.{◌≡◌, ℕ, zero, suc, ◌+◌, ◌<◌, ◌≤◌, Bool, true, false, List, [], ◌∷◌, ◌++◌, Option, Some, None, slice_get}
+use Rattle.std.proofs.Common.{length, map, refl, sym, ◌∙◌, ap, subst, arith, append_assoc, length-append, ◌⊎◌, inl, inr}
 use Rattle.std.proofs.lemmas.List.{get_or-set_same, length-set}
 use Rattle.language.specs.Tree.{done, one, choose, loop}
 use Rattle.language.specs.Value.{Place, global, local, bit, with_bit}
@@ -10,8 +9,7 @@ use Rattle.language.specs.Step.{Frame, frame, State, state, result_of, given_bac
 use Rattle.round_rewrite.specs.Table.{no_mark, prologue, received, temporaries}
 use Rattle.round_rewrite.specs.Places.{places, is_global}
 use Rattle.round_rewrite.proofs.LayoutLemmas.{row, row_middle, with_middle, Long, long-append, bits_of, lay, Shape, Moment, globals_at}
-use Rattle.round_rewrite.proofs.LayoutLemmas.{turned}
-use Rattle.round_rewrite.proofs.LayoutLemmas.{row_long}
+use Rattle.round_rewrite.proofs.LayoutLemmas.{turned, row_long}
 use Rattle.round_rewrite.proofs.Plain.{PlainAfter}
 use Rattle.round_rewrite.proofs.Prologue.{Exits, rose, went, stopped, exits}
 use Rattle.round_rewrite.proofs.DrawLemmas.{landed, landed_back}

@@ -1,7 +1,6 @@
 -- How wide the procedures of the rewritten program are, and how many there are.
-use Rattle.std.proofs.Common.{◌≡◌, ℕ, zero, suc, ◌+◌, ◌<◌, ◌≤◌, cond, Some, inl, refl, slice_get, take, is_some}
-use Rattle.std.proofs.Common.{true≢false, List, [], ◌∷◌, ◌++◌, length, length-append, get_or, map, sym, ◌∙◌, ap}
-use Rattle.std.proofs.Common.{subst, arith}
+use Rattle.std.proofs.Common.{◌≡◌, ℕ, zero, suc, ◌+◌, ◌<◌, ◌≤◌, cond, Some, inl, refl, slice_get, take, is_some, true≢false, List, [], ◌∷◌}
+use Rattle.std.proofs.Common.{◌++◌, length, length-append, get_or, map, sym, ◌∙◌, ap, subst, arith}
 use Rattle.std.proofs.lemmas.List.{length-map}
 use Rattle.std.proofs.lemmas.Option.{same_Some}
 use Rattle.std.specs.List.{AllByRecursion}
@@ -15,7 +14,7 @@ use Rattle.checked.specs.Checked.{IsChecked}
 use Rattle.resolved.specs.There.{IsThere}
 use Rattle.round_rewrite.specs.Table.{numbers}
 use Rattle.round_rewrite.specs.Places.{global_count}
-use Rattle.round_rewrite.specs.Names.{spelling, drawn_name, rewritten_procedure, main_procedure, rewritten_tree}
+use Rattle.round_rewrite.specs.Names.{by_names, drawn_name, rewritten_procedure, main_procedure, rewritten_tree}
 use Rattle.resolved.specs.Narrow.{width}
 use Rattle.round_rewrite.specs.Narrow.{rewritten_width, AreNarrow, IsNarrow}
 use Rattle.round_rewrite.specs.Writing.{own_width, procedure_needs, IsOwnNarrow, AreFew}
@@ -44,7 +43,7 @@ module _ (t : Tree) (last n : ℕ) (is : global_count (length t.globals) last �
       let sum : (length p.formals + (length p.locals + procedure_needs p)) + r ≡ own_width p = omega arith in
       λ i.
       wide i
-      + ((λ j. own_places last p j + cond (gives_rewritten (spelling (p.formals ++ p.locals)) last p.body j) 1 0) ∙ sum) i
+      + ((λ j. own_places last p j + cond (gives_rewritten (by_names (p.formals ++ p.locals)) last p.body j) 1 0) ∙ sum) i
 
   into : (ps : List Procedure) → AreNarrow last t ps →
       AllByRecursion (λ p. width (rewritten_tree last t) p ≤ most_places) (map (rewritten_procedure last) ps)
@@ -65,7 +64,7 @@ module _ (t : Tree) (last n : ℕ) (is : global_count (length t.globals) last �
   no_result : frame_size (routine_of (rewritten_tree last t) (main_procedure last t)) ≡ 0
   no_result =
       ap (λ b. 0 + cond b 1 0)
-      (gives_main Name (spelling []) last t.globals (map (λ (line : ThreadLine). line.name) t.threads))
+      (gives_main Name (by_names []) last t.globals (map (λ (line : ThreadLine). line.name) t.threads))
 
   -- the program is narrow if the globals are at most 64 and each procedure of the source is when it is rewritten
   pub narrow : n ≤ most_places → AreNarrow last t t.procedures → IsNarrow last t

@@ -1,14 +1,11 @@
 -- Each statement of a checked tree rewritten works: its variables are declared, what it calls and goes to is there, and
 -- each target has its right side. So the rewritten tree resolves.
-use Rattle.std.proofs.Common.{◌≡◌, ℕ, zero, suc, ◌+◌, ◌<◌, ◌≤◌, Bool, true, false, cond, List, [], ◌∷◌}
-use Rattle.std.proofs.Common.{◌++◌, length, map, reverse, codes, Option, Some, None, option_map, inl, inr, refl, sym, ◌∙◌, ap}
-use Rattle.std.proofs.Common.{subst}
-use Rattle.std.proofs.Common.{ap₂, arith, append_assoc}
+use Rattle.std.proofs.Common.{◌≡◌, ℕ, zero, suc, ◌+◌, ◌<◌, ◌≤◌, Bool, true, false, cond, List, [], ◌∷◌, ◌++◌, length, map, reverse, codes}
+use Rattle.std.proofs.Common.{Option, Some, None, option_map, inl, inr, refl, sym, ◌∙◌, ap, subst, ap₂, arith, append_assoc}
 use Rattle.std.proofs.lemmas.List.{length-map, reverse-reverse}
 use Rattle.std.specs.List.{AllByRecursion}
 use Rattle.language.specs.Tree.{Name, const, var, RightSide, any, value, Simple, skip, assign, assert, assume, goto, leave, call}
-use Rattle.language.specs.Tree.{leave_with}
-use Rattle.language.specs.Tree.{call_for, Mark, Block, done, one, choose, loop, Procedure, ThreadLine, Tree}
+use Rattle.language.specs.Tree.{leave_with, call_for, Mark, Block, done, one, choose, loop, Procedure, ThreadLine, Tree}
 use Rattle.language.specs.Rest.{same_text, join}
 use Rattle.language.specs.Resolve.{is_declared}
 use Rattle.language.proofs.Names.{declared_first}
@@ -25,11 +22,10 @@ use Rattle.checked.proofs.Resolving.{labels_append, working_resolves}
 use Rattle.checked.proofs.Rewriting.{checked_rewritable}
 use Rattle.round_rewrite.specs.Table as table
 use Rattle.round_rewrite.specs.Table.{numbers, temporaries, raised, each, reset_targets, in_round, expression_form, side, targets, sides}
-use Rattle.round_rewrite.specs.Table.{draws, drawing, stop_test, prologue}
-use Rattle.round_rewrite.specs.Table.{receiver_draws, received, statement, rewritten, guess, guesses, starts, check, checks, main, copied}
-use Rattle.round_rewrite.specs.Table.{globals}
+use Rattle.round_rewrite.specs.Table.{draws, drawing, stop_test, prologue, receiver_draws, received, statement, rewritten, guess, guesses}
+use Rattle.round_rewrite.specs.Table.{starts, check, checks, main, copied, globals}
 use Rattle.round_rewrite.specs.Names as renamed
-use Rattle.round_rewrite.specs.Names.{bit_names, copy_name, save_name, drawn_name, spelling, rewritten_procedure, main_procedure}
+use Rattle.round_rewrite.specs.Names.{bit_names, copy_name, save_name, drawn_name, by_names, rewritten_procedure, main_procedure}
 use Rattle.round_rewrite.specs.Names.{rewritten_tree}
 use Rattle.round_rewrite.proofs.SpellingLemmas.{same_text_refl}
 use Rattle.round_rewrite.proofs.NumberingLemmas.{number_right, number_left, in_rows}
@@ -106,45 +102,45 @@ labels_join (loop m r x t) b e =
 -- the labels of a rewritten block are those of the block
 module _ (own : List Name) (last : ℕ) where
   drawing_labels : (n : ℕ) (k : Block Name Name Name)
-      → labels_of (statements_of (drawing (spelling own) last n k)) ≡ labels_of (statements_of k)
+      → labels_of (statements_of (drawing (by_names own) last n k)) ≡ labels_of (statements_of k)
   drawing_labels zero k = refl
   drawing_labels (suc n) k = refl
 
   statement_labels : (c : Simple Name Name Name) (k : Block Name Name Name)
-      → labels_of (statements_of (statement (spelling own) last c k)) ≡ labels_of (statements_of k)
+      → labels_of (statements_of (statement (by_names own) last c k)) ≡ labels_of (statements_of k)
   statement_labels skip k = refl
   statement_labels (assign xs rs) k =
-      drawing_labels (draws (spelling own).is_shared xs rs)
-      (one table.no_mark (assign (targets (spelling own) last xs rs) (sides (spelling own) last 0 xs rs)) k)
+      drawing_labels (draws (by_names own).is_shared xs rs)
+      (one table.no_mark (assign (targets (by_names own) last xs rs) (sides (by_names own) last 0 xs rs)) k)
   statement_labels (assert r) k = refl
   statement_labels (assume r) k = refl
   statement_labels (goto l) k = refl
   statement_labels leave k = refl
   statement_labels (call q es) k = refl
   statement_labels (leave_with e) k = refl
-  statement_labels (call_for x q es) k = landing_labels ((spelling own).is_shared x)
+  statement_labels (call_for x q es) k = landing_labels ((by_names own).is_shared x)
     where
       landing_labels : (c : Bool)
-          → labels_of (statements_of (cond c (received (spelling own) last x k) k)) ≡ labels_of (statements_of k)
+          → labels_of (statements_of (cond c (received (by_names own) last x k) k)) ≡ labels_of (statements_of k)
       landing_labels true = refl
       landing_labels false = refl
 
-  pub labels_kept : (b : Block Name Name Name) → labels_of (statements_of (rewritten (spelling own) last b)) ≡ labels_of (statements_of b)
+  pub labels_kept : (b : Block Name Name Name) → labels_of (statements_of (rewritten (by_names own) last b)) ≡ labels_of (statements_of b)
   labels_kept done = refl
-  labels_kept (one m c k) = ap (λ l. label_of m.label ++ l) (statement_labels c (rewritten (spelling own) last k) ∙ labels_kept k)
+  labels_kept (one m c k) = ap (λ l. label_of m.label ++ l) (statement_labels c (rewritten (by_names own) last k) ∙ labels_kept k)
   labels_kept (choose m r a b k) =
       ap (λ l. label_of m.label ++ l)
-      (labels_both (statements_of (rewritten (spelling own) last a)) (statements_of a)
-      (statements_of (rewritten (spelling own) last b) ++ statements_of (rewritten (spelling own) last k))
+      (labels_both (statements_of (rewritten (by_names own) last a)) (statements_of a)
+      (statements_of (rewritten (by_names own) last b) ++ statements_of (rewritten (by_names own) last k))
       (statements_of b ++ statements_of k) (labels_kept a)
-      (labels_both (statements_of (rewritten (spelling own) last b)) (statements_of b) (statements_of (rewritten (spelling own) last k))
+      (labels_both (statements_of (rewritten (by_names own) last b)) (statements_of b) (statements_of (rewritten (by_names own) last k))
       (statements_of k) (labels_kept b) (labels_kept k)))
   labels_kept (loop m r a k) =
       ap (λ l. label_of m.label ++ l)
-      (labels_both (statements_of (join (rewritten (spelling own) last a) (prologue (spelling own) last table.no_mark done)))
+      (labels_both (statements_of (join (rewritten (by_names own) last a) (prologue (by_names own) last table.no_mark done)))
       (statements_of a)
-      (statements_of (rewritten (spelling own) last k)) (statements_of k)
-      (labels_join (rewritten (spelling own) last a) (prologue (spelling own) last table.no_mark done) refl ∙ labels_kept a)
+      (statements_of (rewritten (by_names own) last k)) (statements_of k)
+      (labels_join (rewritten (by_names own) last a) (prologue (by_names own) last table.no_mark done) refl ∙ labels_kept a)
       (labels_kept k))
 
 -- the procedure of a name, rewritten
@@ -185,10 +181,10 @@ module _ (t : Tree) (last : ℕ) (ok : IsChecked t) (small : last < most_rounds)
 
   -- the globals of the rewritten tree, part by part
   abbrev A : List Name
-  A = copied (spelling []) last copy_name t.globals (numbers 0 (suc last))
+  A = copied (by_names []) last copy_name t.globals (numbers 0 (suc last))
 
   abbrev B : List Name
-  B = copied (spelling []) last save_name t.globals (numbers 1 last)
+  B = copied (by_names []) last save_name t.globals (numbers 1 last)
 
   abbrev bits : List Name
   bits = reverse (bit_names (round_bits last))
@@ -199,7 +195,7 @@ module _ (t : Tree) (last : ℕ) (ok : IsChecked t) (small : last < most_rounds)
       let z : 0 + k ≡ k = omega arith in
       let inA : is_declared (copy_name k x).text A ≡ true =
       subst (λ y. is_declared (copy_name y x).text A ≡ true) z
-      (in_rows (spelling []) last copy_name t.globals copies_spelled x h k 0 (suc last) (omega arith) (omega arith)).0 in
+      (in_rows (by_names []) last copy_name t.globals copies_spelled x h k 0 (suc last) (omega arith) (omega arith)).0 in
       declared_first (copy_name k x).text (A ++ B ++ bits) last_names
       (declared_first (copy_name k x).text (A ++ B) bits (declared_first (copy_name k x).text A B inA))
 
@@ -209,7 +205,7 @@ module _ (t : Tree) (last : ℕ) (ok : IsChecked t) (small : last < most_rounds)
       let z : 1 + k ≡ suc k = omega arith in
       let inB : is_declared (save_name (suc k) x).text B ≡ true =
       subst (λ y. is_declared (save_name y x).text B ≡ true) z
-      (in_rows (spelling []) last save_name t.globals saves_spelled x h k 1 last lt (omega arith)).0 in
+      (in_rows (by_names []) last save_name t.globals saves_spelled x h k 1 last lt (omega arith)).0 in
       declared_first (save_name (suc k) x).text (A ++ B ++ bits) last_names
       (declared_first (save_name (suc k) x).text (A ++ B) bits (declared_right (save_name (suc k) x).text A B inB))
 
@@ -266,7 +262,7 @@ module _ (t : Tree) (last : ℕ) (ok : IsChecked t) (small : last < most_rounds)
     leave_works = record { variables = tt; called = tt; sides = λ is. refl; labelled = tt }
 
     stop_test_works : (k : Block Name Name Name) (own : List Name) → Work (statements_of k)
-        → Work (statements_of (stop_test (spelling own) last k))
+        → Work (statements_of (stop_test (by_names own) last k))
     stop_test_works k own h = (test_works _ (stop_in, tt), (leave_works, (skip_works, h)))
 
   -- in a procedure that is rewritten
@@ -275,7 +271,7 @@ module _ (t : Tree) (last : ℕ) (ok : IsChecked t) (small : last < most_rounds)
     own = p.formals ++ p.locals
 
     abbrev drawn : ℕ
-    drawn = temporaries (spelling own).is_shared p.body
+    drawn = temporaries (by_names own).is_shared p.body
 
     abbrev temps : List Name
     temps = map drawn_name (numbers 0 drawn)
@@ -316,7 +312,7 @@ module _ (t : Tree) (last : ℕ) (ok : IsChecked t) (small : last < most_rounds)
     }
 
     prologue_works : (m : Mark Name) (k : Block Name Name Name) → Work p' (statements_of k)
-        → Work p' (statements_of (prologue (spelling own) last m k))
+        → Work p' (statements_of (prologue (by_names own) last m k))
     prologue_works m k h = (
       test_works p' any tt,
       (
@@ -341,7 +337,7 @@ module _ (t : Tree) (last : ℕ) (ok : IsChecked t) (small : last < most_rounds)
     )
 
     drawing_works : (n : ℕ) (k : Block Name Name Name) → n ≤ drawn → Work p' (statements_of k)
-        → Work p' (statements_of (drawing (spelling own) last n k))
+        → Work p' (statements_of (drawing (by_names own) last n k))
     drawing_works zero k le h = h
     drawing_works (suc n) k le h = (
       assign_works p' (map drawn_name (numbers 0 (suc n))) (map (λ x. any) (numbers 0 (suc n)))
@@ -357,14 +353,14 @@ module _ (t : Tree) (last : ℕ) (ok : IsChecked t) (small : last < most_rounds)
     label_there l h = ap (is_declared l.text) (labels_kept own last p.body) ∙ h
 
     statement_works : (m : Mark Name) (c : Simple Name Name Name) (b k : Block Name Name Name) → Was (plain c)
-        → temporaries (spelling own).is_shared (one m c b) ≤ drawn → Work p' (statements_of k)
-        → Work p' (statements_of (statement (spelling own) last c k))
+        → temporaries (by_names own).is_shared (one m c b) ≤ drawn → Work p' (statements_of k)
+        → Work p' (statements_of (statement (by_names own) last c k))
     statement_works m skip b k w room h = (skip_works p', h)
     statement_works m (assign xs rs) b k w room h =
-        drawing_works (draws (spelling own).is_shared xs rs)
-        (one table.no_mark (assign (targets (spelling own) last xs rs) (sides (spelling own) last 0 xs rs)) k) (omega arith) (
-          assign_works p' (targets (spelling own) last xs rs) (sides (spelling own) last 0 xs rs)
-              (each_both (In p') (targets (spelling own) last xs rs) _
+        drawing_works (draws (by_names own).is_shared xs rs)
+        (one table.no_mark (assign (targets (by_names own) last xs rs) (sides (by_names own) last 0 xs rs)) k) (omega arith) (
+          assign_works p' (targets (by_names own) last xs rs) (sides (by_names own) last 0 xs rs)
+              (each_both (In p') (targets (by_names own) last xs rs) _
               (targets_held own last drawn (In p') Known held xs rs (each_left _ xs _ w.variables))
               (sides_use own last drawn (In p') Known held 0 xs rs (each_left _ xs _ w.variables)
               (each_left _ (variables_of_sides rs) [] (each_right _ xs _ w.variables)) (omega arith)))
@@ -372,7 +368,7 @@ module _ (t : Tree) (last : ℕ) (ok : IsChecked t) (small : last < most_rounds)
           h,
         )
     statement_works m (assert r) b k w room h = (
-      test_works p' (side (spelling own) last r)
+      test_works p' (side (by_names own) last r)
           (side_uses own last drawn (In p') Known held r (each_left _ (variables_of_side r) [] w.variables)),
       (
         skip_works p',
@@ -383,7 +379,7 @@ module _ (t : Tree) (last : ℕ) (ok : IsChecked t) (small : last < most_rounds)
       ),
     )
     statement_works m (assume r) b k w room h = (
-      assume_works p' (side (spelling own) last r)
+      assume_works p' (side (by_names own) last r)
           (side_uses own last drawn (In p') Known held r (each_left _ (variables_of_side r) [] w.variables)),
       h,
     )
@@ -400,19 +396,19 @@ module _ (t : Tree) (last : ℕ) (ok : IsChecked t) (small : last < most_rounds)
       h,
     )
     statement_works m (call_for x q es) b k w room h =
-        let taken : receiver_draws (spelling own).is_shared (Some x) ≤ drawn = omega arith in (
+        let taken : receiver_draws (by_names own).is_shared (Some x) ≤ drawn = omega arith in (
           record {
             variables = (
               receiver_held own last drawn (In p') Known held x w.variables.0 taken,
               arguments_use own last drawn (In p') Known held es w.variables.1,
             );
             called =
-                subst (λ n. Takes (named q.text t'.procedures) n) (sym (length-map es (expression_form (spelling own) last)))
+                subst (λ n. Takes (named q.text t'.procedures) n) (sym (length-map es (expression_form (by_names own) last)))
                 (takes_there q (length es) w.called);
             sides = λ is. cc;
             labelled = tt;
           },
-          stop_test_works p' (cond ((spelling own).is_shared x) (received (spelling own) last x k) k) own
+          stop_test_works p' (cond ((by_names own).is_shared x) (received (by_names own) last x k) k) own
               (landing_has own last drawn (In p') Known held (λ b. Work p' (statements_of b)) x k w.variables.0 taken h
               (λ xs rs some even hx hr.
               prologue_works table.no_mark (one table.no_mark (assign xs rs) k)
@@ -422,7 +418,7 @@ module _ (t : Tree) (last : ℕ) (ok : IsChecked t) (small : last < most_rounds)
       record {
         variables = arguments_use own last drawn (In p') Known held es w.variables;
         called =
-            subst (λ n. Takes (named q.text t'.procedures) n) (sym (length-map es (expression_form (spelling own) last)))
+            subst (λ n. Takes (named q.text t'.procedures) n) (sym (length-map es (expression_form (by_names own) last)))
             (takes_there q (length es) w.called);
         sides = λ is. refl;
         labelled = tt;
@@ -431,42 +427,42 @@ module _ (t : Tree) (last : ℕ) (ok : IsChecked t) (small : last < most_rounds)
     )
 
     block_works : (b : Block Name Name Name) → AllByRecursion (λ (s : Statement). Was s.head) (statements_of b)
-        → temporaries (spelling own).is_shared b ≤ drawn → Work p' (statements_of (rewritten (spelling own) last b))
+        → temporaries (by_names own).is_shared b ≤ drawn → Work p' (statements_of (rewritten (by_names own) last b))
     block_works done h room = tt
     block_works (one m c k) h room =
-        prologue_works m (statement (spelling own) last c (rewritten (spelling own) last k))
-        (statement_works m c k (rewritten (spelling own) last k) h.0 room
-        (block_works k h.1 (rest_room (spelling own).is_shared drawn m c k room)))
+        prologue_works m (statement (by_names own) last c (rewritten (by_names own) last k))
+        (statement_works m c k (rewritten (by_names own) last k) h.0 room
+        (block_works k h.1 (rest_room (by_names own).is_shared drawn m c k room)))
     block_works (choose m r a b k) h room =
         let W : Statement → Type 0 = λ s. Was s.head in
         let inside : AllByRecursion W (statements_of b ++ statements_of k) =
         each_right W (statements_of a) (statements_of b ++ statements_of k) h.1 in
         prologue_works m
-        (choose table.no_mark (side (spelling own) last r) (rewritten (spelling own) last a) (rewritten (spelling own) last b)
-        (rewritten (spelling own) last k)) (
-          test_works p' (side (spelling own) last r)
+        (choose table.no_mark (side (by_names own) last r) (rewritten (by_names own) last a) (rewritten (by_names own) last b)
+        (rewritten (by_names own) last k)) (
+          test_works p' (side (by_names own) last r)
               (side_uses own last drawn (In p') Known held r (each_left _ (variables_of_side r) [] h.0.variables)),
-          each_both (λ (s : Statement). Works t' p' s.head) (statements_of (rewritten (spelling own) last a))
-              (statements_of (rewritten (spelling own) last b) ++ statements_of (rewritten (spelling own) last k))
+          each_both (λ (s : Statement). Works t' p' s.head) (statements_of (rewritten (by_names own) last a))
+              (statements_of (rewritten (by_names own) last b) ++ statements_of (rewritten (by_names own) last k))
               (block_works a (each_left W (statements_of a) (statements_of b ++ statements_of k) h.1) (omega arith))
-              (each_both (λ (s : Statement). Works t' p' s.head) (statements_of (rewritten (spelling own) last b))
-              (statements_of (rewritten (spelling own) last k))
+              (each_both (λ (s : Statement). Works t' p' s.head) (statements_of (rewritten (by_names own) last b))
+              (statements_of (rewritten (by_names own) last k))
               (block_works b (each_left W (statements_of b) (statements_of k) inside) (omega arith))
               (block_works k (each_right W (statements_of b) (statements_of k) inside) (omega arith))),
         )
     block_works (loop m r a k) h room =
         let W : Statement → Type 0 = λ s. Was s.head in
         prologue_works m
-        (loop table.no_mark (side (spelling own) last r)
-        (join (rewritten (spelling own) last a) (prologue (spelling own) last table.no_mark done))
-        (rewritten (spelling own) last k)) (
-          test_works p' (side (spelling own) last r)
+        (loop table.no_mark (side (by_names own) last r)
+        (join (rewritten (by_names own) last a) (prologue (by_names own) last table.no_mark done))
+        (rewritten (by_names own) last k)) (
+          test_works p' (side (by_names own) last r)
               (side_uses own last drawn (In p') Known held r (each_left _ (variables_of_side r) [] h.0.variables)),
           each_both (λ (s : Statement). Works t' p' s.head)
-              (statements_of (join (rewritten (spelling own) last a) (prologue (spelling own) last table.no_mark done)))
-              (statements_of (rewritten (spelling own) last k))
-              (each_join (λ (s : Statement). Works t' p' s.head) (rewritten (spelling own) last a)
-              (prologue (spelling own) last table.no_mark done)
+              (statements_of (join (rewritten (by_names own) last a) (prologue (by_names own) last table.no_mark done)))
+              (statements_of (rewritten (by_names own) last k))
+              (each_join (λ (s : Statement). Works t' p' s.head) (rewritten (by_names own) last a)
+              (prologue (by_names own) last table.no_mark done)
               (block_works a (each_left W (statements_of a) (statements_of k) h.1) (omega arith)) (prologue_works table.no_mark done tt))
               (block_works k (each_right W (statements_of a) (statements_of k) h.1) (omega arith)),
         )
@@ -490,7 +486,7 @@ module _ (t : Tree) (last : ℕ) (ok : IsChecked t) (small : last < most_rounds)
   copies_read k (x ∷ xs) le h = (in_globals first (copy_name k x) (copies_there x h.0 k le), copies_read k xs le h.1)
 
   guess_works : (xs : List Name) (k : ℕ) (b : Block Name Name Name) → k < last → AllByRecursion Global xs → Work first (statements_of b)
-      → Work first (statements_of (guess (spelling []) last xs (suc k) b))
+      → Work first (statements_of (guess (by_names []) last xs (suc k) b))
   guess_works [] k b lt g h = h
   guess_works (x ∷ xs) k b lt g h =
       let copies : AllByRecursion (In first) (map (copy_name (suc k)) (x ∷ xs)) =
@@ -512,27 +508,27 @@ module _ (t : Tree) (last : ℕ) (ok : IsChecked t) (small : last < most_rounds)
 
   guesses_work : (xs : List Name) (k m : ℕ) (b : Block Name Name Name) → k + m ≤ last → AllByRecursion Global xs
       → Work first (statements_of b)
-      → Work first (statements_of (guesses (spelling []) last xs (numbers (suc k) m) b))
+      → Work first (statements_of (guesses (by_names []) last xs (numbers (suc k) m) b))
   guesses_work xs k zero b le g h = h
   guesses_work xs k (suc m) b le g h =
-      guess_works xs k (guesses (spelling []) last xs (numbers (suc (suc k)) m) b) (omega arith) g
+      guess_works xs k (guesses (by_names []) last xs (numbers (suc (suc k)) m) b) (omega arith) g
       (guesses_work xs (suc k) m b (omega arith) g h)
 
   starts_work : (lines : List ThreadLine) (b : Block Name Name Name) → AllByRecursion (Starts t.procedures) lines
       → Work first (statements_of b)
-      → Work first (statements_of (starts (spelling []) last (map (λ (line : ThreadLine). line.name) lines) b))
+      → Work first (statements_of (starts (by_names []) last (map (λ (line : ThreadLine). line.name) lines) b))
   starts_work [] b s h = h
   starts_work (line ∷ lines) b s h = (
-    assign_works first (reset_targets (spelling []) last) (each (value (const false)) (reset_targets (spelling []) last))
-        (each_both (In first) (reset_targets (spelling []) last) _
+    assign_works first (reset_targets (by_names []) last) (each (value (const false)) (reset_targets (by_names []) last))
+        (each_both (In first) (reset_targets (by_names []) last) _
         (each_both (In first) bits (renamed.fresh_name (codes "stop__") ∷ []) (bits_in first) (stop_in first, tt))
-        (zeros_use (In first) (reset_targets (spelling []) last)))
-        (sym (length-map {B = RightSide Name} (reset_targets (spelling []) last) (λ x. value (const false)))),
+        (zeros_use (In first) (reset_targets (by_names []) last)))
+        (sym (length-map {B = RightSide Name} (reset_targets (by_names []) last) (λ x. value (const false)))),
     (record { variables = tt; called = takes_there line.name 0 s.0; sides = λ is. refl; labelled = tt }, starts_work lines b s.1 h),
   )
 
   check_works : (xs : List Name) (k : ℕ) (b : Block Name Name Name) → k < last → AllByRecursion Global xs → Work first (statements_of b)
-      → Work first (statements_of (check (spelling []) last xs k b))
+      → Work first (statements_of (check (by_names []) last xs k b))
   check_works [] k b lt g h = h
   check_works (x ∷ xs) k b lt g h = (
     assume_works first _ (
@@ -544,18 +540,18 @@ module _ (t : Tree) (last : ℕ) (ok : IsChecked t) (small : last < most_rounds)
 
   checks_work : (xs : List Name) (k m : ℕ) (b : Block Name Name Name) → k + m ≤ last → AllByRecursion Global xs
       → Work first (statements_of b)
-      → Work first (statements_of (checks (spelling []) last xs (numbers k m) b))
+      → Work first (statements_of (checks (by_names []) last xs (numbers k m) b))
   checks_work xs k zero b le g h = h
   checks_work xs k (suc m) b le g h =
-      check_works xs k (checks (spelling []) last xs (numbers (suc k) m) b) (omega arith) g (checks_work xs (suc k) m b (omega arith) g h)
+      check_works xs k (checks (by_names []) last xs (numbers (suc k) m) b) (omega arith) g (checks_work xs (suc k) m b (omega arith) g h)
 
   main_works : AllByRecursion (λ (s : Statement). Works t' first s.head) (statements_of first.body)
   main_works =
       let g : AllByRecursion Global t.globals = each_declared t.globals t.globals (λ x h. h) in
       guesses_work t.globals 0 last
-      (starts (spelling []) last (map (λ (line : ThreadLine). line.name) t.threads)
-      (checks (spelling []) last t.globals (numbers 0 last) done)) (omega arith) g
-      (starts_work t.threads (checks (spelling []) last t.globals (numbers 0 last) done) (threads_start t ok)
+      (starts (by_names []) last (map (λ (line : ThreadLine). line.name) t.threads)
+      (checks (by_names []) last t.globals (numbers 0 last) done)) (omega arith) g
+      (starts_work t.threads (checks (by_names []) last t.globals (numbers 0 last) done) (threads_start t ok)
       (checks_work t.globals 0 last done (omega arith) g tt))
 
   -- the rewritten tree resolves

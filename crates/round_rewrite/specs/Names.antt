@@ -34,8 +34,8 @@ abbrev pub bit_names : ℕ → List Name
 bit_names count = map bit_name (numbers 0 count)
 
 -- the names in a procedure with these formals and locals
-abbrev pub spelling : List Name → Naming Name Name Name Name
-spelling own = record {
+abbrev pub by_names : List Name → Naming Name Name Name Name
+by_names own = record {
   is_shared = λ x. not (is_declared x.text own);
   copy = copy_name;
   save = save_name;
@@ -51,7 +51,7 @@ spelling own = record {
 abbrev pub rewritten_procedure : ℕ → Procedure → Procedure
 rewritten_procedure last procedure =
     let own = procedure.formals ++ procedure.locals in
-    let w = spelling own in
+    let w = by_names own in
     record {
       name = procedure.name;
       formals = procedure.formals;
@@ -65,13 +65,13 @@ main_procedure last tree = record {
   name = fresh_name (codes "main__");
   formals = [];
   locals = [];
-  body = main (spelling []) last tree.globals (map (λ (line : ThreadLine). line.name) tree.threads);
+  body = main (by_names []) last tree.globals (map (λ (line : ThreadLine). line.name) tree.threads);
 }
 
 -- the rewritten tree, where rounds count from 0 to `last`
 abbrev pub rewritten_tree : ℕ → Tree → Tree
 rewritten_tree last tree = record {
-  globals = globals (spelling []) last tree.globals;
+  globals = globals (by_names []) last tree.globals;
   procedures = main_procedure last tree ∷ map (rewritten_procedure last) tree.procedures;
   threads = record { at = 0; name = fresh_name (codes "main__") } ∷ [];
 }

@@ -10,12 +10,12 @@ use Rattle.language.specs.Rest.{join}
 use Rattle.language.specs.Resolve.{gives_value}
 use Rattle.round_rewrite.specs.declared.writer.Writer.{Writer}
 use Rattle.round_rewrite.specs.Table.{Naming, draws_of, temporaries, no_mark, side, prologue, statement, rewritten}
-use Rattle.round_rewrite.specs.Names.{fresh_name, bit_name, spelling}
+use Rattle.round_rewrite.specs.Names.{fresh_name, bit_name, by_names}
 use Rattle.resolved.specs.Limits.{most_places}
 
 -- how the procedure's names are written
 abbrev pub naming_of : {N A : Type 0} → Writer N A → Naming tree.Name tree.Name tree.Name tree.Name
-naming_of writer = spelling (names_of writer.formals.now ++ names_of writer.locals.now)
+naming_of writer = by_names (names_of writer.formals.now ++ names_of writer.locals.now)
 
 -- a block of a text
 abbrev pub TextBlock : Type 0
@@ -85,7 +85,7 @@ deed_needs is_shared deed =
 
 -- how many temporaries a procedure needs
 abbrev pub procedure_needs : tree.Procedure → ℕ
-procedure_needs procedure = temporaries (spelling (procedure.formals ++ procedure.locals)).is_shared procedure.body
+procedure_needs procedure = temporaries (by_names (procedure.formals ++ procedure.locals)).is_shared procedure.body
 
 -- no procedure needs more temporaries than it may have places
 abbrev pub AreFew : List tree.Procedure → Type 0

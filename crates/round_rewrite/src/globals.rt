@@ -3,7 +3,7 @@
 ghost use Rattle.std.specs.Prelude.{◌≡◌, ◌++◌, suc, [], IfOk};
 ghost use Rattle.trees.specs.Trees.{names_of};
 ghost use Rattle.round_rewrite.specs.Table.{numbers, copied, globals};
-ghost use Rattle.round_rewrite.specs.Names.{spelling, copy_name, save_name};
+ghost use Rattle.round_rewrite.specs.Names.{by_names, copy_name, save_name};
 
 use crate::cores::{push_bits, push_name};
 use crate::lists::{copies, saves};
@@ -19,7 +19,7 @@ fn all_copies<N: Allocator, A: Allocator + Copy>(
     into: Vec<Name<A>, A>,
 ) -> Result<Vec<Name<A>, A>, AllocError>
     ensures { IfOk result (λ v. names_of v.items ≡ names_of into.items
-        ++ copied (spelling []) rounds.last copy_name (names_of xs.now)
+        ++ copied (by_names []) rounds.last copy_name (names_of xs.now)
         (numbers 0 (suc rounds.last))) }
 {
     let mut list = into;
@@ -37,7 +37,7 @@ fn all_saves<N: Allocator, A: Allocator + Copy>(
     into: Vec<Name<A>, A>,
 ) -> Result<Vec<Name<A>, A>, AllocError>
     ensures { IfOk result (λ v. names_of v.items ≡ names_of into.items
-        ++ copied (spelling []) rounds.last save_name (names_of xs.now)
+        ++ copied (by_names []) rounds.last save_name (names_of xs.now)
         (numbers 1 rounds.last)) }
 {
     let mut list = into;
@@ -54,7 +54,7 @@ pub(crate) fn globals<N: Allocator, A: Allocator + Copy>(
     xs: &[Name<N>],
 ) -> Result<Vec<Name<A>, A>, AllocError>
     ensures { IfOk result
-        (λ v. names_of v.items ≡ globals (spelling []) rounds.last (names_of xs.now)) }
+        (λ v. names_of v.items ≡ globals (by_names []) rounds.last (names_of xs.now)) }
 {
     let copied = all_copies(alloc, rounds, xs, Vec::new(*alloc))?;
     let saved = all_saves(alloc, rounds, xs, copied)?;

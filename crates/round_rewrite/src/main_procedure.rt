@@ -5,7 +5,7 @@ ghost use Rattle.language.specs.Tree.{equal, var, value, two, const, assign, ass
 ghost use Rattle.trees.specs.Trees.{simple, name_of, names_of, threads_of, deed_of, block_of};
 ghost use Rattle.round_rewrite.specs.Table.{numbers, each, reset_targets, guess, guesses};
 ghost use Rattle.round_rewrite.specs.Table.{starts, check, checks, main};
-ghost use Rattle.round_rewrite.specs.Names.{spelling, copy_name, save_name};
+ghost use Rattle.round_rewrite.specs.Names.{by_names, copy_name, save_name};
 ghost use Rattle.round_rewrite.specs.Writing.{Appends, line_names};
 ghost use Rattle.round_rewrite.specs.Limits.{most_rounds};
 
@@ -28,7 +28,7 @@ fn guess<N: Allocator, A: Allocator + Copy>(
 ) -> Result<(), AllocError>
     requires { round < most_rounds }
     ensures { Appends result into.old.items into.new.items
-        (guess (spelling []) last (names_of xs.now) round) }
+        (guess (by_names []) last (names_of xs.now) round) }
 {
     let Some((_first, _)) = xs.split_first() else {
         return Ok(());
@@ -49,7 +49,7 @@ fn guesses<N: Allocator, A: Allocator + Copy>(
     into: &mut Vec<Stmt<A>, A>,
 ) -> Result<(), AllocError>
     ensures { Appends result into.old.items into.new.items
-        (guesses (spelling []) rounds.last (names_of xs.now) (numbers 1 rounds.last)) }
+        (guesses (by_names []) rounds.last (names_of xs.now) (numbers 1 rounds.last)) }
 {
     for before in 0..rounds.last {
         guess(alloc, rounds.last, before + 1, xs, into)?;
@@ -60,8 +60,8 @@ fn guesses<N: Allocator, A: Allocator + Copy>(
 /// The assignment of 0 to the round and `stop__`.
 fn reset<A: Allocator + Copy>(alloc: &A, rounds: Rounds) -> Result<Core<A>, AllocError>
     ensures { IfOk result (λ c. deed_of c
-        ≡ simple (assign (reset_targets (spelling []) rounds.last)
-        (each (value (const false)) (reset_targets (spelling []) rounds.last)))) }
+        ≡ simple (assign (reset_targets (by_names []) rounds.last)
+        (each (value (const false)) (reset_targets (by_names []) rounds.last)))) }
 {
     let bits = push_bits(alloc, rounds.bits(), Vec::new(*alloc))?;
     let targets = push_name(alloc, "stop__", bits)?;
@@ -77,7 +77,7 @@ fn starts<N: Allocator, A: Allocator + Copy>(
     into: &mut Vec<Stmt<A>, A>,
 ) -> Result<(), AllocError>
     ensures { Appends result into.old.items into.new.items
-        (starts (spelling []) rounds.last (line_names (threads_of threads.now))) }
+        (starts (by_names []) rounds.last (line_names (threads_of threads.now))) }
 {
     for thread in threads {
         push(reset(alloc, rounds)?, into)?;
@@ -115,7 +115,7 @@ fn check<N: Allocator, A: Allocator + Copy>(
 ) -> Result<(), AllocError>
     requires { round + 1 < most_rounds }
     ensures { Appends result into.old.items into.new.items
-        (check (spelling []) last (names_of xs.now) round) }
+        (check (by_names []) last (names_of xs.now) round) }
 {
     for x in xs {
         push(agrees(alloc, round, x)?, into)?;
@@ -131,7 +131,7 @@ fn checks<N: Allocator, A: Allocator + Copy>(
     into: &mut Vec<Stmt<A>, A>,
 ) -> Result<(), AllocError>
     ensures { Appends result into.old.items into.new.items
-        (checks (spelling []) rounds.last (names_of xs.now) (numbers 0 rounds.last)) }
+        (checks (by_names []) rounds.last (names_of xs.now) (numbers 0 rounds.last)) }
 {
     for round in 0..rounds.last {
         check(alloc, rounds.last, round, xs, into)?;
@@ -147,7 +147,7 @@ pub(crate) fn main_body<N: Allocator, A: Allocator + Copy>(
     threads: &[Thread<N>],
 ) -> Result<Vec<Stmt<A>, A>, AllocError>
     ensures { IfOk result (λ v. block_of v.items
-        ≡ main (spelling []) rounds.last (names_of xs.now)
+        ≡ main (by_names []) rounds.last (names_of xs.now)
         (line_names (threads_of threads.now))) }
 {
     let mut body = Vec::new(*alloc);

@@ -61,15 +61,6 @@ after_two into pushed one two s i a b e f h k =
     again : ((into ++ (s ∷ [])) ++ a) ++ b ≡ into ++ (s ∷ (a ++ b))
     again = ap (λ (x : List Statement). x ++ b) (append_assoc into (s ∷ []) a) ∙ append_assoc into (s ∷ a) b
 
--- three lists of names, put one after the other
-pub gathered : {X : Type 0} {Y : Type 0} (h : X → Y) (n f o k : List Y) (d1 d2 d3 x1 x2 x3 : List X)
-    → k ≡ o ++ map h d3 → o ≡ f ++ map h d2 → f ≡ n ++ map h d1 → n ≡ [] → d1 ≡ x1 → d2 ≡ x2 → d3 ≡ x3 →
-    (map h x1 ++ map h x2) ++ map h x3 ≡ k
-gathered {X} {Y} h n f o k d1 d2 d3 x1 x2 x3 a b c e p q r =
-    sym (a ∙ ap (λ (l : List Y). l ++ map h d3) (b ∙ ap (λ (l : List Y). l ++ map h d2) (c ∙ ap (λ (l : List Y). l ++ map h d1) e))
-    ∙ ap (λ (l : List X). (map h l ++ map h d2) ++ map h d3) p ∙ ap (λ (l : List X). (map h x1 ++ map h l) ++ map h d3) q
-    ∙ ap (λ (l : List X). (map h x1 ++ map h x2) ++ map h l) r)
-
 -- a loop that appends the statements of procedures to others
 pub one_procedure : {A : Type 0} (l : List (Proc A)) (i : ℕ) (p : Proc A) (old new w : List Statement)
     → i < length l → p ≡ get_or l i p → old ++ statements_of_all (procs_of (drop i l)) ≡ w

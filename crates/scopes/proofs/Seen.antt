@@ -64,11 +64,6 @@ texts_more {S} s t v ns n e k h x =
         list_any-append (λ (y : Bor (List ℕ)). bytes_eq x y.now) s.keys (v ∷ []) ∙ ap₂ (λ a b. a || (b || false)) (h x) (ap (bytes_eq x) e)
         ∙ one_added x (is_declared x ns) (same_text x n.text)
 
--- whether the set has the text of a name
-pub text_seen : {S : Type 0} (s : IndexSet (Bor (List ℕ)) S) (v : Bor (List ℕ)) (ns : List Name) (n : Name) → v.now ≡ n.text
-    → AreTexts s ns → list_any (λ (y : Bor (List ℕ)). bytes_eq v.now y.now) s.keys ≡ is_declared n.text ns
-text_seen s v ns n e h = h v.now ∙ ap (λ t. is_declared t ns) e
-
 any_of : {X : Type 0} (P Q : X → Type 0) (xs : List X) → ((x : X) → P x → Q x) → AnyOf P xs → AnyOf Q xs
 any_of P Q [] f h = h
 any_of P Q (x ∷ xs) f (inl h) = inl (f x h)

@@ -8,7 +8,7 @@ use Rattle.indexmap.specs.IndexMap.{keys}
 use Rattle.language.specs.Sequential.{Caller, caller}
 use Rattle.language.specs.Lists.{Member, NoneTwice}
 use Rattle.path_sets.specs.Triples.{Triple, triple}
-use Rattle.flow_graph.specs.Drawn.{flows_of, start_of}
+use Rattle.flow_graph.specs.Drawn.{flows_of, opening_point}
 use Rattle.flow_graph.specs.Flows.{last_of, next_of, entered_by}
 use Rattle.flow_graph.specs.Returns.{left_by, resumed_at}
 use Rattle.flow_graph.specs.Numbers.{NumberedMessage, numbered_entry, numbered_summary, GraphReaches, Sends, Leaves}
@@ -168,7 +168,8 @@ module _ {Alloc GraphAlloc : Type 0} (graph : Graph GraphAlloc) (procedure : ℕ
   -- a summary meet is the edge after the call; each site's entry is given; where an exit and a caller's entry meet is
   -- the summary given; each edge remembered as led is.
   pub record IsSaturated (Aside : Triple → Type 0) : Type 0 where
-    pub begun : (from : Caller) (own : ℕ) → TookMessage found (numbered_entry from own) → Member (triple own (start_of graph) own) edges
+    pub begun : (from : Caller) (own : ℕ) → TookMessage found (numbered_entry from own)
+        → Member (triple own (opening_point graph) own) edges
     pub worked : (own point values : ℕ) → Member (triple own point values) edges
         → Aside (triple own point values) ⊎ (IsPending found own point values ⊎ IsWorked own point values)
     pub ended : (other entered : ℕ) (exit : Exit) (own point values back : ℕ) → HasSite found other entered (path_edge own point values)

@@ -24,7 +24,7 @@ use Rattle.switchboard.specs.declared.lock_per_box.knowing.Seen.{Seen}
 use Rattle.switchboard.specs.declared.lock_per_box.knowing.Own.{Own}
 use Rattle.switchboard.specs.Sights.{Sight, IsSound}
 use Rattle.switchboard.specs.Promises.{GoesOn, Looked, Added}
-use Rattle.switchboard.specs.Knowing.{bare, entry_of, owes_after, with_event, state_of, unseen, hand_at, with_hand}
+use Rattle.switchboard.specs.Knowing.{fresh_hand, entry_of, owes_after, with_event, state_of, unseen, hand_at, with_hand}
 use Rattle.switchboard.specs.PerBox.{SeatView, Seat, News, HasOwn, IsInside, Recorded, TellsOrder}
 use Rattle.switchboard.specs.BoxPasses.{IsIdleHand, state_seen, box_sight, IsSeen, IsBoxPass}
 use Rattle.switchboard.proofs.Visits.{some_later}
@@ -87,7 +87,7 @@ module _ {M W : Type 0} (fits : W → ℕ → M → Type 0) where
 
   module _ (q : ℕ) (x y : List (Event M)) (b in_it v out : Seat M W) (visit : Visit q x y b in_it v out) where
     same_hand : hand_at q v.0 ≡ hand_at q in_it.0
-    same_hand = ap (λ l. get_or l q (bare 0)) visit.hands
+    same_hand = ap (λ l. get_or l q (fresh_hand 0)) visit.hands
 
     pub visit_tells : TellsOrder fits q (passes x y) v.0 out.0
     visit_tells =
@@ -124,10 +124,10 @@ module _ {M W : Type 0} (fits : W → ℕ → M → Type 0) where
         (λ (ne : k ≢ q).
         let was = idle k near in
         let there : hand_at k out.0 ≡ hand_at k b.0 =
-        ap (λ l. get_or l k (bare 0)) hands
-        ∙ (get_or-set_other v.0.hands q k (hand_at q out.0) (bare 0) ne ∙ (ap (λ l. get_or l k (bare 0)) visit.hands
-        ∙ (ap (λ (z : SeatView M W). get_or z.hands k (bare 0)) visit.inside.after
-        ∙ get_or-set_other b.0.hands q k (hand_at q in_it.0) (bare 0) ne))) in
+        ap (λ l. get_or l k (fresh_hand 0)) hands
+        ∙ (get_or-set_other v.0.hands q k (hand_at q out.0) (fresh_hand 0) ne ∙ (ap (λ l. get_or l k (fresh_hand 0)) visit.hands
+        ∙ (ap (λ (z : SeatView M W). get_or z.hands k (fresh_hand 0)) visit.inside.after
+        ∙ get_or-set_other b.0.hands q k (hand_at q in_it.0) (fresh_hand 0) ne))) in
         subst (λ h. IsIdleHand (left - 1) h)
         (sym there) record { tickets = was.tickets; inside = was.inside; parts = was.parts; drawn = omega (arith, was.drawn) })
 
@@ -284,6 +284,6 @@ module _ {M W : Type 0} (fits : W → ℕ → M → Type 0) where
             (told' ∙ (ap (λ (z : SeatView M W). z.told) is ∙ (told ∙ p.told))) owes
             (omega (arith, budget', ap (λ (z : SeatView M W). z.budget) is))
             (λ k near.
-            subst (λ h. IsIdleHand (left - 1) h) (sym (ap (λ l. get_or l k (bare 0)) hands))
+            subst (λ h. IsIdleHand (left - 1) h) (sym (ap (λ l. get_or l k (fresh_hand 0)) hands))
             (visit_hands q x y b in_it v out visit left boxes some_of idle (ap (λ (z : SeatView M W). z.hands) is) k near))
             (seen_on w boxes made m.0.seen u.0.seen p.seen l)

@@ -3,7 +3,7 @@ use Rattle.std.proofs.Common.{◌≡◌, ◌≢◌, inl, inr, ℕ, zero, suc, �
 use Rattle.std.proofs.Common.{true, false, List, [], ◌∷◌, ◌++◌, map, length, get_or, slice_get, Some, None, refl, sym, ap}
 use Rattle.std.proofs.Common.{◌∙◌, subst, arith, Option, append_assoc, length-append, eq-eqb, ne_eqb, nat_eq, lt_of_not-le}
 use Rattle.std.specs.Prelude.{◌↔◌}
-use Rattle.std.proofs.lemmas.Bool.{eqb-true, cases_eq}
+use Rattle.std.proofs.lemmas.Bool.{eqb-true, cases_eq, or_right}
 use Rattle.std.proofs.lemmas.Option.{slice_get_within, same_Some}
 use mathlib.Core.Option as maybe
 use mathlib.Core.Option.{some, some-injective, some-ne-none}
@@ -26,7 +26,7 @@ use Rattle.switchboard.specs.declared.lock_per_box.knowing.Ground.{Ground}
 use Rattle.switchboard.specs.declared.lock_per_box.knowing.Own.{Own}
 use Rattle.switchboard.specs.Sights.{Sight, IsSound}
 use Rattle.switchboard.specs.Promises.{AreAll, Settles}
-use Rattle.switchboard.specs.Knowing.{bare, merged_hands, made_by, state_of, hand_at, numbers, makes, merged, taken_in}
+use Rattle.switchboard.specs.Knowing.{fresh_hand, merged_hands, made_by, state_of, hand_at, pass_numbers, makes, merged_seats, informed}
 use Rattle.switchboard.specs.PerBox.{SeatView, flag, Saw, Rule, SeatTookIn, Seat, owed}
 use Rattle.switchboard.specs.Proved.PerBoxFacts.{number_in, closed_at_zero}
 use Rattle.switchboard.specs.BoxEnds.{own_of, TookInPass, Gathered, HasSeat, BoardEnds}
@@ -37,10 +37,6 @@ at_right : {A : Type 0} (l m : List A) (i : ℕ) (a : A) → get_elem? m i ≡ s
 at_right [] m i a e = let z : 0 + i ≡ i = omega arith in ap (get_elem? m) z ∙ e
 at_right (x ∷ l) m i a e = let z : suc (length l) + i ≡ suc (length l + i) = omega arith in
     ap (get_elem? (x ∷ (l ++ m))) z ∙ at_right l m i a e
-
-knew_first : (a b : Bool) → b ≡ true → a || b ≡ true
-knew_first true b e = refl
-knew_first false b e = e
 
 module _ {M W : Type 0} (fits : W → ℕ → M → Type 0) where
   -- a pass's own seat has what the pass had
@@ -83,13 +79,13 @@ module _ {M W : Type 0} (fits : W → ℕ → M → Type 0) where
 
     -- one more seat taken in
     pub gathered_more : (id : TableId) (me own_me me' : Seat M W) → Gathered boxes all (length (front ++ s ∷ [])) me
-        → HasSeat fits s id own_me → s.seen.boxes ≡ boxes → SeatTookIn fits (merged me.0 own_me.0, me.1) me'
+        → HasSeat fits s id own_me → s.seen.boxes ≡ boxes → SeatTookIn fits (merged_seats me.0 own_me.0, me.1) me'
         → Gathered boxes all (length front) me'
     gathered_more id me own_me me' g has count took =
         let p = has.0 in
         let v : SeatView M W = me.0 in
         let w : SeatView M W = own_me.0 in
-        let is : me'.0 ≡ taken_in (merged v w) = ap (λ (z : Seat M W). z.0) took.after in
+        let is : me'.0 ≡ informed (merged_seats v w) = ap (λ (z : Seat M W). z.0) took.after in
         let lanes : me'.0.lanes ≡ v.lanes ++ w.lanes = ap (λ (z : SeatView M W). z.lanes) is in
         let boards : me'.0.boards ≡ v.boards ++ w.boards = ap (λ (z : SeatView M W). z.boards) is in
         let theirs = taken_self s id own_me has in
@@ -102,8 +98,8 @@ module _ {M W : Type 0} (fits : W → ℕ → M → Type 0) where
               let one = merged_is v.hands w.hands q in
               let mine = g.quiet q near in
               let h = p.hands q (omega (arith, count)) in
-              let at : hand_at q me'.0 ≡ get_or (merged_hands v.hands w.hands) q (bare 0) =
-              ap (λ (z : SeatView M W). get_or z.hands q (bare 0)) is in (
+              let at : hand_at q me'.0 ≡ get_or (merged_hands v.hands w.hands) q (fresh_hand 0) =
+              ap (λ (z : SeatView M W). get_or z.hands q (fresh_hand 0)) is in (
                 ap (λ (z : Hand (List (Event M))). z.tickets) at ∙ (one.tickets ∙ (λ i. mine.0 i ++ h.tickets i)),
                 ap (λ (z : Hand (List (Event M))). z.inside) at ∙ (one.inside ∙ (λ i. mine.1 i ++ h.inside i)),
               );
@@ -128,7 +124,7 @@ module _ {M W : Type 0} (fits : W → ℕ → M → Type 0) where
                 subst (λ z. TookInPass z me'.0) now record {
                   begins = StartsWith-trans me'.0.seen.order w.seen.order s.seen.order took.theirs theirs.begins;
                   aborted = λ a e. took.aborted a (theirs.aborted a e);
-                  knows = λ e. ap (λ (z : SeatView M W). z.seen.knows) is ∙ knew_first v.seen.knows w.seen.knows (theirs.knows e);
+                  knows = λ e. ap (λ (z : SeatView M W). z.seen.knows) is ∙ or_right v.seen.knows w.seen.knows (theirs.knows e);
                   lane = (
                     length v.lanes + theirs.lane.0,
                     ap (λ l. get_elem? l (length v.lanes + theirs.lane.0)) lanes
@@ -200,7 +196,7 @@ module _ {M W : Type 0} (fits : W → ℕ → M → Type 0) (g : Ground M W) whe
     pub saw : Saw fits g order first low v.seen
     pub owns : (k : ℕ) (o : Own M) → get_elem? v.lanes k ≡ some o → own o.number order ≡ o.events
     pub boards : (i : ℕ) (k : Ground M W) → get_elem? v.boards i ≡ some k → k ≡ g
-    pub once : (m : ℕ) → times m (numbers v) ≤ 1
+    pub once : (m : ℕ) → times m (pass_numbers v) ≤ 1
     pub maker : (a : Abort) → first ≡ Some a → (k : ℕ) × (o : Own M) × (get_elem? v.lanes k ≡ some o) × (o.number ≡ a.by) × (o.made ≡ true)
     pub word : n ≡ low + flag first
     pub small : low < 2 ^ 63
@@ -230,7 +226,7 @@ module _ {M W : Type 0} (fits : W → ℕ → M → Type 0) (g : Ground M W) whe
         saw = k.saw;
         owns = k.owns;
         boards = k.board;
-        once = λ m. omega (arith, total_at (λ (z : SeatView M W). times m (numbers z)) s.views id v is_at, r.once m);
+        once = λ m. omega (arith, total_at (λ (z : SeatView M W). times m (pass_numbers z)) s.views id v is_at, r.once m);
         maker =
             λ a e.
             some_maker v.lanes a.by

@@ -1,6 +1,7 @@
 -- What a pass of the board with a lock for each mailbox knows after it was told what another had seen.
 use Rattle.std.proofs.Common.{◌≡◌, ◌⊎◌, inl, inr, ℕ, ◌||◌, Bool, true, false, List, [], ◌∷◌, ◌++◌, length}
 use Rattle.std.proofs.Common.{Some, None, refl, sym, ap, ◌∙◌, subst, arith, Option, lt_of_not-le, get_or}
+use Rattle.std.proofs.lemmas.Bool.{or_right}
 use Rattle.std.proofs.lemmas.List.{append-nil}
 use native.Mathlib.Decide.{dec_le}
 use lib.ListN.{get_elem?}
@@ -12,7 +13,7 @@ use Rattle.switchboard.specs.declared.calls.Abort.{Abort}
 use Rattle.switchboard.specs.declared.lock_per_box.knowing.Seen.{Seen}
 use Rattle.switchboard.specs.Sights.{Sight, Account}
 use Rattle.switchboard.specs.Promises.{Learned}
-use Rattle.switchboard.specs.Knowing.{bare, merged_hands, either_abort, both_seen, only_seen, merged, taken_in}
+use Rattle.switchboard.specs.Knowing.{fresh_hand, merged_hands, either_abort, both_seen, only_seen, merged_seats, informed}
 use Rattle.switchboard.specs.PerBox.{SeatView, SeatTookIn, Seat}
 use Rattle.switchboard.specs.BoxPasses.{IsIdleHand, box_sight, box_account, IsBoxPass, IsBoxTold}
 use Rattle.switchboard.proofs.BoxCalls.{Later, own_part, first_later, step_later, seen_on, goes, pass_on, same_lanes}
@@ -29,19 +30,15 @@ either_knew : (a b : Bool) → a || b ≡ true → (a ≡ true) ⊎ (b ≡ true)
 either_knew true b e = inl refl
 either_knew false b e = inr e
 
-told_knew : (a b : Bool) → b ≡ true → a || b ≡ true
-told_knew true b e = refl
-told_knew false b e = e
-
 module _ {M W : Type 0} (fits : W → ℕ → M → Type 0) (id : TableId) (number left : ℕ) (made : Bool) (w : W) (boxes : ℕ) (m : Seat M W)
     (p : IsBoxPass fits id number left made w boxes m) where
   module _ (told : Seat M W) (told_id : TableId) (t : IsBoxTold told_id told) (u : Seat M W)
-      (took : SeatTookIn fits (merged m.0 told.0, m.1) u) (id' : TableId) (same : id' ≡ id) where
+      (took : SeatTookIn fits (merged_seats m.0 told.0, m.1) u) (id' : TableId) (same : id' ≡ id) where
     abbrev x : Seen M
     x = told.0.seen
 
     abbrev n : SeatView M W
-    n = merged m.0 told.0
+    n = merged_seats m.0 told.0
 
     blank : told.0 ≡ only_seen x
     blank = ap (λ (z : Seat M W). z.0) t.blank
@@ -55,7 +52,7 @@ module _ {M W : Type 0} (fits : W → ℕ → M → Type 0) (id : TableId) (numb
     boards : n.boards ≡ m.0.boards
     boards = ap (λ (z : SeatView M W). m.0.boards ++ z.boards) blank ∙ append-nil m.0.boards
 
-    is : u.0 ≡ taken_in n
+    is : u.0 ≡ informed n
     is = ap (λ (z : Seat M W). z.0) took.after
 
     later : Later fits w boxes m.0.seen u.0.seen
@@ -72,7 +69,8 @@ module _ {M W : Type 0} (fits : W → ℕ → M → Type 0) (id : TableId) (numb
         (omega (arith, ap (λ (z : SeatView M W). z.owes) is, ap (λ (z : SeatView M W). z.owes) blank, p.owes))
         (omega (arith, ap (λ (z : SeatView M W). z.budget) is, p.budget))
         (λ q near.
-        subst (λ h. IsIdleHand left h) (sym (ap (λ (z : SeatView M W). get_or z.hands q (bare 0)) is ∙ ap (λ l. get_or l q (bare 0)) hands))
+        subst (λ h. IsIdleHand left h)
+        (sym (ap (λ (z : SeatView M W). get_or z.hands q (fresh_hand 0)) is ∙ ap (λ l. get_or l q (fresh_hand 0)) hands))
         (p.hands q near))
         (seen_on fits w boxes made m.0.seen u.0.seen p.seen later)
 
@@ -106,6 +104,6 @@ module _ {M W : Type 0} (fits : W → ℕ → M → Type 0) (id : TableId) (numb
                 | inl e ↦ inl (ap (λ (z : Seen M). z.aborted) seen ∙ e)
                 | inr e ↦ inr (ap (λ (z : Seen M). z.aborted) seen ∙ e)
               ];
-          close = λ e. ap (λ (z : Seen M). z.knows) seen ∙ told_knew m.0.seen.knows x.knows e;
+          close = λ e. ap (λ (z : Seen M). z.knows) seen ∙ or_right m.0.seen.knows x.knows e;
           known = λ e. either_knew m.0.seen.knows x.knows (sym (ap (λ (z : Seen M). z.knows) seen) ∙ e);
         })

@@ -11,7 +11,7 @@ use Rattle.atomic_table.specs.Table as table
 use Rattle.atomic_table.specs.Seated.{TableId}
 use Rattle.ticket_lock.specs.declared.hand.Hand.{Hand}
 use Rattle.ticket_lock.specs.Count.{times}
-use Rattle.ticket_lock.specs.Core.{Fits, Core}
+use Rattle.ticket_lock.specs.Core.{Fits, TicketCore}
 use Rattle.ticket_lock.specs.Proved.Facts.{times-one, StartsWith-refl}
 use Rattle.ticket_lock.proofs.HistoryFacts.{times-other}
 use Rattle.post_ledger.specs.declared.event.Event.{Event}
@@ -22,29 +22,31 @@ use Rattle.post_ledger.proofs.Orders.{own_else}
 use Rattle.switchboard.specs.declared.lock_per_box.knowing.Ground.{Ground}
 use Rattle.switchboard.specs.declared.lock_per_box.knowing.Own.{Own}
 use Rattle.switchboard.specs.Sights.{Sight, IsSound, opened, fresh_sight, fresh_sights}
-use Rattle.switchboard.specs.Knowing.{bare, bares, owns_from, first_seen, state_of, hand_at, first_view, less_one, just_one}
+use Rattle.switchboard.specs.Knowing.{fresh_hand, fresh_hands, owns_from, first_seen, state_of, hand_at, first_view, without_first_pass}
+use Rattle.switchboard.specs.Knowing.{first_pass_alone}
 use Rattle.switchboard.specs.PerBox.{SeatView, word_of, IsBoardTable, KnowsBoard, LockStands, Rule, Seat}
 use Rattle.switchboard.specs.BoxPasses.{IsIdleHand, box_sight, IsBoxPass}
 use Rattle.switchboard.proofs.Opening.{sound_open, sights_push}
 use Rattle.switchboard.proofs.BoxSeats.{Divides, saw_none, splits}
 
 module _ {T : Type 0} where
-  pub bares_at : (n k q : ℕ) → q < n → get_or (bares n k) q (bare {T = T} 0) ≡ bare k
+  pub bares_at : (n k q : ℕ) → q < n → get_or (fresh_hands n k) q (fresh_hand {T = T} 0) ≡ fresh_hand k
   bares_at zero k q near = absurd (omega arith)
   bares_at (suc n) k zero near = refl
   bares_at (suc n) k (suc q) near = bares_at n k q (omega arith)
 
-  fewer_bares : (n k : ℕ) → (let less : Hand T → Hand T = λ h. bare (h.parts - 1) in map less (bares n (suc k)) ≡ bares n k)
+  fewer_bares : (n k : ℕ)
+      → (let less : Hand T → Hand T = λ h. fresh_hand (h.parts - 1) in map less (fresh_hands n (suc k)) ≡ fresh_hands n k)
   fewer_bares zero k = refl
-  fewer_bares (suc n) k = let one : suc k - 1 ≡ k = omega arith in λ i. bare (one i) ∷ fewer_bares n k i
+  fewer_bares (suc n) k = let one : suc k - 1 ≡ k = omega arith in λ i. fresh_hand (one i) ∷ fewer_bares n k i
 
-  one_bares : (n k : ℕ) → (let one : Hand T → Hand T = λ h. bare 1 in map one (bares n k) ≡ bares n 1)
+  one_bares : (n k : ℕ) → (let one : Hand T → Hand T = λ h. fresh_hand 1 in map one (fresh_hands n k) ≡ fresh_hands n 1)
   one_bares zero k = refl
-  one_bares (suc n) k = ap (λ l. bare 1 ∷ l) (one_bares n k)
+  one_bares (suc n) k = ap (λ l. fresh_hand 1 ∷ l) (one_bares n k)
 
   -- a new lock
   core_open : (n : ℕ) (x : T) (here : maybe.Option (maybe.Option (Option T))) → n ≤ 64 → here ≡ some (some (Some x))
-      → Core 0 0 (x ∷ []) here (bare n ∷ [])
+      → TicketCore 0 0 (x ∷ []) here (fresh_hand n ∷ [])
   core_open n x here few is = record {
     served = refl;
     order = omega arith;
@@ -59,10 +61,15 @@ module _ {T : Type 0} where
     home = λ none. (x, ([], refl), is);
   }
     where
-      one_hand : (j : ℕ) (h : Hand T) → (let l : List (Hand T) = bare n ∷ [] in get_elem? l j ≡ some h) → Fits 0 (x ∷ []) h
+      one_hand : (j : ℕ) (h : Hand T) → (let l : List (Hand T) = fresh_hand n ∷ [] in get_elem? l j ≡ some h) → Fits 0 (x ∷ []) h
       one_hand zero h e =
           subst (λ z. Fits 0 (x ∷ []) z)
-          (some-injective (bare n) h e) record { begins = (x ∷ [], refl); inside = inl refl; few = omega arith; idle = λ _. (refl, refl) }
+          (some-injective (fresh_hand n) h e) record {
+            begins = (x ∷ [], refl);
+            inside = inl refl;
+            few = omega arith;
+            idle = λ _. (refl, refl);
+          }
       one_hand (suc j) h e = absurd (some-ne-none h (sym e))
 
   -- what lies in a slot of a new table
@@ -129,11 +136,13 @@ module _ {M W : Type 0} (fits : W → ℕ → M → Type 0) (g : Ground M W) (ne
             room = omega arith;
             core =
                 subst
-                (λ a. Core a (get_or words (word_of q + 1) 0) (part q first_order ∷ []) (get_elem? (map some slots) q) (hand_at q v ∷ []))
+                (λ a.
+                TicketCore a (get_or words (word_of q + 1) 0) (part q first_order ∷ []) (get_elem? (map some slots) q)
+                (hand_at q v ∷ []))
                 (sym (zeros (word_of q) (omega arith)))
-                (subst (λ b. Core 0 b (part q first_order ∷ []) (get_elem? (map some slots) q) (hand_at q v ∷ []))
+                (subst (λ b. TicketCore 0 b (part q first_order ∷ []) (get_elem? (map some slots) q) (hand_at q v ∷ []))
                 (sym (zeros (word_of q + 1) (omega arith)))
-                (subst (λ h. Core 0 0 (part q first_order ∷ []) (get_elem? (map some slots) q) (h ∷ []))
+                (subst (λ h. TicketCore 0 0 (part q first_order ∷ []) (get_elem? (map some slots) q) (h ∷ []))
                 (sym (bares_at g.boxes g.boxes q short))
                 (core_open g.boxes (part q first_order) (get_elem? (map some slots) q) few
                 (at_home slots q (part q first_order) (omega (arith, many)) (boxes q)))));
@@ -167,28 +176,32 @@ module _ {M W : Type 0} (fits : W → ℕ → M → Type 0) (g : Ground M W) (ne
       one_board (suc i) k e = absurd (some-ne-none k (sym e))
 
   -- what is left after one pass was dealt
-  pub less_next : (first count : ℕ) → less_one {T = List (Event M)} (first_view g first (suc count)) ≡ first_view g (suc first) count
+  pub less_next : (first count : ℕ)
+      → without_first_pass {T = List (Event M)} (first_view g first (suc count)) ≡ first_view g (suc first) count
   less_next first count =
       let budget : suc count * 2 ^ 56 - 2 ^ 56 ≡ count * 2 ^ 56 = omega arith in
       λ i. record (first_view g (suc first) count) { hands = fewer_bares g.boxes count i; budget = budget i }
 
   -- the first seat gives its first pass away
   pub deals_one : (first count id : ℕ) (v : SeatView M W) → v ≡ first_view g first (suc count)
-      → table.Splits (Rule fits g) id v (less_one v) (just_one v)
-  deals_one first count id v is = subst (λ z. table.Splits (Rule fits g) id z (less_one z) (just_one z)) (sym is) (λ s r is_at.
+      → table.Splits (Rule fits g) id v (without_first_pass v) (first_pass_alone v)
+  deals_one first count id v is =
+      subst (λ z. table.Splits (Rule fits g) id z (without_first_pass z) (first_pass_alone z)) (sym is) (λ s r is_at.
       let whole : SeatView M W = first_view g first (suc count) in
-      let a : SeatView M W = less_one whole in
-      let b : SeatView M W = just_one whole in
+      let a : SeatView M W = without_first_pass whole in
+      let b : SeatView M W = first_pass_alone whole in
       let k = r.each id whole is_at in
-      let hand_a : (q : ℕ) → q < g.boxes → hand_at q a ≡ bare count = λ q short. ap (λ l. get_or l q (bare 0)) (fewer_bares g.boxes count)
+      let hand_a : (q : ℕ) → q < g.boxes → hand_at q a ≡ fresh_hand count =
+      λ q short. ap (λ l. get_or l q (fresh_hand 0)) (fewer_bares g.boxes count)
       ∙ bares_at g.boxes count q short in
-      let hand_b : (q : ℕ) → q < g.boxes → hand_at q b ≡ bare 1 = λ q short. ap (λ l. get_or l q (bare 0)) (one_bares g.boxes (suc count))
+      let hand_b : (q : ℕ) → q < g.boxes → hand_at q b ≡ fresh_hand 1 =
+      λ q short. ap (λ l. get_or l q (fresh_hand 0)) (one_bares g.boxes (suc count))
       ∙ bares_at g.boxes 1 q short in
       splits fits g s r id whole is_at a b
       (λ q short.
       subst (λ h. Divides h (hand_at q a) (hand_at q b)) (sym (bares_at g.boxes (suc count) q short))
-      (subst (λ h. Divides (bare (suc count)) h (hand_at q b)) (sym (hand_a q short))
-      (subst (λ h. Divides (bare (suc count)) (bare count) h) (sym (hand_b q short)) record {
+      (subst (λ h. Divides (fresh_hand (suc count)) h (hand_at q b)) (sym (hand_a q short))
+      (subst (λ h. Divides (fresh_hand (suc count)) (fresh_hand count) h) (sym (hand_b q short)) record {
         hands = λ n. refl;
         drawn = λ n. refl;
         count = refl;
@@ -231,7 +244,7 @@ module _ {M W : Type 0} (fits : W → ℕ → M → Type 0) (g : Ground M W) (ne
       first_only first count (suc j) o order e all = absurd (some-ne-none o (sym e))
 
   -- the pass that was dealt
-  pub dealt_pass : (id : TableId) (number count calls : ℕ) (m : Seat M W) → m ≡ (just_one (first_view g number (suc count)), [])
+  pub dealt_pass : (id : TableId) (number count calls : ℕ) (m : Seat M W) → m ≡ (first_pass_alone (first_view g number (suc count)), [])
       → IsBoardTable id g.boxes → number < g.boxes → calls ≤ 2 ^ 56
       → IsBoxPass fits id number calls false g.world.value g.boxes m
   dealt_pass id number count calls m is sized short enough =
@@ -250,7 +263,7 @@ module _ {M W : Type 0} (fits : W → ℕ → M → Type 0) (g : Ground M W) (ne
         hands =
             λ q there.
             subst (λ h. IsIdleHand calls h)
-            (sym (ap (λ l. get_or l q (bare 0)) (one_bares g.boxes (suc count)) ∙ bares_at g.boxes 1 q there)) record {
+            (sym (ap (λ l. get_or l q (fresh_hand 0)) (one_bares g.boxes (suc count)) ∙ bares_at g.boxes 1 q there)) record {
               tickets = refl;
               inside = refl;
               parts = refl;
@@ -260,22 +273,22 @@ module _ {M W : Type 0} (fits : W → ℕ → M → Type 0) (g : Ground M W) (ne
       }
 
   pub deals_from : (first left id : ℕ) (v : SeatView M W) → v ≡ first_view g first left → 0 < left
-      → table.Splits (Rule fits g) id v (less_one v) (just_one v)
+      → table.Splits (Rule fits g) id v (without_first_pass v) (first_pass_alone v)
   deals_from first zero id v is some_of = absurd (omega arith)
   deals_from first (suc count) id v is some_of = deals_one first count id v is
 
   pub dealt_from : (id : TableId) (number left calls : ℕ) (m own_me : Seat M W) → m ≡ (first_view g number left, [])
-      → own_me ≡ (just_one m.0, []) → 0 < left → IsBoardTable id g.boxes → number < g.boxes → calls ≤ 2 ^ 56
+      → own_me ≡ (first_pass_alone m.0, []) → 0 < left → IsBoardTable id g.boxes → number < g.boxes → calls ≤ 2 ^ 56
       → IsBoxPass fits id number calls false g.world.value g.boxes own_me
   dealt_from id number zero calls m own_me is own_is some_of sized short enough = absurd (omega arith)
   dealt_from id number (suc count) calls m own_me is own_is some_of sized short enough =
-      dealt_pass id number count calls own_me (own_is ∙ ap (λ (z : Seat M W). (just_one z.0, [])) is) sized short enough
+      dealt_pass id number count calls own_me (own_is ∙ ap (λ (z : Seat M W). (first_pass_alone z.0, [])) is) sized short enough
 
   -- one more pass dealt
   pub dealt_next : (id own_id : TableId) (calls n left : ℕ) (w v : W) (boxes : ℕ) (m m' own_me : Seat M W)
       (items items' : List (Sight M W)) → n + left ≡ boxes → n < boxes → own_id ≡ id → v ≡ w → m ≡ (first_view g n left, [])
-      → m' ≡ (less_one m.0, m.1)
-      → own_me ≡ (just_one m.0, []) → items ≡ fresh_sights id (calls + 1) (opened w boxes g.to g.first) 0 n
+      → m' ≡ (without_first_pass m.0, m.1)
+      → own_me ≡ (first_pass_alone m.0, []) → items ≡ fresh_sights id (calls + 1) (opened w boxes g.to g.first) 0 n
       → items' ≡ items ++ box_sight own_id n calls false v boxes own_me.0.seen ∷ [] → g.boxes ≡ boxes
       → (k : ℕ) × (n + 1 + k ≡ boxes) × (m' ≡ (first_view g (n + 1) k, []))
       × (items' ≡ fresh_sights id (calls + 1) (opened w boxes g.to g.first) 0 (n + 1))
@@ -296,7 +309,9 @@ module _ {M W : Type 0} (fits : W → ℕ → M → Type 0) (g : Ground M W) (ne
       }) in (
         count,
         omega arith,
-        is' ∙ ((λ i. (less_one (is i).0, (is i).1)) ∙ ((λ i. (less_next n count i, [])) ∙ (λ i. (first_view g (next i) count, [])))),
+        is'
+            ∙ ((λ i. (without_first_pass (is i).0, (is i).1))
+            ∙ ((λ i. (less_next n count i, [])) ∙ (λ i. (first_view g (next i) count, [])))),
         now
             ∙ ((λ i. are i ++ shown i ∷ [])
             ∙ (sym (sights_push id (calls + 1) (opened w boxes g.to g.first) 0 n)

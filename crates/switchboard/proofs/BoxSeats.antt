@@ -8,7 +8,7 @@ use lib.ListN.{get_elem?}
 use Rattle.atomic_table.specs.Table as table
 use Rattle.ticket_lock.specs.declared.hand.Hand.{Hand}
 use Rattle.ticket_lock.specs.Count.{times, total}
-use Rattle.ticket_lock.specs.Core.{in_hand, Fits, Core}
+use Rattle.ticket_lock.specs.Core.{in_hand, Fits, TicketCore}
 use Rattle.ticket_lock.specs.Proved.Facts.{total_set, at_set, at_snoc, set_else, map-set}
 use Rattle.ticket_lock.proofs.HistoryFacts.{total-snoc, at_append, map-snoc, map-append}
 use Rattle.ticket_lock.specs.Proved.Facts.{at-map}
@@ -20,7 +20,7 @@ use Rattle.switchboard.specs.declared.calls.Abort.{Abort}
 use Rattle.switchboard.specs.declared.lock_per_box.knowing.Ground.{Ground}
 use Rattle.switchboard.specs.declared.lock_per_box.knowing.Seen.{Seen}
 use Rattle.switchboard.specs.declared.lock_per_box.knowing.Own.{Own}
-use Rattle.switchboard.specs.Knowing.{bare, merged_hands, unseen, made_by, hand_at, numbers, makes, only_seen, merged}
+use Rattle.switchboard.specs.Knowing.{fresh_hand, merged_hands, unseen, made_by, hand_at, pass_numbers, makes, only_seen, merged_seats}
 use Rattle.switchboard.specs.PerBox.{SeatView, word_of, LockStands, Saw, KnowsBoard, Rule, Boxes}
 
 module _ {T : Type 0} where
@@ -34,8 +34,8 @@ module _ {T : Type 0} where
     pub fits : (serving : ℕ) (log : List T) → Fits serving log h → Fits serving log a × Fits serving log b
 
   pub core_splits : (serving next : ℕ) (log : List T) (here : maybe.Option (maybe.Option (Option T))) (hands : List (Hand T)) (id : ℕ)
-      (h a b : Hand T) → get_elem? hands id ≡ some h → Divides h a b → Core serving next log here hands
-      → Core serving next log here (set hands id a ++ b ∷ [])
+      (h a b : Hand T) → get_elem? hands id ≡ some h → Divides h a b → TicketCore serving next log here hands
+      → TicketCore serving next log here (set hands id a ++ b ∷ [])
   core_splits serving next log here hands id h a b is_at d c =
       let sum : (f : Hand T → ℕ) → f a + f b ≡ f h → total f (set hands id a ++ b ∷ []) ≡ total f hands =
       λ f e. omega (arith, total-snoc f (set hands id a) b, total_set f hands id h a is_at) in
@@ -57,10 +57,10 @@ module _ {T : Type 0} where
     pub seen : (u.seen ≡ h.seen) ⊎ (u.seen ≡ k.seen)
 
   pub merged_is : (hs ks : List (Hand T)) (q : ℕ)
-      → Unites (get_or hs q (bare 0)) (get_or ks q (bare 0)) (get_or (merged_hands hs ks) q (bare 0))
+      → Unites (get_or hs q (fresh_hand 0)) (get_or ks q (fresh_hand 0)) (get_or (merged_hands hs ks) q (fresh_hand 0))
   merged_is [] ks q = record { tickets = refl; inside = refl; drawn = refl; parts = omega arith; seen = inr refl }
   merged_is (h ∷ hs) [] q =
-      let x : Hand T = get_or (h ∷ hs) q (bare 0) in
+      let x : Hand T = get_or (h ∷ hs) q (fresh_hand 0) in
       record {
         tickets = sym (append-nil x.tickets);
         inside = sym (append-nil x.inside);
@@ -89,13 +89,13 @@ module _ {T : Type 0} where
 
   pub core_joins : (serving next : ℕ) (log : List T) (here : maybe.Option (maybe.Option (Option T))) (hands : List (Hand T)) (id other : ℕ)
       (h k u : Hand T) → get_elem? hands id ≡ some h → other ≢ id → get_elem? hands other ≡ some k
-      → Unites h k u → h.inside ≡ [] → k.inside ≡ [] → Core serving next log here hands
-      → Core serving next log here (set (set hands id u) other (bare 0))
+      → Unites h k u → h.inside ≡ [] → k.inside ≡ [] → TicketCore serving next log here hands
+      → TicketCore serving next log here (set (set hands id u) other (fresh_hand 0))
   core_joins serving next log here hands id other h k u is_at ne at_other one out_h out_k c =
-      let hs : List (Hand T) = set (set hands id u) other (bare 0) in
+      let hs : List (Hand T) = set (set hands id u) other (fresh_hand 0) in
       let there : get_elem? (set hands id u) other ≡ some k = set_else hands id other u ne ∙ at_other in
-      let sum : (f : Hand T → ℕ) → f (bare 0) ≡ 0 → f u ≡ f h + f k → total f hs ≡ total f hands =
-      λ f z e. omega (arith, total_set f hands id h u is_at, total_set f (set hands id u) other k (bare 0) there) in
+      let sum : (f : Hand T → ℕ) → f (fresh_hand 0) ≡ 0 → f u ≡ f h + f k → total f hs ≡ total f hands =
+      λ f z e. omega (arith, total_set f hands id h u is_at, total_set f (set hands id u) other k (fresh_hand 0) there) in
       core_same serving next log here hands c hs
       (λ n.
       sum (in_hand n) refl
@@ -105,7 +105,7 @@ module _ {T : Type 0} where
       (sum (λ (x : Hand T). length x.drawn) refl (ap length one.drawn ∙ length-append h.drawn k.drawn))
       (sum (λ (x : Hand T). x.parts) refl one.parts)
       (sum (λ (x : Hand T). length x.inside) refl (ap length one.inside ∙ length-append h.inside k.inside))
-      (λ j x e. elim (at_set (set hands id u) other j (bare 0) x e) [
+      (λ j x e. elim (at_set (set hands id u) other j (fresh_hand 0) x e) [
         | inl t ↦
             subst
             (λ z. Fits serving log z) t.1 record { begins = (log, refl); inside = inl refl; few = omega arith; idle = λ _. (refl, refl) }
@@ -121,13 +121,15 @@ module _ {T : Type 0} where
 -- a lock whose hands become others stands, if they keep its core
 stands_with : {M W : Type 0} (q : ℕ) (order : List (Entry M)) (s : Boxes M W)
     (l : LockStands q order s.words s.homes (map (hand_at q) s.views)) (hands new : List (Hand (List (Event M)))) → new ≡ hands
-    → Core (get_or s.words (word_of q) 0) (get_or s.words (word_of q + 1) 0) l.0 (get_elem? s.homes q) hands
+    → TicketCore (get_or s.words (word_of q) 0) (get_or s.words (word_of q + 1) 0) l.0 (get_elem? s.homes q) hands
     → LockStands q order s.words s.homes new
 stands_with q order s l hands new same core = (
   l.0,
   record {
     room = l.1.room;
-    core = subst (λ z. Core (get_or s.words (word_of q) 0) (get_or s.words (word_of q + 1) 0) l.0 (get_elem? s.homes q) z) (sym same) core;
+    core =
+        subst (λ z. TicketCore (get_or s.words (word_of q) 0) (get_or s.words (word_of q + 1) 0) l.0 (get_elem? s.homes q) z)
+        (sym same) core;
   },
   l.2,
 )
@@ -153,7 +155,8 @@ module _ {M W : Type 0} (fits : W → ℕ → M → Type 0) (g : Ground M W) whe
     -- a seat cut in two
     pub splits : (a b : SeatView M W) → ((q : ℕ) → q < g.boxes → Divides (hand_at q v) (hand_at q a) (hand_at q b))
         → KnowsBoard fits g r.order r.first r.low a → KnowsBoard fits g r.order r.first r.low b
-        → ((n : ℕ) → times n (numbers a) + times n (numbers b) ≡ times n (numbers v)) → length a.lanes + length b.lanes ≡ length v.lanes
+        → ((n : ℕ) → times n (pass_numbers a) + times n (pass_numbers b) ≡ times n (pass_numbers v))
+        → length a.lanes + length b.lanes ≡ length v.lanes
         → ((n : ℕ) → makes n a + makes n b ≡ makes n v)
         → a.owes + b.owes ≡ v.owes → a.budget + b.budget ≡ v.budget
         → Rule fits g record { words = s.words; homes = s.homes; views = set s.views id a ++ b ∷ [] }
@@ -186,7 +189,7 @@ module _ {M W : Type 0} (fits : W → ℕ → M → Type 0) (g : Ground M W) whe
                   | inr q ↦ r.each j u q.1
                 ]
           ];
-          once = λ n. omega (arith, sum (λ (u : SeatView M W). times n (numbers u)) (names n), r.once n);
+          once = λ n. omega (arith, sum (λ (u : SeatView M W). times n (pass_numbers u)) (names n), r.once n);
           whole = sum (λ (u : SeatView M W). length u.lanes) lens ∙ r.whole;
           maker = λ c e. omega (arith, sum (makes c.by) (made c.by), r.maker c e);
         }
@@ -207,9 +210,9 @@ module _ {M W : Type 0} (fits : W → ℕ → M → Type 0) (g : Ground M W) whe
     -- a seat takes in all that another has, if both are outside
     pub joins : (other : ℕ) (w : SeatView M W) → other ≢ id → get_elem? s.views other ≡ some w
         → ((q : ℕ) → q < g.boxes → (hand_at q v).inside ≡ []) → ((q : ℕ) → q < g.boxes → (hand_at q w).inside ≡ [])
-        → Rule fits g record { words = s.words; homes = s.homes; views = set (set s.views id (merged v w)) other (only_seen unseen) }
+        → Rule fits g record { words = s.words; homes = s.homes; views = set (set s.views id (merged_seats v w)) other (only_seen unseen) }
     joins other w ne at_w out_v out_w =
-        let u : SeatView M W = merged v w in
+        let u : SeatView M W = merged_seats v w in
         let z : SeatView M W = only_seen unseen in
         let kv = r.each id v is_at in
         let kw = r.each other w at_w in
@@ -240,8 +243,8 @@ module _ {M W : Type 0} (fits : W → ℕ → M → Type 0) (g : Ground M W) whe
           locks = λ q near.
               let l = r.locks q near in
               let hs : List (Hand (List (Event M))) = map (hand_at q) s.views in
-              let same : map (hand_at q) (set (set s.views id u) other z) ≡ set (set hs id (hand_at q u)) other (bare 0) =
-              map-set (hand_at q) (set s.views id u) other z ∙ ap (λ l. set l other (bare 0)) (map-set (hand_at q) s.views id u) in
+              let same : map (hand_at q) (set (set s.views id u) other z) ≡ set (set hs id (hand_at q u)) other (fresh_hand 0) =
+              map-set (hand_at q) (set s.views id u) other z ∙ ap (λ l. set l other (fresh_hand 0)) (map-set (hand_at q) s.views id u) in
               let core =
               core_joins (get_or s.words (word_of q) 0) (get_or s.words (word_of q + 1) 0) l.0 (get_elem? s.homes q) hs id other
               (hand_at q v) (hand_at q w) (hand_at q u) (at-map (hand_at q) s.views id v is_at) ne
@@ -266,8 +269,9 @@ module _ {M W : Type 0} (fits : W → ℕ → M → Type 0) (g : Ground M W) whe
               λ n.
               omega (
                 arith,
-                sum (λ (x : SeatView M W). times n (numbers x)) refl
-                    (ap (times n) (map-append (λ (o : Own M). o.number) v.lanes w.lanes) ∙ times-append n (numbers v) (numbers w)),
+                sum (λ (x : SeatView M W). times n (pass_numbers x)) refl
+                    (ap (times n) (map-append (λ (o : Own M). o.number) v.lanes w.lanes)
+                    ∙ times-append n (pass_numbers v) (pass_numbers w)),
                 r.once n,
               );
           whole = sum (λ (x : SeatView M W). length x.lanes) refl (length-append v.lanes w.lanes) ∙ r.whole;
@@ -282,6 +286,6 @@ module _ {M W : Type 0} (fits : W → ℕ → M → Type 0) (g : Ground M W) whe
   tells_allowed id v s r is_at = tells s r id v is_at
 
   pub joins_allowed : (id other : ℕ) (v w : SeatView M W) → ((q : ℕ) → q < g.boxes → (hand_at q v).inside ≡ [])
-      → ((q : ℕ) → q < g.boxes → (hand_at q w).inside ≡ []) → table.Joins (Rule fits g) id v other w (merged v w) (only_seen unseen)
+      → ((q : ℕ) → q < g.boxes → (hand_at q w).inside ≡ []) → table.Joins (Rule fits g) id v other w (merged_seats v w) (only_seen unseen)
   joins_allowed id other v w out_v out_w s r is_at ne at_other =
-      joins s r id v is_at other w ne (sym (set_else s.views id other (merged v w) ne) ∙ at_other) out_v out_w
+      joins s r id v is_at other w ne (sym (set_else s.views id other (merged_seats v w) ne) ∙ at_other) out_v out_w

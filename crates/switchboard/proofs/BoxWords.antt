@@ -25,8 +25,8 @@ use Rattle.switchboard.specs.declared.lock_per_box.knowing.Seen.{Seen}
 use Rattle.switchboard.specs.declared.lock_per_box.knowing.Own.{Own}
 use Rattle.switchboard.specs.Sights.{IsSound, abort_of}
 use Rattle.switchboard.specs.Proved.Entries.{job_stays}
-use Rattle.switchboard.specs.Knowing.{either_abort, state_of, both_seen, with_seen, numbers, makes, made_by, counted_up, counted_down}
-use Rattle.switchboard.specs.Knowing.{made_abort, taken_in}
+use Rattle.switchboard.specs.Knowing.{either_abort, state_of, both_seen, with_seen, pass_numbers, makes, made_by, counted_up, counted_down}
+use Rattle.switchboard.specs.Knowing.{made_abort, informed}
 use Rattle.switchboard.specs.PerBox.{SeatView, flag, Saw, Rule, LookedAtWord, Raised, SeatTookIn, Seat, owed}
 use Rattle.switchboard.specs.Proved.PerBoxFacts.{BoardGrows, grows_same, saw_grows, saw_all, sound_with, closed_at_zero, fewer_dones}
 use Rattle.switchboard.specs.Proved.PerBoxFacts.{news_is, rebuilt, locks_still, made_still}
@@ -194,7 +194,7 @@ module _ {M W : Type 0} (fits : W → ℕ → M → Type 0) (g : Ground M W) whe
   takes_in slots id m s r len is_at small =
       let v : SeatView M W = m.0 in
       let x : Seen M = both_seen v.seen v.told in
-      let w : SeatView M W = taken_in v in
+      let w : SeatView M W = informed v in
       let k = r.each id v is_at in
       let n : ℕ = get_or s.words 0 0 in
       let on = grows_same r.order r.first r.low in
@@ -294,8 +294,8 @@ module _ {M W : Type 0} (fits : W → ℕ → M → Type 0) (g : Ground M W) whe
           which = which r.first (λ c is same. let t = r.maker c is in
               let others : (j : ℕ) (u : SeatView M W) → j ≢ id → get_elem? s.views j ≡ some u → makes c.by u ≡ 0 =
               λ j u ne at.
-              (let two = total_two (λ (z : SeatView M W). times c.by (numbers z)) s.views id j v u (λ i. ne (sym i)) is_at at in
-              let here : times c.by (numbers v) ≡ 1 = ap (λ l. times c.by (map (λ (p : Own M). p.number) l)) lanes
+              (let two = total_two (λ (z : SeatView M W). times c.by (pass_numbers z)) s.views id j v u (λ i. ne (sym i)) is_at at in
+              let here : times c.by (pass_numbers v) ≡ 1 = ap (λ l. times c.by (map (λ (p : Own M). p.number) l)) lanes
               ∙ subst (λ i. times i (o.number ∷ []) ≡ 1) (by ∙ sym same) (times-one o.number) in
               omega (arith, r.once c.by, few_made c.by u.lanes)) in
               let all = total_only (makes c.by) s.views id v is_at others in let z = no_more c.by in omega arith);

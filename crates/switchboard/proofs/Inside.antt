@@ -10,7 +10,7 @@ use Rattle.switchboard.specs.declared.calls.Cause.{Cause}
 use Rattle.switchboard.specs.declared.calls.PostFault.{PostFault}
 use Rattle.switchboard.specs.declared.calls.Taken.{Taken}
 use Rattle.switchboard.specs.Sights.{BoardState, Sight, abort_of}
-use Rattle.switchboard.specs.Books.{with_entry, TakeAnswers, RefusesPost}
+use Rattle.switchboard.specs.Books.{with_new_event, TakeAnswers, RefusesPost}
 use Rattle.switchboard.specs.Passes.{calls_of, share, sight_of, Comes, IsPass}
 use Rattle.switchboard.specs.Promises.{Took, Added, MadeAbort}
 use Rattle.switchboard.specs.Proved.Entries.{Allowed}
@@ -70,7 +70,7 @@ module _ {M W : Type 0} (fits : W → ℕ → M → Type 0) where
 
     -- It completes a job of its own.
     pub completing : {job : ℕ} {y : BoardState M W} → HasJob a.number job x.order →
-        y ≡ with_entry (Completed a.number job) x → Kept fits a.number x y
+        y ≡ with_new_event (Completed a.number job) x → Kept fits a.number x y
     completing {job} {y} has is = step_keeps fits a.number x y h.found.sound
         (adds (Completed a.number job) is refl (job_allowed fits a.number job x h.found.sound has))
 
@@ -88,17 +88,17 @@ module _ {M W : Type 0} (fits : W → ℕ → M → Type 0) where
     -- It posts the message to a mailbox under the job, and leaves y; or it is refused.
     pub record Posting (to job : ℕ) (m : M) (answer : Result (Unit {0}) (PostFault M)) (y : BoardState M W) : Type 0 where
       pub may : Allowed fits (Posted to a.number m job) x
-      pub ok : OnOk answer ((x.aborted ≡ None) × (y ≡ with_entry (Posted to a.number m job) x))
+      pub ok : OnOk answer ((x.aborted ≡ None) × (y ≡ with_new_event (Posted to a.number m job) x))
       pub err : IfErr answer (λ f. RefusesPost m f x y)
       pub keeps : Kept fits a.number x y
 
     pub posting : (to job : ℕ) (m : M) (answer : Result (Unit {0}) (PostFault M)) (y : BoardState M W) →
         HasJob s.number job s.seen.order → (to < s.seen.boxes) × fits s.seen.world to m
-        → OnOk answer ((v.aborted ≡ None) × (y ≡ with_entry (Posted to n m job) v)) →
+        → OnOk answer ((v.aborted ≡ None) × (y ≡ with_new_event (Posted to n m job) v)) →
         IfErr answer (λ f. RefusesPost m f v y) → Posting to job m answer y
     posting to job m answer y has may_be ok err =
         let may = allowing (job_inside has) may_be.0 may_be.1 in
-        let ok_here = to_lane (λ k z. OnOk answer ((z.aborted ≡ None) × (y ≡ with_entry (Posted to k m job) z))) ok in
+        let ok_here = to_lane (λ k z. OnOk answer ((z.aborted ≡ None) × (y ≡ with_new_event (Posted to k m job) z))) ok in
         let err_here = to_lane (λ k z. IfErr answer (λ f. RefusesPost m f z y)) err in record {
           may = may;
           ok = ok_here;
@@ -142,17 +142,17 @@ module _ {M W : Type 0} (fits : W → ℕ → M → Type 0) where
           (took_is fits answer a b x y w boxes kept p visit h.near here (had_calls is some_of))
 
       -- or that it completed a job of its own,
-      pub completes_on : {job r : ℕ} → HasJob s.number job s.seen.order → y ≡ with_entry (Completed n job) v → r ≡ s.calls →
+      pub completes_on : {job r : ℕ} → HasJob s.number job s.seen.order → y ≡ with_new_event (Completed n job) v → r ≡ s.calls →
           (r ≡ 0 → ⊥) → IsPass fits b w boxes kept
       completes_on {job} has done is some_of =
-          let here = to_lane (λ k z. y ≡ with_entry (Completed k job) z) done in
+          let here = to_lane (λ k z. y ≡ with_new_event (Completed k job) z) done in
           pass_stays fits a b x y w boxes kept p visit (completing (job_inside has) here) (ap (λ z. z.aborted) here)
           (had_calls is some_of)
 
-      pub shows_completed : {job r : ℕ} → HasJob s.number job s.seen.order → y ≡ with_entry (Completed n job) v →
+      pub shows_completed : {job r : ℕ} → HasJob s.number job s.seen.order → y ≡ with_new_event (Completed n job) v →
           r ≡ s.calls → (r ≡ 0 → ⊥) → Added fits (Completed s.number job) s (sight_of b w boxes kept)
       shows_completed {job} has done is some_of =
-          let here = to_lane (λ k z. y ≡ with_entry (Completed k job) z) done in
+          let here = to_lane (λ k z. y ≡ with_new_event (Completed k job) z) done in
           let own = job_inside has in
           seen_after kept (λ q t. Added fits (Completed q.number job) q t) visit (completing own here)
           (added_is fits a b x y (Completed a.number job) w boxes kept p visit here refl

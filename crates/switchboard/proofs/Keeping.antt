@@ -20,7 +20,7 @@ use Rattle.switchboard.specs.declared.calls.Abort.{Abort}
 use Rattle.switchboard.specs.Sights.{BoardState}
 use Rattle.switchboard.specs.declared.calls.Taken.{Taken}
 use Rattle.switchboard.specs.declared.calls.Taken.TheVariants.{Message}
-use Rattle.switchboard.specs.Books.{IsBook, with_entry, TakesOldest, TakeAnswers}
+use Rattle.switchboard.specs.Books.{IsBook, with_new_event, BoardGivesOldest, TakeAnswers}
 
 module _ {X : Type 0} where
   set_here : (xs : List X) (i : ℕ) (x y : X) → slice_get (set xs i x) i ≡ Some y → x ≡ y
@@ -140,11 +140,6 @@ module _ {M : Type 0} where
   pub order_fits : (hs : List (List (Event M))) (order : List (Entry M)) (cap ps ds : ℕ) → IsBook hs order cap ps ds → length order ≤ 3 * ps
   order_fits hs order cap ps ds k = omega (arith, order_short (length hs) order k.lawful, k.all_posted)
 
-  -- the history of a mailbox
-  pub history_at : (hs : List (List (Event M))) (order : List (Entry M)) (cap ps ds q : ℕ) (h : List (Event M)) → IsBook hs order cap ps ds
-      → slice_get hs q ≡ Some h → h ≡ part q order
-  history_at hs order cap ps ds q h k at = k.parts q h at
-
   -- the same, at a place that is the entry's mailbox, with the history and the order as they are now
   pub kept_entry : (hs : List (List (Event M))) (order order' : List (Entry M)) (cap cap' ps ds ps' ds' : ℕ) (e : Entry M) (q : ℕ)
       (h h' : List (Event M)) → q ≡ mailbox_of e → IsBook hs order cap ps ds → slice_get hs q ≡ Some h
@@ -213,11 +208,11 @@ module _ {M W : Type 0} where
   pub state_push : (w : W) (hs hs' : List (List (Event M))) (order order' : List (Entry M)) (e : Entry M) (a : Option Abort)
       (s : BoardState M W) → length hs' ≡ length hs → order' ≡ order ++ e ∷ []
       → (let fields : BoardState M W = record { world = w; boxes = length hs; order = order; aborted = a } in fields ≡ s)
-      → (let fields : BoardState M W = record { world = w; boxes = length hs'; order = order'; aborted = a } in fields ≡ with_entry e s)
+      → (let fields : BoardState M W = record { world = w; boxes = length hs'; order = order'; aborted = a } in fields ≡ with_new_event e s)
   state_push w hs hs' order order' e a s same longer is = (λ i. record { world = w; boxes = same i; order = longer i; aborted = a })
-      ∙ ap (with_entry e) is
+      ∙ ap (with_new_event e) is
 
   -- the answer is that take
-  pub answers_message : (by job : ℕ) (m : M) (s t : BoardState M W) (r : Taken M) → r ≡ Message job m → TakesOldest by job m s t
+  pub answers_message : (by job : ℕ) (m : M) (s t : BoardState M W) (r : Taken M) → r ≡ Message job m → BoardGivesOldest by job m s t
       → TakeAnswers by r s t
   answers_message by job m s t r is took = subst (λ x. TakeAnswers by x s t) (sym is) took

@@ -24,7 +24,7 @@ use Rattle.switchboard.specs.declared.calls.PostFault.TheVariants as fault
 use Rattle.switchboard.specs.declared.calls.Taken.{Taken}
 use Rattle.switchboard.specs.declared.calls.Taken.TheVariants as answer
 use Rattle.switchboard.specs.Sights.{BoardState, Sight, Before, IsSound, abort_of}
-use Rattle.switchboard.specs.Books.{with_entry, TakesOldest, TakeAnswers, RefusesPost}
+use Rattle.switchboard.specs.Books.{with_new_event, BoardGivesOldest, TakeAnswers, RefusesPost}
 use Rattle.switchboard.specs.Promises.{GoesOn, Looked, Added, WasPosted, WasRefused, Took, MadeAbort}
 use Rattle.switchboard.specs.Passes.{is_by, is_complete, latest, calls_of, share, sight_of, Comes, IsPass}
 use Rattle.switchboard.specs.Proved.Laws.{before_refl, before_trans}
@@ -47,7 +47,7 @@ module _ {M W : Type 0} (fits : W → ℕ → M → Type 0) where
   -- what a pass does to the state while it is inside: nothing, one event of its own, or an abort of its own
   pub data Step (n : ℕ) (x y : BoardState M W) : Type 0 where
     stays : y ≡ x → Step n x y
-    adds : (e : Entry M) → y ≡ with_entry e x → maker_of e ≡ n → Allowed fits e x → Step n x y
+    adds : (e : Entry M) → y ≡ with_new_event e x → maker_of e ≡ n → Allowed fits e x → Step n x y
     aborts : (a : Abort) → y ≡ record x { aborted = abort_of x.aborted a } → a.by ≡ n → a.by < x.boxes → Step n x y
 
   -- a state continues from the one before, stays sound, and has the parts of the other passes as they were
@@ -300,7 +300,7 @@ module _ {M W : Type 0} (fits : W → ℕ → M → Type 0) where
 
   -- a call at which it made one
   pub added_is : (a b : Standing (BoardState M W)) (x y : BoardState M W) (e : Entry M) (w : W) (boxes : ℕ) (kept : Bool)
-      (p : IsPass fits a w boxes kept) → Visit a b x y → y ≡ with_entry e x → maker_of e ≡ a.number → Allowed fits e x
+      (p : IsPass fits a w boxes kept) → Visit a b x y → y ≡ with_new_event e x → maker_of e ≡ a.number → Allowed fits e x
       → 0 < calls_of kept a.left → Added fits e (showing a kept p.last) (showing b kept y)
   added_is a b x y e w boxes kept p v is maker may some_of =
       let f = found_of a b x y w boxes kept p v in
@@ -357,7 +357,7 @@ module _ {M W : Type 0} (fits : W → ℕ → M → Type 0) where
   ]
 
   -- of a mailbox of the board
-  take_allowed : (n job : ℕ) (m : M) (x y : BoardState M W) → n < x.boxes → (t : TakesOldest n job m x y)
+  take_allowed : (n job : ℕ) (m : M) (x y : BoardState M W) → n < x.boxes → (t : BoardGivesOldest n job m x y)
       → Allowed fits (entry.Taken n t.sender m) x
   take_allowed n job m x y near t = record { near = near; follows = t.oldest; under = tt; fit = tt }
 
@@ -412,14 +412,14 @@ module _ {M W : Type 0} (fits : W → ℕ → M → Type 0) where
   -- a post that was made or refused
   pub post_step : (n : ℕ) (e : Entry M) (m : M) (r : Result (Unit {0}) (PostFault M)) (x y : BoardState M W) → maker_of e ≡ n
       → Allowed fits e x
-      → OnOk r ((x.aborted ≡ None) × (y ≡ with_entry e x)) → IfErr r (λ f. RefusesPost m f x y) → Step n x y
+      → OnOk r ((x.aborted ≡ None) × (y ≡ with_new_event e x)) → IfErr r (λ f. RefusesPost m f x y) → Step n x y
   post_step n e m (Ok u) x y maker may ok err = adds e ok.1 maker may
   post_step n e m (Err (fault.Spent back)) x y maker may ok err = absurd err
   post_step n e m (Err (fault.Memory back)) x y maker may ok err = stays err.1
   post_step n e m (Err (fault.Aborted back)) x y maker may ok err = stays err.1
 
   pub post_still : (e : Entry M) (m : M) (r : Result (Unit {0}) (PostFault M)) (x y : BoardState M W)
-      → OnOk r ((x.aborted ≡ None) × (y ≡ with_entry e x)) → IfErr r (λ f. RefusesPost m f x y) → y.aborted ≡ x.aborted
+      → OnOk r ((x.aborted ≡ None) × (y ≡ with_new_event e x)) → IfErr r (λ f. RefusesPost m f x y) → y.aborted ≡ x.aborted
   post_still e m (Ok u) x y ok err = ap (λ (s : BoardState M W). s.aborted) ok.1
   post_still e m (Err (fault.Spent back)) x y ok err = absurd err
   post_still e m (Err (fault.Memory back)) x y ok err = ap (λ (s : BoardState M W). s.aborted) err.1
@@ -431,7 +431,7 @@ module _ {M W : Type 0} (fits : W → ℕ → M → Type 0) where
   pub posted_is : (job to : ℕ) (m : M) (r : Result (Unit {0}) (PostFault M)) (a b : Standing (BoardState M W)) (x y : BoardState M W)
       (w : W)
       (boxes : ℕ) (kept : Bool) (p : IsPass fits a w boxes kept) → Visit a b x y → Allowed fits (entry.Posted to a.number m job) x
-      → OnOk r ((x.aborted ≡ None) × (y ≡ with_entry (entry.Posted to a.number m job) x)) → IfErr r (λ f. RefusesPost m f x y)
+      → OnOk r ((x.aborted ≡ None) × (y ≡ with_new_event (entry.Posted to a.number m job) x)) → IfErr r (λ f. RefusesPost m f x y)
       → 0 < calls_of kept a.left → PostAnswer job to m (showing a kept p.last) (showing b kept y) r
   posted_is job to m (Ok u) a b x y w boxes kept p v may ok err some_of = (
     added_is a b x y (entry.Posted to a.number m job) w boxes kept p v ok.1 refl may some_of,

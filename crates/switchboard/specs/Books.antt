@@ -23,22 +23,22 @@ pub record IsBook {M : Type 0} (histories : List (List (Event M))) (order : List
 
 module _ {M W : Type 0} where
   -- the state with one more event
-  abbrev pub with_entry : Entry M → BoardState M W → BoardState M W
-  with_entry event state = record state { order = state.order ++ event ∷ [] }
+  abbrev pub with_new_event : Entry M → BoardState M W → BoardState M W
+  with_new_event event state = record state { order = state.order ++ event ∷ [] }
 
   -- the oldest message of the mailbox that was not taken is taken, on a board that is not aborted; the job is that of
   -- this take
-  pub record TakesOldest (by job : ℕ) (message : M) (earlier later : BoardState M W) : Type 0 where
+  pub record BoardGivesOldest (by job : ℕ) (message : M) (earlier later : BoardState M W) : Type 0 where
     pub sender : ℕ
     pub oldest : slice_get (posts (part by earlier.order)) (length (takes (part by earlier.order))) ≡ Some (sender, message)
     pub number : job ≡ length (takes (part by earlier.order))
-    pub after : later ≡ with_entry (entry.Taken by sender message) earlier
+    pub after : later ≡ with_new_event (entry.Taken by sender message) earlier
     pub alive : earlier.aborted ≡ None
 
   -- closed, if the order is; aborted, if it is not and the board is; else the oldest message, or that every one is
   -- taken
   abbrev pub TakeAnswers : ℕ → Taken M → BoardState M W → BoardState M W → Type 0
-  TakeAnswers by (answer.Message job message) before after = TakesOldest by job message before after
+  TakeAnswers by (answer.Message job message) before after = BoardGivesOldest by job message before after
   TakeAnswers by answer.Empty before after = (after ≡ before) × (IsClosed before.order → ⊥) × (before.aborted ≡ None)
       × AllTaken by before.order
   TakeAnswers by answer.Closed before after = (after ≡ before) × IsClosed before.order

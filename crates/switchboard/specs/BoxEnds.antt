@@ -12,7 +12,7 @@ use Rattle.switchboard.specs.declared.calls.Abort.{Abort}
 use Rattle.switchboard.specs.declared.lock_per_box.knowing.Ground.{Ground}
 use Rattle.switchboard.specs.declared.lock_per_box.knowing.Own.{Own}
 use Rattle.switchboard.specs.Sights.{Sight, IsSound}
-use Rattle.switchboard.specs.Knowing.{unseen, state_of, hand_at, numbers}
+use Rattle.switchboard.specs.Knowing.{unseen, state_of, hand_at, pass_numbers}
 use Rattle.switchboard.specs.PerBox.{SeatView, Saw, Seat}
 use Rattle.switchboard.specs.BoxPasses.{box_sight, IsBoxPass}
 
@@ -54,7 +54,7 @@ module _ {M W : Type 0} where
       pub saw : Saw fits basis order first low view.seen
       pub owns : (place : ℕ) (lane : Own M) → get_elem? view.lanes place ≡ some lane → own lane.number order ≡ lane.events
       pub boards : (place : ℕ) (ground : Ground M W) → get_elem? view.boards place ≡ some ground → ground ≡ basis
-      pub once : (number : ℕ) → times number (numbers view) ≤ 1
+      pub once : (number : ℕ) → times number (pass_numbers view) ≤ 1
       pub maker : (abort : Abort) → first ≡ Some abort
           → (place : ℕ) × (lane : Own M) × (get_elem? view.lanes place ≡ some lane) × (lane.number ≡ abort.by) × (lane.made ≡ true)
       pub count : length histories ≡ basis.boxes

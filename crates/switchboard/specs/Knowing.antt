@@ -17,13 +17,13 @@ use Rattle.switchboard.specs.Sights.{BoardState}
 
 module _ {T : Type 0} where
   -- a hand that has nothing but its shares
-  abbrev pub bare : ℕ → Hand T
-  bare parts = record { seen = []; tickets = []; inside = []; drawn = []; parts = parts }
+  abbrev pub fresh_hand : ℕ → Hand T
+  fresh_hand parts = record { seen = []; tickets = []; inside = []; drawn = []; parts = parts }
 
   -- a given number of hands that have nothing but such shares
-  abbrev pub bares : ℕ → ℕ → List (Hand T)
-  bares zero parts = []
-  bares (suc n) parts = bare parts ∷ bares n parts
+  abbrev pub fresh_hands : ℕ → ℕ → List (Hand T)
+  fresh_hands zero parts = []
+  fresh_hands (suc n) parts = fresh_hand parts ∷ fresh_hands n parts
 
   -- all that two hands had
   abbrev pub merged_hand : Hand T → Hand T → Hand T
@@ -99,7 +99,7 @@ module _ {M W : Type 0} where
 
 module _ {M W T : Type 0} where
   abbrev pub hand_at : ℕ → Knowing M W T → Hand T
-  hand_at mailbox view = slice_index_or view.hands mailbox (bare 0)
+  hand_at mailbox view = slice_index_or view.hands mailbox (fresh_hand 0)
 
   abbrev pub with_hand : ℕ → Hand T → Knowing M W T → Knowing M W T
   with_hand mailbox hand view = record view { hands = slice_set view.hands mailbox hand }
@@ -108,8 +108,8 @@ module _ {M W T : Type 0} where
   with_seen seen view = record view { seen = seen }
 
   -- the numbers of the passes whose seat it is
-  abbrev pub numbers : Knowing M W T → List ℕ
-  numbers view = map (λ lane. lane.number) view.lanes
+  abbrev pub pass_numbers : Knowing M W T → List ℕ
+  pass_numbers view = map (λ lane. lane.number) view.lanes
 
   -- how many of them are this pass and made an abort
   abbrev pub makes : ℕ → Knowing M W T → ℕ
@@ -140,7 +140,7 @@ module _ {M W T : Type 0} where
   abbrev pub first_view : Ground M W → ℕ → ℕ → Knowing M W T
   first_view basis first count = record {
     boards = basis ∷ [];
-    hands = bares basis.boxes count;
+    hands = fresh_hands basis.boxes count;
     lanes = owns_from first count;
     seen = first_seen basis;
     told = unseen;
@@ -150,24 +150,24 @@ module _ {M W T : Type 0} where
   }
 
   -- a seat without its first pass
-  abbrev pub less_one : Knowing M W T → Knowing M W T
-  less_one view = record view {
-    hands = map (λ hand. bare (hand.parts - 1)) view.hands;
+  abbrev pub without_first_pass : Knowing M W T → Knowing M W T
+  without_first_pass view = record view {
+    hands = map (λ hand. fresh_hand (hand.parts - 1)) view.hands;
     lanes = drop 1 view.lanes;
     budget = view.budget - 2 ^ 56;
   }
 
   -- a seat of its first pass alone
-  abbrev pub just_one : Knowing M W T → Knowing M W T
-  just_one view = record view {
-    hands = map (λ hand. bare 1) view.hands;
+  abbrev pub first_pass_alone : Knowing M W T → Knowing M W T
+  first_pass_alone view = record view {
+    hands = map (λ hand. fresh_hand 1) view.hands;
     lanes = take 1 view.lanes;
     budget = 2 ^ 56;
   }
 
   -- a seat that has all that two had, and was told what the second had seen
-  abbrev pub merged : Knowing M W T → Knowing M W T → Knowing M W T
-  merged one other = record one {
+  abbrev pub merged_seats : Knowing M W T → Knowing M W T → Knowing M W T
+  merged_seats one other = record one {
     boards = one.boards ++ other.boards;
     hands = merged_hands one.hands other.hands;
     lanes = one.lanes ++ other.lanes;
@@ -177,5 +177,5 @@ module _ {M W T : Type 0} where
   }
 
   -- a seat that has taken in what it was told
-  abbrev pub taken_in : Knowing M W T → Knowing M W T
-  taken_in view = record view { seen = both_seen view.seen view.told; told = unseen }
+  abbrev pub informed : Knowing M W T → Knowing M W T
+  informed view = record view { seen = both_seen view.seen view.told; told = unseen }

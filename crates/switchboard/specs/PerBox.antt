@@ -23,7 +23,7 @@ use Rattle.switchboard.specs.declared.lock_per_box.knowing.Own.{Own}
 use Rattle.switchboard.specs.declared.lock_per_box.knowing.Knowing.{Knowing}
 use Rattle.switchboard.specs.Sights.{IsSound}
 use Rattle.switchboard.specs.Knowing.{entry_of, owes_after, with_event, state_of, hand_at, with_hand}
-use Rattle.switchboard.specs.Knowing.{with_seen, numbers, makes, made_abort, taken_in}
+use Rattle.switchboard.specs.Knowing.{with_seen, pass_numbers, makes, made_abort, informed}
 
 -- the first of the two words of a mailbox's lock; those of different mailboxes lie 64 bytes apart
 abbrev pub word_of : ℕ → ℕ
@@ -123,7 +123,7 @@ module _ {M W : Type 0} where
       pub count : low + completed order ≡ posted order + owed state.views
       pub few : low + postable state.views < 2 ^ 63
       pub each : (place : ℕ) (view : SeatView M W) → get_elem? state.views place ≡ some view → KnowsBoard basis order first low view
-      pub once : (number : ℕ) → total (λ (view : SeatView M W). times number (numbers view)) state.views ≤ 1
+      pub once : (number : ℕ) → total (λ (view : SeatView M W). times number (pass_numbers view)) state.views ≤ 1
       pub whole : total (λ (view : SeatView M W). length view.lanes) state.views ≡ basis.boxes
       pub maker : (abort : Abort) → first ≡ Some abort → 0 < total (makes abort.by) state.views
 
@@ -223,7 +223,7 @@ module _ {M W : Type 0} where
 
     -- the seat has taken in what it was told
     pub record SeatTookIn (earlier later : Seat M W) : Type 0 where
-      pub after : later ≡ (taken_in earlier.0, earlier.1)
+      pub after : later ≡ (informed earlier.0, earlier.1)
       pub news : News earlier.0 later.0.seen
       pub theirs : StartsWith later.0.seen.order earlier.0.told.order
       pub aborted : (abort : Abort) → earlier.0.told.aborted ≡ Some abort → later.0.seen.aborted ≡ Some abort

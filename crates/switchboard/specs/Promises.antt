@@ -1,6 +1,6 @@
 -- What the calls of a board promise.
 use Rattle.std.specs.Prelude.{◌≡◌, ◌≢◌, ◌⊎◌, ◌↔◌, ℕ, ◌+◌, Bool, true, false, IsTrue, IsSome, List, []}
-use Rattle.std.specs.Prelude.{◌∷◌, ◌++◌, Some, None, Result, Ok, Err, length, slice_get}
+use Rattle.std.specs.Prelude.{◌∷◌, ◌++◌, Some, None, Result, Ok, Err, MatchResult, length, slice_get}
 use Rattle.atomic_table.specs.Seated.{TableId}
 use Rattle.ticket_lock.specs.declared.lane.Spent.{Spent}
 use Rattle.ticket_lock.specs.History.{StartsWith}
@@ -99,6 +99,11 @@ module _ {M W : Type 0} (fits : W → ℕ → M → Type 0) where
   WasRefused message (fault.Spent back) before after = (back ≡ message) × WasSpent before after
   WasRefused message (fault.Memory back) before after = (back ≡ message) × Looked before after × (after.seen.aborted ≡ None)
   WasRefused message (fault.Aborted back) before after = (back ≡ message) × Looked before after × IsSome after.seen.aborted
+
+  -- what a post returns: nothing, if the message was posted; else why it came back
+  abbrev pub PostReturns : ℕ → ℕ → M → Result (Unit {0}) (PostFault M) → Sight M W → Sight M W → Type 0
+  PostReturns job to message answer before after =
+      MatchResult answer (λ _. WasPosted job to message before after) (λ why. WasRefused message why before after)
 
   -- the oldest message not yet taken was taken, of a board that was not aborted; it fits the mailbox, and the job is
   -- that of the take

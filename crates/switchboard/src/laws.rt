@@ -1,12 +1,13 @@
 //! Laws on the calls of a board.
-ghost use Rattle.std.specs.Prelude.{◌≡◌, ◌≢◌, ℕ, true, IsSome, Result, MatchResult};
+ghost use Rattle.std.specs.Prelude.{◌≡◌, ◌≢◌, ℕ, true, IsSome, Result};
 ghost use Rattle.ticket_lock.specs.declared.lane.Spent.{Spent};
 ghost use Rattle.post_ledger.specs.Orders.{IsClosed, HasJob};
 ghost use Rattle.switchboard.specs.declared.calls.Taken.{Taken};
 ghost use Rattle.switchboard.specs.declared.calls.PostFault.{PostFault};
 ghost use Rattle.switchboard.specs.declared.calls.Abort.{Abort};
 ghost use Rattle.switchboard.specs.Sights.{Sight, Account, IsSound};
-ghost use Rattle.switchboard.specs.Promises.{Took, TookOldest, WasPosted, WasRefused, WasDone};
+ghost use Rattle.switchboard.specs.Promises.{Took, TookOldest, WasPosted, WasRefused, PostReturns};
+ghost use Rattle.switchboard.specs.Promises.{WasDone};
 ghost use Rattle.switchboard.specs.Promises.{KeepsJob, MadeAbort, Learned, WasSpent, SaysClosed};
 ghost use Rattle.switchboard.specs.Promises.{SaysStopped, IsPostStopped};
 
@@ -65,10 +66,8 @@ pub fn a_message_comes_with_a_job<M: Mail<W>, W>()
 pub fn a_job_lasts_until_it_is_done<M: Mail<W>, W>()
     ensures takes { (old new : Sight M W) (r : Result (Taken M) Spent) (j : ℕ)
         → Took M.fits r old new → KeepsJob j old new }
-    ensures posts { (old new : Sight M W) (job to : ℕ) (m : M)
-        (r : Result (Unit {0}) (PostFault M)) (j : ℕ)
-        → MatchResult r (λ _. WasPosted M.fits job to m old new) (λ f. WasRefused M.fits m f old new)
-        → KeepsJob j old new }
+    ensures posts { (old new : Sight M W) (job to : ℕ) (m : M) (r : Result (Unit {0}) (PostFault M))
+        (j : ℕ) → PostReturns M.fits job to m r old new → KeepsJob j old new }
     ensures dones { (old new : Sight M W) (job j : ℕ) → WasDone M.fits job old new → j ≢ job
         → KeepsJob j old new }
     ensures aborts { (old new : Sight M W) (a : Abort) (j : ℕ) → MadeAbort M.fits a old new

@@ -10,7 +10,7 @@ use Rattle.language.specs.Tree.{Name, assign}
 use Rattle.trees.specs.Trees.{Deed, simple}
 use Rattle.tokens.specs.declared.vocabulary.Kind.TheVariants as kind
 use Rattle.syntax.specs.Parser.{Parser, give, take, begins, ◌>>=◌}
-use Rattle.syntax.specs.Exact.{closing, perhaps, listed, name, names, right, rights, ended, assignment}
+use Rattle.syntax.specs.Exact.{closing, perhaps, listed, name, name_list, right, rights, semicolon_after, assignment}
 use Rattle.syntax.specs.Gives.{Gives, Parses, Shorter, Closes}
 use Rattle.syntax.specs.declared.fault.ReadFault.{ReadFault}
 use Rattle.syntax.specs.declared.fault.ReadFault.TheVariants as fault
@@ -111,10 +111,10 @@ pub assignment_is : (ts : List Tok) {xs : List Name} {us : List Tok} → listed 
     → assignment ts ≡ sides_behind xs us
 unfolding assignment
 assignment_is ts {xs} {us} e =
-    behind_closing names kind.Assign (λ xs. rights >>= λ rs. ended (simple (assign xs rs))) ts
+    behind_closing name_list kind.Assign (λ xs. rights >>= λ rs. semicolon_after (simple (assign xs rs))) ts
     ∙ rw e (behind_closing rights kind.Semicolon (λ rs. give (simple (assign xs rs))) us)
 
 pub assignment_refused : (ts : List Tok) → listed name kind.Assign ts ≡ None → assignment ts ≡ None
 unfolding assignment
 assignment_refused ts e =
-    behind_closing names kind.Assign (λ xs. rights >>= λ rs. ended (simple (assign xs rs))) ts ∙ rw e refl
+    behind_closing name_list kind.Assign (λ xs. rights >>= λ rs. semicolon_after (simple (assign xs rs))) ts ∙ rw e refl

@@ -11,7 +11,8 @@ use Rattle.grammar.specs.Grammar.{Perhaps, IsExpression, IsRight, is_any, is_val
 use Rattle.grammar.specs.Grammar.{is_give, is_goto, is_assert, is_assume, is_assign, is_call, is_call_for, IsSome, Statements, nothing_more}
 use Rattle.grammar.specs.Grammar.{statement, if_statement, while_statement}
 use Rattle.trees.specs.Trees.{Deed, simple, branch, repeat, before, marked_before}
-use Rattle.syntax.specs.Exact.{name, names, expression, rights, arguments, condition, marked, assignment, calling, asking, names_call}
+use Rattle.syntax.specs.Exact.{name, name_list, expression, rights, argument_list, condition, marked, assignment, calling, asking}
+use Rattle.syntax.specs.Exact.{names_call}
 use Rattle.syntax.specs.Exact.{asks_behind, named, giving, returning, branching, repeating, deed_by, deed_step, starts, starts_here}
 use Rattle.syntax.specs.Exact.{item_step, rest_step, section}
 use Rattle.syntax.proofs.KindTests.{same_kind-true, same_kind-is}
@@ -135,7 +136,7 @@ simple_reads f (is_assign {ts = t ∷ ts} {us = us} {vs = vs} {ws = ws} {rest = 
     let n = names_next t ts us xs h in
     at ts (by_name f t n.0)
     ∙ rw (next_no kind.Open ts us vs refl refl n.1 a, next_asks_no ts us vs n.1 a (rights_no_call l c))
-    (bind_is names (λ xs. take kind.Assign >>= λ _. rights >>= λ rs. take kind.Semicolon >>= λ _. give (simple (assign xs rs)))
+    (bind_is name_list (λ xs. take kind.Assign >>= λ _. rights >>= λ rs. take kind.Semicolon >>= λ _. give (simple (assign xs rs)))
     (t ∷ ts) xs us
     (exactly_names.reads (t ∷ ts) xs us h (tt, begins_other kind.Comma a refl))
     ∙ passing (rights >>= λ rs. take kind.Semicolon >>= λ _. give (simple (assign xs rs))) a
@@ -145,9 +146,9 @@ simple_reads f (is_assign {ts = t ∷ ts} {us = us} {vs = vs} {ws = ws} {rest = 
 simple_reads f (is_call {vs = vs} {p = p} {es = es} (is_name {t = t} {rest = us} is) h c) =
     at us (by_name f t is)
     ∙ rw (opens us vs es h)
-    (bind_is name (λ p. arguments >>= λ es. take kind.Semicolon >>= λ _. give (simple (call p es))) (t ∷ us) (name_at t) us
+    (bind_is name (λ p. argument_list >>= λ es. take kind.Semicolon >>= λ _. give (simple (call p es))) (t ∷ us) (name_at t) us
     (exactly_name.reads (t ∷ us) (name_at t) us (is_name is) tt)
-    ∙ bind_is arguments (λ es. take kind.Semicolon >>= λ _. give (simple (call (name_at t) es))) us es vs
+    ∙ bind_is argument_list (λ es. take kind.Semicolon >>= λ _. give (simple (call (name_at t) es))) us es vs
     (exactly_arguments.reads us es vs h tt)
     ∙ ends (simple (call (name_at t) es)) c)
 simple_reads f (is_call_for {xs = xs} {es = es} (is_name {t = x} is) (takes {t = a} {rest = vs} was)
@@ -155,19 +156,14 @@ simple_reads f (is_call_for {xs = xs} {es = es} (is_name {t = x} is) (takes {t =
     at (a ∷ vs) (by_name f x is)
     ∙ rw (begins_other {ts = a ∷ p ∷ ws} kind.Open (takes was) refl, asks_so a p ws was named (opens ws xs es h))
     (bind_is name
-    (λ x. take kind.Assign >>= λ _. name >>= λ p. arguments >>= λ es. take kind.Semicolon >>= λ _. give (simple (call_for x p es)))
+    (λ x. take kind.Assign >>= λ _. name >>= λ p. argument_list >>= λ es. take kind.Semicolon >>= λ _. give (simple (call_for x p es)))
     (x ∷ a ∷ vs) (name_at x) (a ∷ vs) (exactly_name.reads (x ∷ a ∷ vs) (name_at x) (a ∷ vs) (is_name is) tt)
-    ∙ passing (name >>= λ p. arguments >>= λ es. take kind.Semicolon >>= λ _. give (simple (call_for (name_at x) p es))) (takes was)
-    ∙ bind_is name (λ p. arguments >>= λ es. take kind.Semicolon >>= λ _. give (simple (call_for (name_at x) p es)))
+    ∙ passing (name >>= λ p. argument_list >>= λ es. take kind.Semicolon >>= λ _. give (simple (call_for (name_at x) p es))) (takes was)
+    ∙ bind_is name (λ p. argument_list >>= λ es. take kind.Semicolon >>= λ _. give (simple (call_for (name_at x) p es)))
     (p ∷ ws) (name_at p) ws (exactly_name.reads (p ∷ ws) (name_at p) ws (is_name named) tt)
-    ∙ bind_is arguments (λ es. take kind.Semicolon >>= λ _. give (simple (call_for (name_at x) (name_at p) es))) ws es xs
+    ∙ bind_is argument_list (λ es. take kind.Semicolon >>= λ _. give (simple (call_for (name_at x) (name_at p) es))) ws es xs
     (exactly_arguments.reads ws es xs h tt)
     ∙ ends (simple (call_for (name_at x) (name_at p) es)) c)
-
--- no statement continues as a label would
-if_no : {k : Kind} {ts us : List Tok} {t : Tok} → Takes k (t ∷ ts) us → same_kind k kind.Id ≡ false
-    → same_kind t.kind kind.Id && begins kind.Colon ts ≡ false
-if_no {ts = ts} (takes e) h = rw (e, h) refl
 
 colon_no : (t : Tok) (ts : List Tok) → begins kind.Colon ts ≡ false → same_kind t.kind kind.Id && begins kind.Colon ts ≡ false
 colon_no t ts e = rw e (by_test (same_kind t.kind kind.Id))

@@ -9,7 +9,7 @@ use Rattle.tokens.specs.Token.{Tok, toks_of, same_kind}
 use Rattle.syntax.specs.Parser.{Parser, give, ◌>>=◌, begins, take}
 use Rattle.trees.specs.Trees.{Deed, simple, branch, repeat, Item, before, all_before}
 use Rattle.syntax.specs.Exact.{item_step, rest_step, starts_here, section, closing, item, going_on, put_before, marked, condition}
-use Rattle.syntax.specs.Exact.{calling, asking, assignment, asks_behind, named, ended, giving, deed_step, deed_by, deed, if_deed}
+use Rattle.syntax.specs.Exact.{calling, asking, assignment, asks_behind, named, semicolon_after, giving, deed_step, deed_by, deed, if_deed}
 use Rattle.syntax.specs.Exact.{while_deed}
 use Rattle.syntax.proofs.Closings.{behind_closing}
 use Rattle.syntax.proofs.Fixes.{bind_is}
@@ -154,7 +154,7 @@ no_deed_begins ts us t e s r g a m f w i =
 
 -- `return` stands alone, or a value follows
 pub deed_leaves : (ts us : List Token) (t : Token) → ts ≡ t ∷ us → t.kind ≡ kind.Return
-    → begins kind.Semicolon (toks_of us) ≡ true → deed (toks_of ts) ≡ ended (simple leave) (toks_of us)
+    → begins kind.Semicolon (toks_of us) ≡ true → deed (toks_of ts) ≡ semicolon_after (simple leave) (toks_of us)
 unfolding deed same_kind
 deed_leaves ts us t e is h = rw (e, is, h) refl
 

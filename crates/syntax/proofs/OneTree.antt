@@ -7,7 +7,7 @@ use Rattle.tokens.specs.Depth.{TooDeep}
 use Rattle.tokens.proofs.OneCut.{one_cut, never_both}
 use Rattle.syntax.specs.declared.fault.ReadFault.{ReadFault}
 use Rattle.syntax.specs.declared.fault.ReadFault.TheVariants as fault
-use Rattle.syntax.specs.Text.{Text, ReadFaultStands, DeepTokens, NoProgram, number}
+use Rattle.syntax.specs.Text.{Text, ReadFaultStands, DeepTokens, NoProgram, fault_number}
 use Rattle.syntax.proofs.Fixes.{both}
 use Rattle.syntax.proofs.Programs.{program_reads}
 
@@ -26,7 +26,7 @@ no_syntax : (bytes : List ℕ) (tree : Tree) (at : ℕ) → Text bytes tree → 
 no_syntax bytes tree at t (inl bad) = never_both 0 at bytes t.tokens bad t.cut
 no_syntax bytes tree at t (inr none) = no_program bytes tree t none
 
-pub no_fault : (bytes : List ℕ) (tree : Tree) (fault : ReadFault) → Text bytes tree → ReadFaultStands fault bytes → number fault ≡ 5
+pub no_fault : (bytes : List ℕ) (tree : Tree) (fault : ReadFault) → Text bytes tree → ReadFaultStands fault bytes → fault_number fault ≡ 5
 no_fault bytes tree fault.TooLong t s = absurd (let h = t.within in omega arith)
 no_fault bytes tree fault.NotAscii t s = absurd (s.1 t.ascii)
 no_fault bytes tree (fault.Syntax at) t s = absurd (no_syntax bytes tree at t s.2)
@@ -37,8 +37,9 @@ syntax_or_deep : (bytes : List ℕ) (at : ℕ) → BadAt 0 bytes at ⊎ NoProgra
 syntax_or_deep bytes at (inl bad) d = never_both 0 at bytes d.0 bad d.1
 syntax_or_deep bytes at (inr none) d = no_deep bytes none.0 none.1 none.2 d
 
-pub one_fault : (bytes : List ℕ) (f g : ReadFault) → ReadFaultStands f bytes → ReadFaultStands g bytes → number f < 5 → number g < 5
-    → number f ≡ number g
+pub one_fault : (bytes : List ℕ) (f g : ReadFault) → ReadFaultStands f bytes → ReadFaultStands g bytes → fault_number f < 5
+    → fault_number g < 5
+    → fault_number f ≡ fault_number g
 one_fault bytes fault.TooLong fault.TooLong s t a b = refl
 one_fault bytes fault.TooLong fault.NotAscii s t a b = absurd (let h = t.0 in omega arith)
 one_fault bytes fault.TooLong (fault.Syntax at) s t a b = absurd (let h = t.0 in omega arith)

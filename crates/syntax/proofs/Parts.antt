@@ -7,7 +7,7 @@ use Rattle.tokens.specs.Token.{Tok, same_kind}
 use Rattle.syntax.specs.Parser.{Strict, give, ◌>>=◌, begins, take}
 use Rattle.grammar.specs.Grammar.{Takes, takes, name_at, operator_at, Reads, reads_zero, reads_one, reads_name, reads_not, reads_paren}
 use Rattle.grammar.specs.Grammar.{reads_two, IsName, is_name, InParens, Listed, Perhaps, IsExpression, IsRight, is_any, is_value}
-use Rattle.syntax.specs.Exact.{binds, name, names, expression, right, rights, formals, arguments, enclosed, condition, names_call}
+use Rattle.syntax.specs.Exact.{binds, name, name_list, expression, right, rights, formals, argument_list, enclosed, condition, names_call}
 use Rattle.syntax.proofs.KindTests.{same_kind-true, same_kind-is}
 use Rattle.syntax.proofs.Fixes.{carried, between, bind_is, Strict-Shrinks, Shrinks-give, Strict-take, Strict-bind}
 use Rattle.syntax.proofs.Expressions.{Stops, stops_end, stops_at, take_is, take_finds, reading_finds, reading_complete, reading_strict}
@@ -138,10 +138,10 @@ pub semicolon_stops : (us rest : List Tok) → Takes kind.Semicolon us rest → 
 semicolon_stops us rest (takes e) = stops_at (ap (binds 0) e)
 
 -- lists of names and right sides, formals, arguments, tests
-pub exactly_names : Exactly (Listed IsName) (NoComma Anything) names
+pub exactly_names : Exactly (Listed IsName) (NoComma Anything) name_list
 exactly_names = exactly_list strict_name exactly_name (λ us e. tt)
 
-pub strict_names : Strict names
+pub strict_names : Strict name_list
 strict_names = Strict-list strict_name
 
 pub exactly_rights : Exactly (Listed IsRight) (NoComma (Stops 0)) rights
@@ -159,7 +159,7 @@ unfolding enclosed
 exactly_formals =
     exactly_parens (exactly_perhaps strict_name exactly_name (λ us e. tt) (λ us rest t. tt) name_begins) (λ us rest t. begins_takes t)
 
-pub exactly_arguments : Exactly (InParens (Perhaps IsExpression)) Anything arguments
+pub exactly_arguments : Exactly (InParens (Perhaps IsExpression)) Anything argument_list
 unfolding enclosed same_kind
 exactly_arguments =
     exactly_parens
@@ -174,7 +174,7 @@ pub strict_formals : Strict formals
 unfolding enclosed
 strict_formals = strict_parens (shrinks_perhaps strict_name)
 
-pub strict_arguments : Strict arguments
+pub strict_arguments : Strict argument_list
 unfolding enclosed
 strict_arguments = strict_parens (shrinks_perhaps strict_expression)
 

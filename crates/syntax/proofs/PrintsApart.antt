@@ -14,7 +14,7 @@ use Rattle.grammar.specs.InGrammar.{IsId, AreIds, ExpressionInGrammar, SideInGra
 use Rattle.grammar.specs.InGrammar.{ProcedureInGrammar, ThreadInGrammar, InGrammar}
 use Rattle.grammar.specs.Printed as printed
 use Rattle.grammar.specs.Printed.{name_parts, after_commas, separated, kind_of, operation, operand_parts, expression_parts, side_parts}
-use Rattle.grammar.specs.Printed.{ended, simple_parts, label_parts, margin, line_of, test_parts, block_parts, declaration_parts}
+use Rattle.grammar.specs.Printed.{ended, simple_parts, label_parts, margin, line_parts, test_parts, block_parts, declaration_parts}
 use Rattle.grammar.specs.Printed.{procedure_parts, thread_parts, program_parts}
 use Rattle.syntax.proofs.Appended.{four, five, six}
 
@@ -194,7 +194,7 @@ margin_fits zero more apart = apart
 margin_fits (suc level) more apart = margin_fits level more apart
 
 -- A line stands apart if what is on it does in front of a line feed.
-line_fits : (level : ℕ) (parts more : List Part) → AreApart (parts ++ (line ∷ more)) → AreApart (line_of level parts ++ more)
+line_fits : (level : ℕ) (parts more : List Part) → AreApart (parts ++ (line ∷ more)) → AreApart (line_parts level parts ++ more)
 line_fits level parts more apart =
     put _ (margin level ++ (parts ++ (line ∷ more)))
     (append_assoc (margin level) (parts ++ (line ∷ [])) more
@@ -202,7 +202,7 @@ line_fits level parts more apart =
     (margin_fits level (parts ++ (line ∷ more)) apart)
 
 first_line_fits : (level : ℕ) (l : Option Name) → LabelInGrammar l → (s more : List Part) → AreApart (s ++ (line ∷ more))
-    → AreApart (line_of level (label_parts l ++ s) ++ more)
+    → AreApart (line_parts level (label_parts l ++ s) ++ more)
 first_line_fits level l ok s more apart =
     line_fits level (label_parts l ++ s) more
     (put _ (label_parts l ++ (s ++ (line ∷ more))) (append_assoc (label_parts l) s (line ∷ more))
@@ -224,36 +224,37 @@ block_fits : (b : Block Name Name Name) → BlockInGrammar b → (level : ℕ) (
     → AreApart (block_parts level b ++ more)
 block_fits done ok level more apart = apart
 block_fits (one m s k) ok level more apart =
-    put _ (line_of level (label_parts m.label ++ simple_parts s) ++ (block_parts level k ++ more))
-    (append_assoc (line_of level (label_parts m.label ++ simple_parts s)) (block_parts level k) more)
+    put _ (line_parts level (label_parts m.label ++ simple_parts s) ++ (block_parts level k ++ more))
+    (append_assoc (line_parts level (label_parts m.label ++ simple_parts s)) (block_parts level k) more)
     (first_line_fits level m.label ok.0 (simple_parts s) (block_parts level k ++ more)
     (simple_fits s ok.1 (line ∷ (block_parts level k ++ more)) (block_fits k ok.2 level more apart)))
 block_fits (choose m r a b k) ok level more apart =
     let rest : List Part = block_parts level k ++ more in
-    let from_fi : List Part = line_of level (fixed kind.Fi ∷ []) ++ rest in
+    let from_fi : List Part = line_parts level (fixed kind.Fi ∷ []) ++ rest in
     let from_no : List Part = block_parts (suc level) b ++ from_fi in
-    let from_else : List Part = line_of level (fixed kind.Else ∷ []) ++ from_no in
+    let from_else : List Part = line_parts level (fixed kind.Else ∷ []) ++ from_no in
     let from_yes : List Part = block_parts (suc level) a ++ from_else in
     let h1 : AreApart rest = block_fits k ok.6 level more apart in
     let h2 : AreApart from_fi = line_fits level (fixed kind.Fi ∷ []) rest (inl (reserved refl), tt, h1) in
     let h3 : AreApart from_no = block_fits b ok.5 (suc level) from_fi h2 in
     let h4 : AreApart from_else = line_fits level (fixed kind.Else ∷ []) from_no (inl (reserved refl), tt, h3) in
     let h5 : AreApart from_yes = block_fits a ok.3 (suc level) from_else h4 in
-    put _ (line_of level (label_parts m.label ++ test_parts kind.If r kind.Then) ++ from_yes)
-    (six (line_of level (label_parts m.label ++ test_parts kind.If r kind.Then)) (block_parts (suc level) a)
-    (line_of level (fixed kind.Else ∷ [])) (block_parts (suc level) b) (line_of level (fixed kind.Fi ∷ [])) (block_parts level k) more)
+    put _ (line_parts level (label_parts m.label ++ test_parts kind.If r kind.Then) ++ from_yes)
+    (six (line_parts level (label_parts m.label ++ test_parts kind.If r kind.Then)) (block_parts (suc level) a)
+    (line_parts level (fixed kind.Else ∷ [])) (block_parts (suc level) b) (line_parts level (fixed kind.Fi ∷ []))
+    (block_parts level k) more)
     (first_line_fits level m.label ok.0 (test_parts kind.If r kind.Then) from_yes
     (test_fits kind.If kind.Then (inl (reserved refl)) (inl (reserved refl)) r ok.1 from_yes h5))
 block_fits (loop m r a k) ok level more apart =
     let rest : List Part = block_parts level k ++ more in
-    let from_od : List Part = line_of level (fixed kind.Od ∷ []) ++ rest in
+    let from_od : List Part = line_parts level (fixed kind.Od ∷ []) ++ rest in
     let from_body : List Part = block_parts (suc level) a ++ from_od in
     let h1 : AreApart rest = block_fits k ok.4 level more apart in
     let h2 : AreApart from_od = line_fits level (fixed kind.Od ∷ []) rest (inl (reserved refl), tt, h1) in
     let h3 : AreApart from_body = block_fits a ok.3 (suc level) from_od h2 in
-    put _ (line_of level (label_parts m.label ++ test_parts kind.While r kind.Do) ++ from_body)
-    (four (line_of level (label_parts m.label ++ test_parts kind.While r kind.Do)) (block_parts (suc level) a)
-    (line_of level (fixed kind.Od ∷ [])) (block_parts level k) more)
+    put _ (line_parts level (label_parts m.label ++ test_parts kind.While r kind.Do) ++ from_body)
+    (four (line_parts level (label_parts m.label ++ test_parts kind.While r kind.Do)) (block_parts (suc level) a)
+    (line_parts level (fixed kind.Od ∷ [])) (block_parts level k) more)
     (first_line_fits level m.label ok.0 (test_parts kind.While r kind.Do) from_body
     (test_fits kind.While kind.Do (inl (reserved refl)) (inl (reserved refl)) r ok.1 from_body h3))
 
@@ -267,17 +268,17 @@ declaration_fits (n ∷ ns) all level more apart =
 
 procedure_fits : (p : Procedure) → ProcedureInGrammar p → (more : List Part) → AreApart more → AreApart (procedure_parts p ++ more)
 procedure_fits p ok more apart =
-    let from_end : List Part = line_of 0 (fixed kind.End ∷ []) ++ more in
+    let from_end : List Part = line_parts 0 (fixed kind.End ∷ []) ++ more in
     let from_body : List Part = block_parts 1 p.body ++ from_end in
     let from_locals : List Part = declaration_parts 1 p.locals ++ from_body in
-    let from_begin : List Part = line_of 0 (fixed kind.Begin ∷ []) ++ from_locals in
+    let from_begin : List Part = line_parts 0 (fixed kind.Begin ∷ []) ++ from_locals in
     let h1 : AreApart from_end = line_fits 0 (fixed kind.End ∷ []) more (inl (reserved refl), tt, apart) in
     let h2 : AreApart from_body = block_fits p.body ok.body 1 from_end h1 in
     let h3 : AreApart from_locals = declaration_fits p.locals ok.locals 1 from_body h2 in
     let h4 : AreApart from_begin = line_fits 0 (fixed kind.Begin ∷ []) from_locals (inl (reserved refl), tt, h3) in
-    put _ (line_of 0 (name_parts p.name ++ printed.in_parens (separated name_parts p.formals)) ++ from_begin)
-    (five (line_of 0 (name_parts p.name ++ printed.in_parens (separated name_parts p.formals))) (line_of 0 (fixed kind.Begin ∷ []))
-    (declaration_parts 1 p.locals) (block_parts 1 p.body) (line_of 0 (fixed kind.End ∷ [])) more)
+    put _ (line_parts 0 (name_parts p.name ++ printed.in_parens (separated name_parts p.formals)) ++ from_begin)
+    (five (line_parts 0 (name_parts p.name ++ printed.in_parens (separated name_parts p.formals))) (line_parts 0 (fixed kind.Begin ∷ []))
+    (declaration_parts 1 p.locals) (block_parts 1 p.body) (line_parts 0 (fixed kind.End ∷ [])) more)
     (line_fits 0 (name_parts p.name ++ printed.in_parens (separated name_parts p.formals)) from_begin
     (inl (name ok.name), refl, parens_fit (separated name_parts p.formals) (names_fit p.formals ok.formals) (line ∷ from_begin) h4))
 

@@ -13,7 +13,7 @@ use Rattle.grammar.specs.Grammar.{IsSome, Statements, nothing_more, statement, i
 use Rattle.syntax.specs.Offsets.{unplaced, unplaced_expression, unplaced_side, unplaced_simple, unplaced_mark, unplaced_block}
 use Rattle.grammar.specs.InGrammar.{SimpleInGrammar, BlockInGrammar}
 use Rattle.grammar.specs.Printed as printed
-use Rattle.grammar.specs.Printed.{name_parts, separated, expression_parts, side_parts, ended, simple_parts, label_parts, margin, line_of}
+use Rattle.grammar.specs.Printed.{name_parts, separated, expression_parts, side_parts, ended, simple_parts, label_parts, margin, line_parts}
 use Rattle.grammar.specs.Printed.{test_parts, block_parts}
 use Rattle.syntax.proofs.Appended.{four, six}
 use Rattle.syntax.proofs.PrintsBack.{Read, Shows, put, expression_shows, side_shows, name_shows, list_shows, perhaps_shows, parens_show}
@@ -145,7 +145,7 @@ margin_at zero at ps = (at, refl)
 margin_at (suc level) at ps = margin_at level (at + 1 + 1) ps
 
 pub line_at : (level at : ℕ) (parts more : List Part)
-    → (n : ℕ) × (tokens_of at (line_of level parts ++ more) ≡ tokens_of n (parts ++ (line ∷ more)))
+    → (n : ℕ) × (tokens_of at (line_parts level parts ++ more) ≡ tokens_of n (parts ++ (line ∷ more)))
 line_at level at parts more =
     let m = margin_at level at (parts ++ (line ∷ more)) in (
       m.0,
@@ -156,7 +156,7 @@ line_at level at parts more =
 
 -- A keyword on a line of its own.
 pub word_at : (k : Kind) (level at : ℕ) (more : List Part)
-    → (n : ℕ) × Takes k (tokens_of at (line_of level (fixed k ∷ []) ++ more)) (tokens_of n more)
+    → (n : ℕ) × Takes k (tokens_of at (line_parts level (fixed k ∷ []) ++ more)) (tokens_of n more)
 word_at k level at more =
     let l = line_at level at (fixed k ∷ []) more in
     (l.0 + length (spelling k) + 1, subst (λ ts. Takes k ts (tokens_of (l.0 + length (spelling k) + 1) more)) (sym l.1) (takes refl))
@@ -209,7 +209,7 @@ some_too x y e some = from_bare x (subst IsSome (sym e) (to_bare y some))
 
 -- the marked first line of a statement
 first_line : (level at : ℕ) (label s more : List Part)
-    → (n : ℕ) × (tokens_of at (line_of level (label ++ s) ++ more) ≡ tokens_of n (label ++ (s ++ (line ∷ more))))
+    → (n : ℕ) × (tokens_of at (line_parts level (label ++ s) ++ more) ≡ tokens_of n (label ++ (s ++ (line ∷ more))))
 first_line level at label s more = let l = line_at level at (label ++ s) more in
     (l.0, l.1 ∙ ap (tokens_of l.0) (append_assoc label s (line ∷ more)))
 
@@ -227,7 +227,7 @@ block_shows (one m s k) ok level at more =
     let first = simple_shows s ok.1 mark.next (line ∷ rest) in
     let others = block_shows k ok.2 level (first.next + 1) more in
     put_tokens _ _
-    (ap (tokens_of at) (append_assoc (line_of level (label_parts m.label ++ simple_parts s)) (block_parts level k) more) ∙ start.1)
+    (ap (tokens_of at) (append_assoc (line_parts level (label_parts m.label ++ simple_parts s)) (block_parts level k) more) ∙ start.1)
     (record {
       found = one mark.found first.found others.found;
       next = others.next;
@@ -236,8 +236,8 @@ block_shows (one m s k) ok level at more =
     })
 block_shows (choose m r a b k) ok level at more =
     let rest : List Part = block_parts level k ++ more in
-    let from_fi : List Part = line_of level (fixed kind.Fi ∷ []) ++ rest in
-    let from_else : List Part = line_of level (fixed kind.Else ∷ []) ++ (block_parts (suc level) b ++ from_fi) in
+    let from_fi : List Part = line_parts level (fixed kind.Fi ∷ []) ++ rest in
+    let from_else : List Part = line_parts level (fixed kind.Else ∷ []) ++ (block_parts (suc level) b ++ from_fi) in
     let start = first_line level at (label_parts m.label) (test_parts kind.If r kind.Then) (block_parts (suc level) a ++ from_else) in
     let mark =
     mark_shows m.label m.at kind.If (spelling kind.If) _
@@ -250,8 +250,9 @@ block_shows (choose m r a b k) ok level at more =
     let others = block_shows k ok.6 level end.0 more in
     put_tokens _ _
     (ap (tokens_of at)
-    (six (line_of level (label_parts m.label ++ test_parts kind.If r kind.Then)) (block_parts (suc level) a)
-    (line_of level (fixed kind.Else ∷ [])) (block_parts (suc level) b) (line_of level (fixed kind.Fi ∷ [])) (block_parts level k) more)
+    (six (line_parts level (label_parts m.label ++ test_parts kind.If r kind.Then)) (block_parts (suc level) a)
+    (line_parts level (fixed kind.Else ∷ [])) (block_parts (suc level) b) (line_parts level (fixed kind.Fi ∷ []))
+    (block_parts level k) more)
     ∙ start.1)
     (record {
       found = choose mark.found test.found yes.found no.found others.found;
@@ -263,7 +264,7 @@ block_shows (choose m r a b k) ok level at more =
     })
 block_shows (loop m r a k) ok level at more =
     let rest : List Part = block_parts level k ++ more in
-    let from_od : List Part = line_of level (fixed kind.Od ∷ []) ++ rest in
+    let from_od : List Part = line_parts level (fixed kind.Od ∷ []) ++ rest in
     let start = first_line level at (label_parts m.label) (test_parts kind.While r kind.Do) (block_parts (suc level) a ++ from_od) in
     let mark =
     mark_shows m.label m.at kind.While (spelling kind.While) _
@@ -274,8 +275,8 @@ block_shows (loop m r a k) ok level at more =
     let others = block_shows k ok.4 level end.0 more in
     put_tokens _ _
     (ap (tokens_of at)
-    (four (line_of level (label_parts m.label ++ test_parts kind.While r kind.Do)) (block_parts (suc level) a)
-    (line_of level (fixed kind.Od ∷ [])) (block_parts level k) more) ∙ start.1)
+    (four (line_parts level (label_parts m.label ++ test_parts kind.While r kind.Do)) (block_parts (suc level) a)
+    (line_parts level (fixed kind.Od ∷ [])) (block_parts level k) more) ∙ start.1)
     (record {
       found = loop mark.found test.found body.found others.found;
       next = others.next;

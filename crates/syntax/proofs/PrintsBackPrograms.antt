@@ -10,7 +10,7 @@ use Rattle.grammar.specs.Grammar.{Declarations, declarations, IsProcedure, is_pr
 use Rattle.syntax.specs.Offsets.{unplaced, unplaced_procedure, unplaced_thread, unplaced_tree}
 use Rattle.grammar.specs.InGrammar.{ProcedureInGrammar, ThreadInGrammar, InGrammar}
 use Rattle.grammar.specs.Printed as printed
-use Rattle.grammar.specs.Printed.{name_parts, separated, ended, line_of, block_parts, declaration_parts, procedure_parts, thread_parts}
+use Rattle.grammar.specs.Printed.{name_parts, separated, ended, line_parts, block_parts, declaration_parts, procedure_parts, thread_parts}
 use Rattle.grammar.specs.Printed.{program_parts}
 use Rattle.syntax.proofs.Appended.{five}
 use Rattle.syntax.proofs.PrintsBack.{Shows, put, name_shows, list_shows, perhaps_shows, parens_show}
@@ -37,9 +37,9 @@ declaration_shows (n ∷ ns) level at more =
 procedure_shows : (p : Procedure) → ProcedureInGrammar p → Shows IsProcedure unplaced_procedure (procedure_parts p) p
 procedure_shows p ok at more =
     let head : List Part = name_parts p.name ++ printed.in_parens (separated name_parts p.formals) in
-    let from_end : List Part = line_of 0 (fixed kind.End ∷ []) ++ more in
+    let from_end : List Part = line_parts 0 (fixed kind.End ∷ []) ++ more in
     let from_body : List Part = block_parts 1 p.body ++ from_end in
-    let from_begin : List Part = line_of 0 (fixed kind.Begin ∷ []) ++ (declaration_parts 1 p.locals ++ from_body) in
+    let from_begin : List Part = line_parts 0 (fixed kind.Begin ∷ []) ++ (declaration_parts 1 p.locals ++ from_body) in
     let l = line_at 0 at head from_begin in
     let formals =
     parens_show (Perhaps IsName) (map unplaced) (separated name_parts p.formals) p.formals
@@ -50,8 +50,8 @@ procedure_shows p ok at more =
     let end = word_at kind.End 0 body.next more in
     put_tokens _ _
     (ap (tokens_of at)
-    (five (line_of 0 head) (line_of 0 (fixed kind.Begin ∷ [])) (declaration_parts 1 p.locals) (block_parts 1 p.body)
-    (line_of 0 (fixed kind.End ∷ [])) more) ∙ l.1)
+    (five (line_parts 0 head) (line_parts 0 (fixed kind.Begin ∷ [])) (declaration_parts 1 p.locals) (block_parts 1 p.body)
+    (line_parts 0 (fixed kind.End ∷ [])) more) ∙ l.1)
     (record {
       found = record { name = record { text = p.name.text; at = l.0 }; formals = formals.found; locals = locals.found; body = body.found };
       next = end.0;

@@ -8,7 +8,7 @@ use Rattle.syntax.specs.Parser.{Parser, Strict, give, ◌>>=◌, begins, take, m
 use Rattle.grammar.specs.Grammar.{Takes, takes, IsName, is_name, InParens, Several, several, Perhaps, IsSome, Statements, joined}
 use Rattle.grammar.specs.Grammar.{IsDeclaration, is_declaration, Declarations, declarations, IsProcedure, is_procedure, IsThread, is_thread}
 use Rattle.grammar.specs.Grammar.{IsProgram, is_program}
-use Rattle.syntax.specs.Exact.{name, names, formals, starts, starts_here, section, declaration, all_declarations, insides, procedure}
+use Rattle.syntax.specs.Exact.{name, name_list, formals, starts, starts_here, section, declaration, all_declarations, insides, procedure}
 use Rattle.syntax.specs.Exact.{procedures, thread_line, any_left, thread_lines, program}
 use Rattle.syntax.proofs.KindTests.{same_kind-is}
 use Rattle.syntax.proofs.Fixes.{carried, between, bind_is, Shrinks, Strict-Shrinks, Shrinks-give, Strict-take, Shrinks-bind, Strict-bind}
@@ -38,8 +38,8 @@ exactly_declaration = record { finds = found; reads = went }
   where
     found : (ts : List Tok) (ns : List Name) (rest : List Tok) → declaration ts ≡ Some (ns, rest) → IsDeclaration ts ns rest
     found ts ns rest e =
-        let b = between (take kind.Decl) (λ _. names >>= λ ns. take kind.Semicolon >>= λ _. give ns) ts ns rest e in
-        let c = between names (λ ns. take kind.Semicolon >>= λ _. give ns) b.us ns rest b.second in
+        let b = between (take kind.Decl) (λ _. name_list >>= λ ns. take kind.Semicolon >>= λ _. give ns) ts ns rest e in
+        let c = between name_list (λ ns. take kind.Semicolon >>= λ _. give ns) b.us ns rest b.second in
         let d = between (take kind.Semicolon) (λ _. give c.x) c.us ns rest c.second in
         carried (λ ns rest. IsDeclaration ts ns rest) d.second
         (is_declaration (take_finds kind.Decl ts b.x b.us b.first).0 (exactly_names.finds b.us c.x c.us c.first)
@@ -47,8 +47,8 @@ exactly_declaration = record { finds = found; reads = went }
 
     went : (ts : List Tok) (ns : List Name) (rest : List Tok) → IsDeclaration ts ns rest → Unit {0} → declaration ts ≡ Some (ns, rest)
     went ts ns rest (is_declaration {us = us} {vs = vs} d l s) u =
-        bind_is (take kind.Decl) (λ _. names >>= λ ns. take kind.Semicolon >>= λ _. give ns) ts (take_is d).0 us (take_is d).1
-        ∙ bind_is names (λ ns. take kind.Semicolon >>= λ _. give ns) us ns vs (exactly_names.reads us ns vs l (tt, comma_no s))
+        bind_is (take kind.Decl) (λ _. name_list >>= λ ns. take kind.Semicolon >>= λ _. give ns) ts (take_is d).0 us (take_is d).1
+        ∙ bind_is name_list (λ ns. take kind.Semicolon >>= λ _. give ns) us ns vs (exactly_names.reads us ns vs l (tt, comma_no s))
         ∙ bind_is (take kind.Semicolon) (λ _. give ns) vs (take_is s).0 rest (take_is s).1
 
 declaration_begins : (ts : List Tok) (ns : List Name) (us : List Tok) → IsDeclaration ts ns us → begins kind.Decl ts ≡ true

@@ -9,7 +9,8 @@ use Rattle.grammar.specs.Grammar.{Takes, takes, InParens, IsRight, name_at, IsMa
 use Rattle.grammar.specs.Grammar.{is_goto, is_assert, is_assume, is_assign, is_call, is_call_for, IsSome, Statements, nothing_more}
 use Rattle.grammar.specs.Grammar.{statement, if_statement, while_statement}
 use Rattle.trees.specs.Trees.{Deed, simple, branch, repeat, Item, before, marked_before}
-use Rattle.syntax.specs.Exact.{name, names, expression, rights, arguments, condition, marked, assignment, calling, asking, asks_behind}
+use Rattle.syntax.specs.Exact.{name, name_list, expression, rights, argument_list, condition, marked, assignment, calling, asking}
+use Rattle.syntax.specs.Exact.{asks_behind}
 use Rattle.syntax.specs.Exact.{named, giving, returning, branching, repeating, deed_by, deed_step, starts_here, item_step, rest_step}
 use Rattle.syntax.specs.Exact.{section_step, section}
 use Rattle.syntax.proofs.KindTests.{same_kind-true}
@@ -63,7 +64,7 @@ assignment_finds : (ts : List Tok) → FindsDeed assignment ts
 unfolding assignment
 assignment_finds ts d rest e =
     let b =
-    between names
+    between name_list
     (λ xs. take kind.Assign >>= λ _. rights >>= λ rs. take kind.Semicolon >>= λ _. give (simple (assign xs rs))) ts d rest e in
     let c =
     between (take kind.Assign)
@@ -78,8 +79,8 @@ assignment_finds ts d rest e =
 calling_finds : (ts : List Tok) → FindsDeed calling ts
 unfolding calling
 calling_finds ts d rest e =
-    let b = between name (λ p. arguments >>= λ es. take kind.Semicolon >>= λ _. give (simple (call p es))) ts d rest e in
-    let c = between arguments (λ es. take kind.Semicolon >>= λ _. give (simple (call b.x es))) b.us d rest b.second in
+    let b = between name (λ p. argument_list >>= λ es. take kind.Semicolon >>= λ _. give (simple (call p es))) ts d rest e in
+    let c = between argument_list (λ es. take kind.Semicolon >>= λ _. give (simple (call b.x es))) b.us d rest b.second in
     let f = between (take kind.Semicolon) (λ _. give (simple (call b.x c.x))) c.us d rest c.second in
     plain_found ts (call b.x c.x) f.us
     (is_call (exactly_name.finds ts b.x b.us b.first) (exactly_arguments.finds b.us c.x c.us c.first)
@@ -91,14 +92,14 @@ unfolding asking
 asking_finds ts d rest e =
     let b =
     between name
-    (λ x. take kind.Assign >>= λ _. name >>= λ p. arguments >>= λ es. take kind.Semicolon >>= λ _. give (simple (call_for x p es)))
+    (λ x. take kind.Assign >>= λ _. name >>= λ p. argument_list >>= λ es. take kind.Semicolon >>= λ _. give (simple (call_for x p es)))
     ts d rest e in
     let c =
     between (take kind.Assign)
-    (λ _. name >>= λ p. arguments >>= λ es. take kind.Semicolon >>= λ _. give (simple (call_for b.x p es))) b.us d rest b.second in
+    (λ _. name >>= λ p. argument_list >>= λ es. take kind.Semicolon >>= λ _. give (simple (call_for b.x p es))) b.us d rest b.second in
     let f =
-    between name (λ p. arguments >>= λ es. take kind.Semicolon >>= λ _. give (simple (call_for b.x p es))) c.us d rest c.second in
-    let g = between arguments (λ es. take kind.Semicolon >>= λ _. give (simple (call_for b.x f.x es))) f.us d rest f.second in
+    between name (λ p. argument_list >>= λ es. take kind.Semicolon >>= λ _. give (simple (call_for b.x p es))) c.us d rest c.second in
+    let g = between argument_list (λ es. take kind.Semicolon >>= λ _. give (simple (call_for b.x f.x es))) f.us d rest f.second in
     let h = between (take kind.Semicolon) (λ _. give (simple (call_for b.x f.x g.x))) g.us d rest g.second in
     plain_found ts (call_for b.x f.x g.x) h.us
     (is_call_for (exactly_name.finds ts b.x b.us b.first) (take_finds kind.Assign b.us c.x c.us c.first).0

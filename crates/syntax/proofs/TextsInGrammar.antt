@@ -9,9 +9,11 @@ use Rattle.tokens.specs.Spelling as spelling
 use Rattle.tokens.specs.Spelling.{reserved_word, sign, IsWord, reserved, name}
 use Rattle.tokens.specs.Cuts.{IsToken, word, sign_of, Cuts, nothing, gap, token}
 use Rattle.grammar.specs.Grammar as grammar
-use Rattle.grammar.specs.Grammar.{Takes, takes, Reads, reads_zero, reads_one, reads_name, reads_not, reads_paren, reads_two, IsName, is_name}
+use Rattle.grammar.specs.Grammar.{Takes, takes, Reads, reads_zero, reads_one, reads_name, reads_not, reads_paren, reads_two, IsName}
+use Rattle.grammar.specs.Grammar.{is_name}
 use Rattle.grammar.specs.Grammar.{Behind, behind, InParens, in_parens, Many, no_more, one_more, Several, several, Listed, listed, Perhaps}
-use Rattle.grammar.specs.Grammar.{something, IsExpression, IsRight, is_any, is_value, IsMarked, bare, labelled, IsSimple, is_skip, is_return}
+use Rattle.grammar.specs.Grammar.{something, IsExpression, IsRight, is_any, is_value, IsMarked, bare, labelled, IsSimple, is_skip}
+use Rattle.grammar.specs.Grammar.{is_return}
 use Rattle.grammar.specs.Grammar.{is_give, is_goto, is_assert, is_assume, is_assign, is_call, is_call_for, Statements, nothing_more}
 use Rattle.grammar.specs.Grammar.{statement, if_statement, while_statement, joined, IsDeclaration, is_declaration, Declarations}
 use Rattle.grammar.specs.Grammar.{declarations, IsProcedure, is_procedure, IsThread, is_thread, IsProgram, is_program}

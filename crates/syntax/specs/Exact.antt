@@ -94,8 +94,8 @@ abbrev pub right : Parser (RightSide Name)
 right ts = cond (begins kind.Any ts) ((take kind.Any >>= λ _. give any) ts) ((expression >>= λ e. give (value e)) ts)
 
 -- names and right sides, and names and expressions in parentheses, of which there may be none
-abbrev pub names : Parser (List Name)
-names = list name
+abbrev pub name_list : Parser (List Name)
+name_list = list name
 
 abbrev pub rights : Parser (List (RightSide Name))
 rights = list right
@@ -103,8 +103,8 @@ rights = list right
 abbrev pub formals : Parser (List Name)
 formals = enclosed name
 
-abbrev pub arguments : Parser (List (Expression Name))
-arguments = enclosed expression
+abbrev pub argument_list : Parser (List (Expression Name))
+argument_list = enclosed expression
 
 unfoldable pub condition : Parser (RightSide Name)
 condition = parens right
@@ -117,20 +117,20 @@ marked (token ∷ tokens) = cond (same_kind token.kind kind.Id && begins kind.Co
     (Some (record { label = None; at = token.at }, token ∷ tokens))
 
 -- a semicolon, after what a statement does
-abbrev pub ended : Deed → Parser Deed
-ended d = take kind.Semicolon >>= λ _. give d
+abbrev pub semicolon_after : Deed → Parser Deed
+semicolon_after d = take kind.Semicolon >>= λ _. give d
 
 -- an assignment
 unfoldable pub assignment : Parser Deed
-assignment = names >>= λ xs. take kind.Assign >>= λ _. rights >>= λ rs. ended (simple (assign xs rs))
+assignment = name_list >>= λ xs. take kind.Assign >>= λ _. rights >>= λ rs. semicolon_after (simple (assign xs rs))
 
 -- a call
 unfoldable pub calling : Parser Deed
-calling = name >>= λ p. arguments >>= λ es. ended (simple (call p es))
+calling = name >>= λ p. argument_list >>= λ es. semicolon_after (simple (call p es))
 
 -- a call for a value
 unfoldable pub asking : Parser Deed
-asking = name >>= λ x. take kind.Assign >>= λ _. name >>= λ p. arguments >>= λ es. ended (simple (call_for x p es))
+asking = name >>= λ x. take kind.Assign >>= λ _. name >>= λ p. argument_list >>= λ es. semicolon_after (simple (call_for x p es))
 
 -- whether a token of this kind comes next, and after it what the test says
 abbrev pub past : Kind → (List Tok → Bool) → List Tok → Bool
@@ -163,28 +163,28 @@ repeating block = condition >>= λ r. take kind.Do >>= λ _. block >>= λ a. tak
 
 -- a `goto`, after that word
 abbrev pub jumping : Parser Deed
-jumping = name >>= λ l. ended (simple (goto l))
+jumping = name >>= λ l. semicolon_after (simple (goto l))
 
 -- an `assert`, after that word
 abbrev pub asserting : Parser Deed
-asserting = condition >>= λ r. ended (simple (assert r))
+asserting = condition >>= λ r. semicolon_after (simple (assert r))
 
 -- an `assume`, after that word
 abbrev pub assuming : Parser Deed
-assuming = condition >>= λ r. ended (simple (assume r))
+assuming = condition >>= λ r. semicolon_after (simple (assume r))
 
 -- a value, after `return`
 unfoldable pub giving : Parser Deed
-giving = expression >>= λ e. ended (simple (leave_with e))
+giving = expression >>= λ e. semicolon_after (simple (leave_with e))
 
 -- nothing or a value, after `return`
 abbrev pub returning : Parser Deed
-returning ts = cond (begins kind.Semicolon ts) (ended (simple leave) ts) (giving ts)
+returning ts = cond (begins kind.Semicolon ts) (semicolon_after (simple leave) ts) (giving ts)
 
 -- what a statement does that begins with this token
 abbrev pub deed_by : Parser (Block Name Name Name) → Tok → Parser Deed
 deed_by block token =
-    cond (same_kind token.kind kind.Skip) (ended (simple skip))
+    cond (same_kind token.kind kind.Skip) (semicolon_after (simple skip))
     (cond (same_kind token.kind kind.Return) returning
     (cond (same_kind token.kind kind.Goto) jumping
     (cond (same_kind token.kind kind.Assert) asserting
@@ -243,7 +243,7 @@ going_on = rest_step section
 
 -- a declaration
 unfoldable pub declaration : Parser (List Name)
-declaration = take kind.Decl >>= λ _. names >>= λ ns. take kind.Semicolon >>= λ _. give ns
+declaration = take kind.Decl >>= λ _. name_list >>= λ ns. take kind.Semicolon >>= λ _. give ns
 
 -- declarations, as long as there are any
 unfoldable pub all_declarations : Parser (List Name)

@@ -3,13 +3,13 @@ use Rattle.std.specs.Prelude.{ℕ, suc, List, [], ◌∷◌, ◌++◌}
 use Rattle.tokens.specs.declared.vocabulary.Kind.TheVariants as kind
 use Rattle.tokens.specs.Parts.{Part, line, fixed}
 use Rattle.trees.specs.Trees.{Deed, simple, branch, repeat}
-use Rattle.grammar.specs.Printed.{simple_parts, test_parts, block_parts, line_of}
+use Rattle.grammar.specs.Printed.{simple_parts, test_parts, block_parts, line_parts}
 
 -- What a statement prints after its margin and its label.
 abbrev pub deed_parts : ℕ → Deed → List Part
 deed_parts level (simple statement) = simple_parts statement ++ (line ∷ [])
 deed_parts level (branch side if_true if_false) =
     test_parts kind.If side kind.Then ++ (line ∷ (block_parts (suc level) if_true
-    ++ (line_of level (fixed kind.Else ∷ []) ++ (block_parts (suc level) if_false ++ line_of level (fixed kind.Fi ∷ [])))))
+    ++ (line_parts level (fixed kind.Else ∷ []) ++ (block_parts (suc level) if_false ++ line_parts level (fixed kind.Fi ∷ [])))))
 deed_parts level (repeat side body) =
-    test_parts kind.While side kind.Do ++ (line ∷ (block_parts (suc level) body ++ line_of level (fixed kind.Od ∷ [])))
+    test_parts kind.While side kind.Do ++ (line ∷ (block_parts (suc level) body ++ line_parts level (fixed kind.Od ∷ [])))

@@ -40,12 +40,12 @@ ReadFaultStands fault.TooDeep bytes = (length bytes ≤ most_bytes) × IsAscii b
 ReadFaultStands fault.Memory bytes = (length bytes ≤ most_bytes) × IsAscii bytes
 
 -- The faults are tested in the order of these numbers, but whether the tokens are a program is tested last.
-abbrev pub number : ReadFault → ℕ
-number fault.TooLong = 1
-number fault.NotAscii = 2
-number (fault.Syntax at) = 3
-number fault.TooDeep = 4
-number fault.Memory = 5
+abbrev pub fault_number : ReadFault → ℕ
+fault_number fault.TooLong = 1
+fault_number fault.NotAscii = 2
+fault_number (fault.Syntax at) = 3
+fault_number fault.TooDeep = 4
+fault_number fault.Memory = 5
 
 -- The bytes are within the limits of texts: at most 65,536 (`most_bytes`), and not cut into tokens that are too deep.
 pub record WithinLimits (bytes : List ℕ) : Type 0 where

@@ -1,9 +1,9 @@
 //! Reads texts of the language into trees.
 #![tactic(auto)]
 
+mod element;
 mod expression;
 mod fault;
-mod item;
 mod laws;
 mod lists;
 mod print_expressions;

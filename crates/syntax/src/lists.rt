@@ -7,20 +7,20 @@ ghost use Rattle.syntax.specs.Parser.{Strict};
 ghost use Rattle.trees.specs.Trees.{rhs_of};
 ghost use Rattle.tokens.specs.Token.{toks_of};
 
-use crate::item::Item;
+use crate::element::Element;
 use crate::reader::{Read, Reader, begins};
 use std::alloc::Allocator;
 use tokens::{Kind, Token};
 use trees::{Expr, Name, Rhs};
 
-impl<A: Allocator + Clone> Item<A> for Name<A> {
+impl<A: Allocator + Clone> Element<A> for Name<A> {
     fn read<'t>(reader: &Reader<'_, A>, tokens: &'t [Token<'t>]) -> Read<'t, Name<A>> {
         let (token, rest) = reader.take(Kind::Id, tokens)?;
         Ok((reader.name(&token)?, rest))
     }
 }
 
-impl<A: Allocator + Clone> Item<A> for Rhs<A> {
+impl<A: Allocator + Clone> Element<A> for Rhs<A> {
     /// Reads `?` or an expression.
     fn read<'t>(reader: &Reader<'_, A>, tokens: &'t [Token<'t>]) -> Read<'t, Rhs<A>> {
         if begins(Kind::Any, tokens) {
@@ -32,7 +32,7 @@ impl<A: Allocator + Clone> Item<A> for Rhs<A> {
     }
 }
 
-impl<A: Allocator + Clone> Item<A> for Expr<A> {
+impl<A: Allocator + Clone> Element<A> for Expr<A> {
     fn read<'t>(reader: &Reader<'_, A>, tokens: &'t [Token<'t>]) -> Read<'t, Expr<A>> {
         reader.expression(0, tokens)
     }
@@ -40,7 +40,11 @@ impl<A: Allocator + Clone> Item<A> for Expr<A> {
 
 impl<'a, A: Allocator + Clone> Reader<'a, A> {
     /// Reads items with commas between them, and a token of this kind after them.
-    pub fn listed<'t, T: Item<A>>(&self, kind: Kind, tokens: &'t [Token<'t>]) -> Read<'t, Vec<T, A>>
+    pub fn listed<'t, T: Element<A>>(
+        &self,
+        kind: Kind,
+        tokens: &'t [Token<'t>],
+    ) -> Read<'t, Vec<T, A>>
         requires { Strict T.grammar }
         ensures gives { Parses (λ v. map T.tree v.items) result (listed T.grammar kind) tokens.now }
         ensures shorter { Shorter result tokens.now }
@@ -50,7 +54,7 @@ impl<'a, A: Allocator + Clone> Reader<'a, A> {
 
     /// Reads items in parentheses, with commas between them, of which there may be none.
     #[tactic(auto, unfolding(crate::specs::Exact::enclosed))]
-    pub fn enclosed<'t, T: Item<A>>(&self, tokens: &'t [Token<'t>]) -> Read<'t, Vec<T, A>>
+    pub fn enclosed<'t, T: Element<A>>(&self, tokens: &'t [Token<'t>]) -> Read<'t, Vec<T, A>>
         requires { Strict T.grammar }
         ensures gives { Parses (λ v. map T.tree v.items) result (enclosed T.grammar) tokens.now }
         ensures shorter { Shorter result tokens.now }

@@ -6,8 +6,8 @@ ghost use Rattle.syntax.specs.Exact.{declaration, all_declarations, insides, pro
 ghost use Rattle.trees.specs.Trees.{names_of, block_of, tree_of};
 ghost use Rattle.tokens.specs.Token.{toks_of};
 
+use crate::element::{Element, Unseparated};
 use crate::fault::ReadFault;
-use crate::item::{Item, Repeated};
 use crate::reader::{Read, Reader, begins};
 use std::alloc::Allocator;
 use tokens::{Kind, Token};
@@ -68,7 +68,7 @@ impl<'a, A: Allocator + Clone> Reader<'a, A> {
     }
 }
 
-impl<A: Allocator + Clone> Item<A> for Proc<A> {
+impl<A: Allocator + Clone> Element<A> for Proc<A> {
     #[tactic(auto, unfolding(crate::specs::Exact::procedure))]
     fn read<'t>(reader: &Reader<'_, A>, tokens: &'t [Token<'t>]) -> Read<'t, Proc<A>> {
         let (name, opened) = Name::read(reader, tokens)?;
@@ -86,7 +86,7 @@ impl<A: Allocator + Clone> Item<A> for Proc<A> {
     }
 }
 
-impl<A: Allocator + Clone> Repeated<A> for Proc<A> {
+impl<A: Allocator + Clone> Unseparated<A> for Proc<A> {
     ghost use Rattle.syntax.specs.Parser.{begins};
     ghost use Rattle.tokens.specs.declared.vocabulary.Kind.TheVariants.{Id};
 
@@ -98,7 +98,7 @@ impl<A: Allocator + Clone> Repeated<A> for Proc<A> {
     }
 }
 
-impl<A: Allocator + Clone> Item<A> for Thread<A> {
+impl<A: Allocator + Clone> Element<A> for Thread<A> {
     #[tactic(auto, unfolding(crate::specs::Exact::thread_line))]
     fn read<'t>(reader: &Reader<'_, A>, tokens: &'t [Token<'t>]) -> Read<'t, Thread<A>> {
         let (word, others) = reader.take(Kind::Thread, tokens)?;
@@ -107,7 +107,7 @@ impl<A: Allocator + Clone> Item<A> for Thread<A> {
     }
 }
 
-impl<A: Allocator + Clone> Repeated<A> for Thread<A> {
+impl<A: Allocator + Clone> Unseparated<A> for Thread<A> {
     ghost use Rattle.syntax.specs.Exact.{any_left};
 
     ghost another = { any_left };

@@ -13,7 +13,7 @@ ghost use Rattle.syntax.specs.Exact.{
   jumping,
   asserting,
   assuming,
-  ended,
+  semicolon_after,
   starts_here,
   section,
   item,
@@ -24,8 +24,8 @@ ghost use Rattle.syntax.specs.Exact.{
 ghost use Rattle.trees.specs.Trees.{name_of, deed_of, item_of, block_of};
 ghost use Rattle.tokens.specs.Token.{toks_of};
 
+use crate::element::Element;
 use crate::fault::ReadFault;
-use crate::item::Item;
 use crate::reader::{Read, Reader, begins, put};
 use std::alloc::Allocator;
 use tokens::{Kind, Token};
@@ -94,7 +94,7 @@ impl<'a, A: Allocator + Clone> Reader<'a, A> {
 
     /// Reads a semicolon, after what a statement does.
     fn ended<'t>(&self, core: Core<A>, tokens: &'t [Token<'t>]) -> Read<'t, Core<A>>
-        ensures gives { Parses deed_of result (ended (deed_of core)) tokens.now }
+        ensures gives { Parses deed_of result (semicolon_after (deed_of core)) tokens.now }
         ensures shorter { Shorter result tokens.now }
     {
         self.closed(Ok((core, tokens)), Kind::Semicolon)

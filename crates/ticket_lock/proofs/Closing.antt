@@ -13,7 +13,7 @@ use Rattle.ticket_lock.specs.Count.{times, total}
 use Rattle.ticket_lock.specs.History.{StartsWith, longer, IsRising}
 use Rattle.ticket_lock.specs.Lone.{taken_in, merged, nobody, TookIn, IsWhole, Rests, KeepsParts}
 use Rattle.ticket_lock.specs.Lanes.{Standing, standing, IsLane}
-use Rattle.ticket_lock.specs.Promises.{IsIdle, Closes, KeepsOwn, ComesLast}
+use Rattle.ticket_lock.specs.Promises.{IsIdle, ClosesLock, KeepsOwn, ComesLast}
 use Rattle.ticket_lock.specs.Proved.Facts.{at_snoc, at_last, StartsWith-trans}
 use Rattle.ticket_lock.proofs.HistoryFacts.{total-snoc, times-append, at_longer, rises_last}
 use Rattle.ticket_lock.proofs.LoneSteps.{longer_first, longer_second}
@@ -43,22 +43,6 @@ module _ {T : Type 0} where
     pub own : (j : ℕ) (y : Standing T) (z : T) → get_elem? xs j ≡ some y → y.own ≡ z ∷ []
         → (k : ℕ) × (get_elem? v.own k ≡ some (y.number, z))
     pub top : (v.hand.seen ≡ []) ⊎ ((j : ℕ) × (y : Standing T) × (get_elem? xs j ≡ some y) × (y.seen ≡ v.hand.seen))
-
-  pub gathers_none : (v : View T) → v ≡ nobody → Gathered [] v
-  gathers_none v is = subst (λ z. Gathered [] z) (sym is) record {
-    taken = refl;
-    waits = refl;
-    outside = refl;
-    lanes = refl;
-    count = refl;
-    drawn = λ n. refl;
-    seen = λ j y e. absurd (no_item j y e);
-    own = λ j y z e _. absurd (no_item j y e);
-    top = inl refl;
-  }
-    where
-      no_item : (j : ℕ) (y : Standing T) → (let none : List (Standing T) = [] in get_elem? none j ≡ some y) → ⊥
-      no_item j y e = mathlib.Core.Option.some-ne-none y (sym e)
 
   pub gathers_one : (xs : List (Standing T)) (v n : View T) (y : Standing T) (id : TableId) (number left : ℕ) (me : Me (Option T) (View T))
       → Gathered xs v → IsLane id number left me → standing id number left me.0 ≡ y
@@ -163,11 +147,8 @@ module _ {T : Type 0} where
       All-last (IsIdle id) xs x
       (along (xs ++ x ∷ []) u (Yields-snoc steps from xs t x u (subst (λ z. Yields steps z xs t) same so_far) more))
 
-  pub whole_is : (xs : List (Standing T)) (v : View T) (lanes : ℕ) → Gathered xs v → length xs ≡ lanes → IsWhole lanes v
-  whole_is xs v lanes g e = (g.taken, g.waits, g.outside, g.lanes ∙ e)
-
   pub closes_is : (xs : List (Standing T)) (v : View T) (opening opening' x : T) → Gathered xs v → opening ≡ opening' → Rests opening v x
-      → Closes opening' xs x
+      → ClosesLock opening' xs x
   closes_is xs v opening opening' x g same r = elim g.top [
     | inl none ↦ absurd (let z : length v.hand.seen ≡ 0 = ap length none in omega (arith, r.2))
     | inr t ↦ record {

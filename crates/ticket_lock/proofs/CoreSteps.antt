@@ -10,7 +10,7 @@ use Rattle.atomic_table.specs.Table.{State}
 use Rattle.ticket_lock.specs.declared.hand.Hand.{Hand}
 use Rattle.ticket_lock.specs.Count.{times, total}
 use Rattle.ticket_lock.specs.History.{StartsWith}
-use Rattle.ticket_lock.specs.Core.{in_hand, Fits, Core}
+use Rattle.ticket_lock.specs.Core.{in_hand, Fits, TicketCore}
 use Rattle.ticket_lock.specs.Turns.{with_ticket, with_entry, with_leave}
 use Rattle.ticket_lock.specs.Drawing.{HasDrawn}
 use Rattle.ticket_lock.specs.Proved.Facts.{total_set, total_at, total_two, at_set, set_here, at_inside}
@@ -19,7 +19,7 @@ use Rattle.ticket_lock.specs.Proved.Facts.{times-one, StartsWith-refl, StartsWit
 use Rattle.ticket_lock.proofs.HistoryFacts.{times-other, times-without}
 
 module _ {T : Type 0} (serving next : ℕ) (log : List T) (here : maybe.Option (maybe.Option (Option T))) (hands : List (Hand T)) (id : ℕ)
-    (h : Hand T) (is_at : get_elem? hands id ≡ some h) (c : Core serving next log here hands) where
+    (h : Hand T) (is_at : get_elem? hands id ≡ some h) (c : TicketCore serving next log here hands) where
   -- a ticket in the hand is served or waits
   pub in_range : (n : ℕ) → 0 < in_hand n h → (serving ≤ n) × (n < next)
   in_range n some_of = (
@@ -46,7 +46,7 @@ module _ {T : Type 0} (serving next : ℕ) (log : List T) (here : maybe.Option (
   each_set serving' log' w mine others j x e =
       elim (at_set hands id j w x e) [ inl t ↦ subst (λ z. Fits serving' log' z) t.1 mine | inr t ↦ others j x t.0 t.1 ]
 
-  pub core_draws : length h.drawn < h.parts * 2 ^ 56 → Core serving (next + 1) log here (set hands id (with_ticket next h))
+  pub core_draws : length h.drawn < h.parts * 2 ^ 56 → TicketCore serving (next + 1) log here (set hands id (with_ticket next h))
   core_draws room =
       let w : Hand T = with_ticket next h in
       let mine = c.each id h is_at in
@@ -95,7 +95,7 @@ module _ {T : Type 0} (serving next : ℕ) (log : List T) (here : maybe.Option (
       ]
 
   pub core_enters : (here' : maybe.Option (maybe.Option (Option T))) → 0 < times serving h.tickets
-      → Core serving next log here' (set hands id (with_entry serving log h))
+      → TicketCore serving next log here' (set hands id (with_entry serving log h))
   core_enters here' some_of =
       let w : Hand T = with_entry serving log h in
       let mine = c.each id h is_at in
@@ -127,7 +127,7 @@ module _ {T : Type 0} (serving next : ℕ) (log : List T) (here : maybe.Option (
       }
 
   pub core_passes : (y : T) → h.inside ≡ serving ∷ [] → h.seen ≡ log
-      → Core (serving + 1) next (log ++ y ∷ []) (some (some (Some y))) (set hands id (with_leave y h))
+      → TicketCore (serving + 1) next (log ++ y ∷ []) (some (some (Some y))) (set hands id (with_leave y h))
   core_passes y inside seen =
       let w : Hand T = with_leave y h in
       let mine = c.each id h is_at in
@@ -189,7 +189,7 @@ module _ {T : Type 0} (serving next : ℕ) (log : List T) (here : maybe.Option (
       ]
 
 module _ {T : Type 0} (serving next : ℕ) (log : List T) (here : maybe.Option (maybe.Option (Option T))) (hands : List (Hand T))
-    (c : Core serving next log here hands) where
+    (c : TicketCore serving next log here hands) where
   inside_is : (j : ℕ) (x : Hand T) → get_elem? hands j ≡ some x → length x.inside ≤ in_hand serving x * 1
   inside_is j x e = elim ((c.each j x e).inside) [
     | inl o ↦ (let z : length x.inside ≡ 0 = ap length o in omega arith)
@@ -230,7 +230,7 @@ module _ {T : Type 0} (serving next : ℕ) (log : List T) (here : maybe.Option (
       → total (λ (x : Hand T). length x.drawn) hands' ≡ total (λ (x : Hand T). length x.drawn) hands
       → total (λ (x : Hand T). x.parts) hands' ≡ total (λ (x : Hand T). x.parts) hands
       → total (λ (x : Hand T). length x.inside) hands' ≡ total (λ (x : Hand T). length x.inside) hands
-      → ((j : ℕ) (x : Hand T) → get_elem? hands' j ≡ some x → Fits serving log x) → Core serving next log here hands'
+      → ((j : ℕ) (x : Hand T) → get_elem? hands' j ≡ some x → Fits serving log x) → TicketCore serving next log here hands'
   core_same hands' same_hand same_drawn same_count same_parts same_inside each = record {
     served = c.served;
     order = c.order;

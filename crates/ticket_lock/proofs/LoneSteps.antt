@@ -12,9 +12,10 @@ use Rattle.ticket_lock.specs.declared.hand.Hand.{Hand}
 use Rattle.ticket_lock.specs.declared.view.View.{View}
 use Rattle.ticket_lock.specs.Count.{times, total}
 use Rattle.ticket_lock.specs.History.{StartsWith, EndsIn, longer, IsRising}
-use Rattle.ticket_lock.specs.Core.{in_hand, Fits, Core}
+use Rattle.ticket_lock.specs.Core.{in_hand, Fits, TicketCore}
 use Rattle.ticket_lock.specs.Turns.{Kept}
-use Rattle.ticket_lock.specs.Lone.{hand_of, numbers, new_view, nobody, taken_in, merged, just_seen, IsWhole, Rests, KeepsParts, Knows, Lone}
+use Rattle.ticket_lock.specs.Lone.{hand_of, lane_numbers, new_view, nobody, taken_in, merged, just_seen, IsWhole, Rests, KeepsParts, Knows}
+use Rattle.ticket_lock.specs.Lone.{Lone}
 use Rattle.ticket_lock.specs.Lone.{TookIn}
 use Rattle.ticket_lock.specs.Proved.Facts.{total_set, total_two, at_set, at_snoc}
 use Rattle.ticket_lock.proofs.HistoryFacts.{total-snoc, total_only, total-map, at_longer, at_append}
@@ -82,7 +83,8 @@ module _ {T Part : Type 0} (before : T → T → Type 0) (part : ℕ → T → P
       → length a.hand.drawn + length b.hand.drawn ≡ length v.hand.drawn
       → a.hand.parts + b.hand.parts ≡ v.hand.parts → length a.hand.inside + length b.hand.inside ≡ length v.hand.inside
       → ((serving : ℕ) → Fits serving r.log v.hand → Fits serving r.log a.hand × Fits serving r.log b.hand)
-      → ((l : ℕ) → times l (numbers a) + times l (numbers b) ≡ times l (numbers v)) → length a.own + length b.own ≡ length v.own
+      → ((l : ℕ) → times l (lane_numbers a) + times l (lane_numbers b) ≡ times l (lane_numbers v))
+      → length a.own + length b.own ≡ length v.own
       → Knows before part r.log a → Knows before part r.log b
       → IsKnown r.log (set s.views id a ++ b ∷ []) → Rule record { words = s.words; homes = s.homes; views = set s.views id a ++ b ∷ [] }
   split_keeps s r id v a b is_at hands drawn count parts inside fits nums lens knows_a knows_b known =
@@ -125,7 +127,7 @@ module _ {T Part : Type 0} (before : T → T → Type 0) (part : ℕ → T → P
               elim (at_set s.views id j a u t) [ inl q ↦ subst (λ z. Knows before part r.log z) q.1 knows_a | inr q ↦ r.each_view j u q.1 ]
         ];
         whole = sums (λ (u : View T). length u.own) lens ∙ r.whole;
-        once = λ l. omega (arith, sums (λ (u : View T). times l (numbers u)) (nums l), r.once l);
+        once = λ l. omega (arith, sums (λ (u : View T). times l (lane_numbers u)) (nums l), r.once l);
         known = known;
       }
 
@@ -280,7 +282,7 @@ module _ {T Part : Type 0} (before : T → T → Type 0) (part : ℕ → T → P
                 | inr t ↦ r.each_view j u t
               ];
           whole = omega (arith, total-snoc (λ (u : View T). length u.own) s.views w, r.whole);
-          once = λ l. omega (arith, total-snoc (λ (u : View T). times l (numbers u)) s.views w, r.once l);
+          once = λ l. omega (arith, total-snoc (λ (u : View T). times l (lane_numbers u)) s.views w, r.once l);
           known = known_more r.log s.views w r.known;
         },
         refl,
@@ -390,8 +392,12 @@ module _ {T Part : Type 0} (before : T → T → Type 0) (part : ℕ → T → P
             λ l.
             omega (
               arith,
-              sums (λ (u : View T). times l (numbers u))
-                  (omega (arith, ap (times l) (map-append (λ (p : ℕ × T). p.0) v.own w.own), times-append l (numbers v) (numbers w))),
+              sums (λ (u : View T). times l (lane_numbers u))
+                  (omega (
+                    arith,
+                    ap (times l) (map-append (λ (p : ℕ × T). p.0) v.own w.own),
+                    times-append l (lane_numbers v) (lane_numbers w),
+                  )),
               r.once l,
             );
         known = known;

@@ -10,7 +10,7 @@ use Rattle.atomic_table.specs.Table.{State, Me, keeps, takes, gives, Allows, res
 use Rattle.ticket_lock.specs.declared.hand.Hand.{Hand}
 use Rattle.ticket_lock.specs.Count.{times}
 use Rattle.ticket_lock.specs.History.{StartsWith, EndsIn}
-use Rattle.ticket_lock.specs.Core.{in_hand, Core}
+use Rattle.ticket_lock.specs.Core.{in_hand, TicketCore}
 use Rattle.ticket_lock.specs.Turns.{StepKind, draws, waits, enters, passes, with_ticket, with_entry, with_leave, Kept, Opens}
 use Rattle.ticket_lock.specs.Calls.{Drew, Loaded, Passed}
 use Rattle.ticket_lock.specs.Proved.Facts.{total_at, set_again, set_here, set_else, at-map}
@@ -21,13 +21,13 @@ module _ {T : Type 0} where
   -- the lock's rule after one of its two words was written
   kept_words : (word slot i n a b : ℕ) (log : List T) (words : List ℕ) (homes : List (maybe.Option (Option T))) (hands : List (Hand T))
       → word + 1 < length words
-      → get_or (set words i n) word 0 ≡ a → get_or (set words i n) (word + 1) 0 ≡ b → Core a b log (get_elem? homes slot) hands
+      → get_or (set words i n) word 0 ≡ a → get_or (set words i n) (word + 1) 0 ≡ b → TicketCore a b log (get_elem? homes slot) hands
       → Kept word slot log (set words i n) homes hands
   kept_words word slot i n a b log words homes hands room is_a is_b c = record {
     room = omega (arith, length-set words i n);
     core =
-        subst (λ x. Core x (get_or (set words i n) (word + 1) 0) log (get_elem? homes slot) hands) (sym is_a)
-        (subst (λ x. Core a x log (get_elem? homes slot) hands) (sym is_b) c);
+        subst (λ x. TicketCore x (get_or (set words i n) (word + 1) 0) log (get_elem? homes slot) hands) (sym is_a)
+        (subst (λ x. TicketCore a x log (get_elem? homes slot) hands) (sym is_b) c);
   }
 
 module _ {T V : Type 0} (holds : State (Option T) V → Type 0) (see : V → Hand T) (asks : StepKind T → V → Type 0)
@@ -135,7 +135,7 @@ module _ {T V : Type 0} (holds : State (Option T) V → Type 0) (see : V → Han
       (λ (ne : serving ≢ ticket).
       let kept' : Kept word slot log (set s.words word serving) s.homes (set hands id h) =
       kept_words word slot word serving serving next log s.words s.homes (set hands id h) kept.room same_a same_b
-      (subst (λ l. Core serving next log here l) (sym (set_again hands id h is_h)) kept.core) in
+      (subst (λ l. TicketCore serving next log here l) (sym (set_again hands id h is_h)) kept.core) in
       let r = o.2 id m.0 is_at waits word serving s.homes log h (inl refl) refl (λ k _. refl) (refl, refl) kept' ask_waits in
       (r.0, keeps, tt, r.2, ((λ e. absurd (ne e)), (λ _. (refl, r.1, omega arith, r.3)))))
 
@@ -172,7 +172,7 @@ module _ {T V : Type 0} (holds : State (Option T) V → Type 0) (see : V → Han
             let kept' : Kept word slot (log ++ y ∷ []) (set s.words word n) homes (set hands id w) =
             kept_words word slot word n (serving + 1) next (log ++ y ∷ []) s.words homes (set hands id w) kept.room
             (get_or-set_same s.words word n 0 (omega arith) ∙ e) (get_or-set_other s.words word (word + 1) n 0 (λ k. omega arith))
-            (subst (λ z. Core (serving + 1) next (log ++ y ∷ []) z (set hands id w)) (sym home_is) c) in
+            (subst (λ z. TicketCore (serving + 1) next (log ++ y ∷ []) z (set hands id w)) (sym home_is) c) in
             let r =
             o.2 id v is_at (passes x y) word n homes (log ++ y ∷ []) w (inl refl) (length-set s.homes slot (some (Some y)))
             (λ k ne. set_else s.homes slot k (some (Some y)) ne)

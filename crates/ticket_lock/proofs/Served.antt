@@ -62,11 +62,6 @@ module _ {T Part : Type 0} (before : T → T → Type 0) (part : ℕ → T → P
       only d (z ∷ zs) = z
 
 module _ {T : Type 0} where
-  pub drew_holds : (ticket : ℕ) (a b : Standing T) → Drew ticket a b → 0 < times ticket b.tickets
-  drew_holds ticket a b d =
-      subst (λ (z : Standing T). 0 < times ticket z.tickets) (sym d.lane)
-      (omega (arith, times-snoc ticket a.tickets ticket, times-one ticket))
-
   module _ {Part : Type 0} (before : T → T → Type 0) (part : ℕ → T → Part) where
     entered_from : (ticket : ℕ) (guard : Held T) (a c : Standing T) → 0 < a.left
         → ((k : ℕ) → ticket ≤ k → (times k a.drawn ≡ 0) × (times k a.tickets ≡ 0))

@@ -23,7 +23,8 @@ module _ {T : Type 0} where
   -- the history has the opening value and one value for each ticket served; each ticket from `serving` up to but
   -- not including `next` is in one hand, and no other ticket is; each ticket below `next` was drawn once, and no
   -- other was; if nobody is inside, the value that lies at home is the last of the history
-  pub record Core (serving next : ℕ) (log : List T) (here : maybe.Option (maybe.Option (Option T))) (hands : List (Hand T)) : Type 0 where
+  pub record TicketCore (serving next : ℕ) (log : List T) (here : maybe.Option (maybe.Option (Option T)))
+      (hands : List (Hand T)) : Type 0 where
     pub served : length log ≡ serving + 1
     pub order : serving ≤ next
     pub held : (ticket : ℕ) → serving ≤ ticket → ticket < next → total (in_hand ticket) hands ≡ 1

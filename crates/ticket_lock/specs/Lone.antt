@@ -20,8 +20,8 @@ module _ {T : Type 0} where
   hand_of slot view = view.hand
 
   -- the numbers of a view's lanes
-  abbrev pub numbers : View T → List ℕ
-  numbers view = map (λ lane. lane.0) view.own
+  abbrev pub lane_numbers : View T → List ℕ
+  lane_numbers view = map (λ lane. lane.0) view.own
 
   -- `count` lanes, numbered from `first` on, each with this value
   abbrev pub lanes_from : ℕ → ℕ → T → List (ℕ × T)
@@ -109,7 +109,7 @@ module _ {T Part : Type 0} (before : T → T → Type 0) (part : ℕ → T → P
     pub rising : IsRising before log
     pub each_view : (place : ℕ) (view : View T) → get_elem? state.views place ≡ some view → Knows log view
     pub whole : total (λ view. length view.own) state.views ≡ lanes
-    pub once : (lane : ℕ) → total (λ view. times lane (numbers view)) state.views ≤ 1
+    pub once : (lane : ℕ) → total (λ view. times lane (lane_numbers view)) state.views ≤ 1
     pub known : (place : ℕ) × (view : View T) × (get_elem? state.views place ≡ some view) × (0 < length view.own)
         × ((view.hand.seen ≡ log) ⊎ (view.told ≡ log))
 

@@ -95,7 +95,7 @@ module _ {T : Type 0} where
   -- the value is the last one of the longest history that a lane has seen, of which the history of each other lane is
   -- a prefix; it begins with the opening value, and has one more value than tickets were drawn; each ticket below the
   -- number of tickets was drawn once by one lane, and no other was
-  pub record Closes (opening : T) (lanes : List (Standing T)) (value : T) : Type 0 where
+  pub record ClosesLock (opening : T) (lanes : List (Standing T)) (value : T) : Type 0 where
     pub place : ℕ
     pub longest : Standing T
     pub there : get_elem? lanes place ≡ some longest

@@ -7,7 +7,7 @@ use Rattle.atomic_table.specs.Table.{State}
 use Rattle.ticket_lock.specs.declared.hand.Hand.{Hand}
 use Rattle.ticket_lock.specs.Count.{without}
 use Rattle.ticket_lock.specs.History.{EndsIn}
-use Rattle.ticket_lock.specs.Core.{Core}
+use Rattle.ticket_lock.specs.Core.{TicketCore}
 
 -- the kinds of step that change a hand or look at the count: a draw, a look too early, a look in turn that finds a
 -- value, and a pass on of the value left after the value found
@@ -42,7 +42,7 @@ module _ {T : Type 0} where
   pub record Kept (word slot : ℕ) (log : List T) (words : List ℕ) (homes : List (maybe.Option (Option T)))
       (hands : List (Hand T)) : Type 0 where
     pub room : word + 1 < length words
-    pub core : Core (slice_index words word) (slice_index words (word + 1)) log (get_elem? homes slot) hands
+    pub core : TicketCore (slice_index words word) (slice_index words (word + 1)) log (get_elem? homes slot) hands
 
 module _ {T V : Type 0} (holds : State (Option T) V → Type 0) (see : V → Hand T) (asks : StepKind T → V → Type 0)
     (tells : StepKind T → V → V → Type 0) (word slot : ℕ) where

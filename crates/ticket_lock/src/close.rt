@@ -5,7 +5,7 @@ ghost use Rattle.ticket_lock.specs.declared.lane.Lane.{Lane};
 ghost use Rattle.ticket_lock.specs.Lone.{IsWhole, Rests, KeepsParts};
 ghost use Rattle.ticket_lock.specs.History.{IsRising};
 ghost use Rattle.ticket_lock.specs.Lanes.{IsLockTable};
-ghost use Rattle.ticket_lock.specs.Promises.{IsIdle, Closes, KeepsOwn, ComesLast};
+ghost use Rattle.ticket_lock.specs.Promises.{IsIdle, ClosesLock, KeepsOwn, ComesLast};
 
 use crate::alone::{Arrives, LoneSeat, LoneTable, Merges, TakesIn};
 use crate::lane::Lane;
@@ -39,7 +39,7 @@ impl<T: LaneLaw, A: Allocator> TicketLock<T, A> {
         requires all { (xs : List (Lane T)) → Drains I.next_gives lanes xs
             → length xs ≡ self.lanes }
         ensures { (xs : List (Lane T)) × Drains I.next_gives lanes xs
-            × Closes self.opening xs result
+            × ClosesLock self.opening xs result
             × KeepsOwn T.part xs result × ComesLast T.before xs result }
     {
         let board = self.into_board();

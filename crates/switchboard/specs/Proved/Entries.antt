@@ -10,7 +10,7 @@ use Rattle.post_ledger.specs.Orders.{mailbox_of, event_of, maker_of, part, own, 
 use Rattle.post_ledger.proofs.Histories.{at_push_cases}
 use Rattle.post_ledger.proofs.Orders.{UnderJob, lawful_push, part_here, part_else, own_here, own_else}
 use Rattle.switchboard.specs.Sights.{BoardState, IsSound}
-use Rattle.switchboard.specs.Books.{with_entry}
+use Rattle.switchboard.specs.Books.{with_new_event}
 
 -- what no Post tells of a history
 module _ {M X : Type 0} (f : List (Event M) → X) (posts : (s : ℕ) (m : M) (h : List (Event M)) → f (event.Post s m ∷ h) ≡ f h)
@@ -81,7 +81,7 @@ module _ {M W : Type 0} (fits : W → ℕ → M → Type 0) where
     pub fit : Fit x.world e
 
   -- the state stays sound
-  pub sound_push : (e : Entry M) (x : BoardState M W) → IsSound fits x → Allowed e x → IsSound fits (with_entry e x)
+  pub sound_push : (e : Entry M) (x : BoardState M W) → IsSound fits x → Allowed e x → IsSound fits (with_new_event e x)
   sound_push e x s may = record {
     lawful = lawful_push x.boxes x.order e s.lawful may.near may.follows may.under;
     fitting = λ i to sender m t at. elim (at_push_cases x.order e (entry.Posted to sender m t) i at) [

@@ -10,7 +10,7 @@ use lib.ListN.{get_elem?}
 use Rattle.ticket_lock.specs.declared.hand.Hand.{Hand}
 use Rattle.ticket_lock.specs.Count.{times, total}
 use Rattle.ticket_lock.specs.History.{StartsWith, EndsIn}
-use Rattle.ticket_lock.specs.Core.{Core}
+use Rattle.ticket_lock.specs.Core.{TicketCore}
 use Rattle.ticket_lock.specs.Turns.{Kept}
 use Rattle.ticket_lock.specs.Proved.Facts.{total_set, total_two, at_set, set_again, map-set, at-map, times-one, StartsWith-refl}
 use Rattle.ticket_lock.specs.Proved.Facts.{StartsWith-trans}
@@ -24,21 +24,22 @@ use Rattle.switchboard.specs.declared.lock_per_box.knowing.Ground.{Ground}
 use Rattle.switchboard.specs.declared.lock_per_box.knowing.Seen.{Seen}
 use Rattle.switchboard.specs.declared.lock_per_box.knowing.Own.{Own}
 use Rattle.switchboard.specs.Sights.{IsSound}
-use Rattle.switchboard.specs.Knowing.{bare, state_of, hand_at, with_hand, numbers, makes}
+use Rattle.switchboard.specs.Knowing.{fresh_hand, state_of, hand_at, with_hand, pass_numbers, makes}
 use Rattle.switchboard.specs.PerBox.{SeatView, word_of, flag, Saw, KnowsBoard, LockStands, Rule, News, Boxes, Slots, owed}
 
 module _ {M W : Type 0} where
   pub hand_here : (q : ℕ) (h : Hand (List (Event M))) (v : SeatView M W) → q < length v.hands → hand_at q (with_hand q h v) ≡ h
-  hand_here q h v short = get_or-set_same v.hands q h (bare 0) short
+  hand_here q h v short = get_or-set_same v.hands q h (fresh_hand 0) short
 
   pub hand_else : (q k : ℕ) (h : Hand (List (Event M))) (v : SeatView M W) → k ≢ q → hand_at k (with_hand q h v) ≡ hand_at k v
-  hand_else q k h v ne = get_or-set_other v.hands q k h (bare 0) ne
+  hand_else q k h v ne = get_or-set_other v.hands q k h (fresh_hand 0) ne
 
   -- a hand that has something is one of the list
-  pub has_hand : (f : Hand (List (Event M)) → ℕ) (q : ℕ) (v : SeatView M W) → f (bare 0) ≡ 0 → 0 < f (hand_at q v) → q < length v.hands
+  pub has_hand : (f : Hand (List (Event M)) → ℕ) (q : ℕ) (v : SeatView M W) → f (fresh_hand 0) ≡ 0 → 0 < f (hand_at q v)
+      → q < length v.hands
   has_hand f q v none some_of = elim (dec_le (length v.hands) q) [
     | no d ↦ omega arith
-    | yes d ↦ (let is : f (hand_at q v) ≡ 0 = ap f (get_or_past v.hands q (bare 0) d) ∙ none in absurd (omega arith))
+    | yes d ↦ (let is : f (hand_at q v) ≡ 0 = ap f (get_or_past v.hands q (fresh_hand 0) d) ∙ none in absurd (omega arith))
   ]
 
 module _ {M : Type 0} where
@@ -67,10 +68,10 @@ module _ {M : Type 0} where
         log,
         record {
           room = omega (arith, s.1.room, same_length);
-          core = subst (λ a. Core a (get_or words' (word_of q + 1) 0) log (get_elem? homes' q) hands') (sym first)
-              (subst (λ b. Core (get_or words (word_of q) 0) b log (get_elem? homes' q) hands') (sym second)
-              (subst (λ x. Core (get_or words (word_of q) 0) (get_or words (word_of q + 1) 0) log x hands') (sym same_home)
-              (subst (λ l. Core (get_or words (word_of q) 0) (get_or words (word_of q + 1) 0) log (get_elem? homes q) l)
+          core = subst (λ a. TicketCore a (get_or words' (word_of q + 1) 0) log (get_elem? homes' q) hands') (sym first)
+              (subst (λ b. TicketCore (get_or words (word_of q) 0) b log (get_elem? homes' q) hands') (sym second)
+              (subst (λ x. TicketCore (get_or words (word_of q) 0) (get_or words (word_of q + 1) 0) log x hands') (sym same_home)
+              (subst (λ l. TicketCore (get_or words (word_of q) 0) (get_or words (word_of q + 1) 0) log (get_elem? homes q) l)
               (sym same_hands) c)));
         },
         subst (λ h. EndsIn log h) (sym same_part) s.2,
@@ -140,9 +141,9 @@ module _ {M W : Type 0} where
     module _ (s : Boxes M W) (r : Rule fits g s) (id : ℕ) (v : SeatView M W) (is_at : get_elem? s.views id ≡ some v) where
       -- a pass of another seat is not one of this one's
       pub not_mine : (j k : ℕ) (u : SeatView M W) (o : Own M) → j ≢ id → get_elem? s.views j ≡ some u → get_elem? u.lanes k ≡ some o
-          → times o.number (numbers v) ≡ 0
+          → times o.number (pass_numbers v) ≡ 0
       not_mine j k u o ne at_u at_o =
-          let two = total_two (λ (w : SeatView M W). times o.number (numbers w)) s.views id j v u (λ e. ne (sym e)) is_at at_u in
+          let two = total_two (λ (w : SeatView M W). times o.number (pass_numbers w)) s.views id j v u (λ e. ne (sym e)) is_at at_u in
           omega (arith, r.once o.number, number_in u.lanes k o at_o)
 
       -- what the seat sees is news, if this holds for the state after the step
@@ -172,12 +173,12 @@ module _ {M W : Type 0} where
       -- the rule after one seat has another view
       pub rebuilt : (order' : List (Entry M)) (first' : Option Abort) (low' : ℕ) (words : List ℕ) (homes : Slots M) (w : SeatView M W)
           → BoardGrows r.order order' r.first first' r.low low'
-          → ((n : ℕ) → times n (numbers v) ≡ 0 → own n order' ≡ own n r.order)
+          → ((n : ℕ) → times n (pass_numbers v) ≡ 0 → own n order' ≡ own n r.order)
           → IsSound fits (state_of g record { order = order'; aborted = first'; knows = false })
           → ((q : ℕ) → q < g.boxes → LockStands q order' words homes (set (map (hand_at q) s.views) id (hand_at q w))) → 0 < length words
           → get_or words 0 0 ≡ low' + flag first'
           → low' + completed order' + v.owes ≡ posted order' + owed s.views + w.owes → low' + w.budget ≤ r.low + v.budget
-          → KnowsBoard fits g order' first' low' w → numbers w ≡ numbers v
+          → KnowsBoard fits g order' first' low' w → pass_numbers w ≡ pass_numbers v
           → ((a : Abort) → first' ≡ Some a → 0 < total (makes a.by) (set s.views id w))
           → Rule fits g record { words = words; homes = homes; views = set s.views id w }
       rebuilt order' first' low' words homes w on apart sound locks some_word word count few mine same maker = record {
@@ -201,8 +202,8 @@ module _ {M W : Type 0} where
             idle = k.idle;
           })
         ];
-        once = λ n. let e : times n (numbers w) ≡ times n (numbers v) = ap (times n) same in
-            omega (arith, total_set (λ (u : SeatView M W). times n (numbers u)) s.views id v w is_at, r.once n);
+        once = λ n. let e : times n (pass_numbers w) ≡ times n (pass_numbers v) = ap (times n) same in
+            omega (arith, total_set (λ (u : SeatView M W). times n (pass_numbers u)) s.views id v w is_at, r.once n);
         whole =
             omega (
               arith,

@@ -23,7 +23,8 @@ use Rattle.switchboard.specs.declared.lock_per_box.knowing.Seen.{Seen}
 use Rattle.switchboard.specs.declared.lock_per_box.knowing.Own.{Own}
 use Rattle.switchboard.specs.Sights.{IsSound}
 use Rattle.switchboard.specs.Proved.Entries.{Allowed, sound_push, job_stays}
-use Rattle.switchboard.specs.Knowing.{entry_of, owes_after, with_event, made_by, state_of, hand_at, with_hand, with_seen, numbers, makes}
+use Rattle.switchboard.specs.Knowing.{entry_of, owes_after, with_event, made_by, state_of, hand_at, with_hand, with_seen, pass_numbers}
+use Rattle.switchboard.specs.Knowing.{makes}
 use Rattle.switchboard.specs.PerBox.{SeatView, word_of, IsBox, Saw, KnowsBoard, Rule, MayRecord, LeavesOneEvent, Recorded, TellsOrder}
 use Rattle.switchboard.specs.PerBox.{Boxes}
 use Rattle.switchboard.specs.PerBox.{Slots, owed}
@@ -136,10 +137,10 @@ module _ {M W : Type 0} (fits : W → ℕ → M → Type 0) (g : Ground M W) whe
         → ((k : ℕ) → k ≢ q → get_elem? homes k ≡ get_elem? s.homes k) → hand_at q w ≡ h → ((k : ℕ) → k ≢ q → hand_at k w ≡ hand_at k v)
         → Kept (word_of q) q log (set s.words i n) homes (set (map (hand_at q) s.views) id h) → EndsIn log (part q order)
         → ((k : ℕ) → k ≢ q → part k order ≡ part k r.order) → BoardGrows r.order order r.first r.first r.low r.low
-        → ((k : ℕ) → times k (numbers v) ≡ 0 → own k order ≡ own k r.order)
+        → ((k : ℕ) → times k (pass_numbers v) ≡ 0 → own k order ≡ own k r.order)
         → IsSound fits (state_of g record { order = order; aborted = r.first; knows = false })
         → r.low + completed order + v.owes ≡ posted order + owed s.views + w.owes → w.budget ≡ v.budget
-        → KnowsBoard fits g order r.first r.low w → numbers w ≡ numbers v → ((k : ℕ) → makes k w ≡ makes k v)
+        → KnowsBoard fits g order r.first r.low w → pass_numbers w ≡ pass_numbers v → ((k : ℕ) → makes k w ≡ makes k v)
         → Rule fits g record { words = set s.words i n; homes = homes; views = set s.views id w }
     turned order q i n homes log h w where_i same_homes is_h others kept ends parts on apart sound count budget mine same made =
         rebuilt fits g s r id v is_at order r.first r.low (set s.words i n) homes w on apart sound
@@ -258,7 +259,7 @@ module _ {M W : Type 0} (fits : W → ℕ → M → Type 0) (g : Ground M W) whe
                 W = record v { hands = set v.hands q h; lanes = with_event more o ∷ []; seen = z; owes = owes_after e v.owes } in
                 let grown : own o.number order ≡ o.events ++ more ∷ [] = own-append o.number r.order (more ∷ [])
                 ∙ ((λ j. list j ++ own_here o.number more [] maker j)) in
-                let named : numbers v ≡ o.number ∷ [] = ap (map (λ (p : Own M). p.number)) lanes in
+                let named : pass_numbers v ≡ o.number ∷ [] = ap (map (λ (p : Own M). p.number)) lanes in
                 let holds =
                 turned order q i n homes log' h w where_i same_homes is_h (λ k ne. hand_else q k h v ne) kept
                 (subst (λ l. EndsIn log' l) (is ∙ (ap (λ l. l ++ e ∷ []) (sym part_is) ∙ sym (part_after q v.under r.order e))) last)

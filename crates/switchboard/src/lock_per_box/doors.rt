@@ -34,7 +34,7 @@ pub(crate) struct Doors {
 
 /// What a pass has once it is past a door: the door, if the pass itself has shut it. It cannot be dropped, so each way
 /// out of the mailbox opens the door again.
-pub(crate) struct Passed<'d> {
+pub(crate) struct PastDoor<'d> {
     shut: Option<&'d Door>,
 }
 
@@ -65,25 +65,25 @@ impl Doors {
     }
 
     /// Shuts the door of this mailbox. If it stays shut by others for long, the pass continues all the same.
-    pub(crate) fn knock(&self, number: u8) -> Passed<'_>
+    pub(crate) fn knock(&self, number: u8) -> PastDoor<'_>
         requires { number < 64 }
     {
         let door = &self.all[usize::from(number)];
         for tries in 0..PAUSES + YIELDS {
             if door.try_shut() {
-                return Passed { shut: Some(door) };
+                return PastDoor { shut: Some(door) };
             }
             wait_a_moment(tries);
         }
-        Passed { shut: None }
+        PastDoor { shut: None }
     }
 }
 
-impl Passed<'_> {
+impl PastDoor<'_> {
     /// Opens the door again, if the pass has shut it. Whoever opens another's door lets in a pass that draws a ticket
     /// and waits with it.
     pub(crate) fn reopen(self) {
-        let Passed { shut } = self;
+        let PastDoor { shut } = self;
         if let Some(door) = shut {
             door.shut.store(false, Ordering::SeqCst);
         }

@@ -11,7 +11,7 @@ ghost use Rattle.switchboard.specs.PerBox.{IsBoardTable};
 use crate::lock_per_box::board::{BoxTable, LockPerBox};
 use crate::lock_per_box::doors::Doors;
 use crate::lock_per_box::knowing::Ground;
-use crate::lock_per_box::outstanding::{Boards, BoxSeat, Deals};
+use crate::lock_per_box::outstanding::{Boards, BoxSeat, DealsPass};
 use crate::lock_per_box::pass::BoxPass;
 use crate::lock_per_box::visiting::STRIDE;
 use crate::mail::Mail;
@@ -111,7 +111,7 @@ fn deal<W, M: Mail<W>, A: Allocator>(
         (opened world.now boxes shared.now.key.to shared.now.key.first) 0 boxes }
 {
     for number in 0..boxes {
-        let own = shared.split_seat::<Deals>(&mut seat);
+        let own = shared.split_seat::<DealsPass>(&mut seat);
         passes.push_reserved(BoxPass {
             seat: own,
             world: Shown::of(world),

@@ -3,7 +3,7 @@ ghost use Rattle.std.specs.Prelude.{◌≡◌, ℕ, ◌<◌, ◌∷◌, [], fals
 ghost use Rattle.ticket_lock.specs.Calls.{IsSameSeat};
 ghost use Rattle.switchboard.specs.declared.calls.Abort.{Abort};
 ghost use Rattle.switchboard.specs.declared.lock_per_box.knowing.Own.{Own};
-ghost use Rattle.switchboard.specs.Knowing.{counted_up, counted_down, hand_at, merged};
+ghost use Rattle.switchboard.specs.Knowing.{counted_up, counted_down, hand_at, merged_seats};
 ghost use Rattle.switchboard.specs.PerBox.{HasOwnJob, LookedAtWord, Raised, SeatTookIn};
 
 use crate::calls::{Cause, Job};
@@ -56,10 +56,10 @@ impl<S, M, W, T> Play<S, Knowing<M, W, T>> for CountsDown {
     ghost then = { λ _ m _ w. w ≡ (counted_down m.0, m.1) };
 }
 
-pub(crate) struct Looks;
+pub(crate) struct LooksAtWord;
 
 impl<W, M: Mail<W>, A: Allocator> Play<Option<Mailbox<M, A>>, Knowing<M, W, Mailbox<M, A>>>
-    for Looks {
+    for LooksAtWord {
     ghost then = { λ _ m n w. LookedAtWord M.fits m n w };
 }
 
@@ -125,7 +125,7 @@ pub(crate) fn look<W, M: Mail<W>, A: Allocator>(
     requires table { (seat.old.table_id ≡ shared.now.table_id) × (0 < shared.now.table_id.words) }
     ensures { IsSameSeat seat.old seat.new × LookedAtWord M.fits seat.old.me result seat.new.me }
 {
-    shared.load::<Looks>(seat, 0)
+    shared.load::<LooksAtWord>(seat, 0)
 }
 
 fn raise_step<J: About, W, M: Mail<W>, A: Allocator>(
@@ -162,14 +162,14 @@ pub(crate) fn raise<W, M: Mail<W>, A: Allocator>(
 }
 
 // The first seat gives its first pass away.
-pub(crate) struct Deals;
+pub(crate) struct DealsPass;
 
-impl<M, W, T> Split<Knowing<M, W, T>> for Deals {
-    ghost use Rattle.switchboard.specs.Knowing.{less_one, just_one};
+impl<M, W, T> Split<Knowing<M, W, T>> for DealsPass {
+    ghost use Rattle.switchboard.specs.Knowing.{without_first_pass, first_pass_alone};
 
-    ghost left = { less_one };
+    ghost left = { without_first_pass };
 
-    ghost right = { just_one };
+    ghost right = { first_pass_alone };
 }
 
 // A seat tells what it has seen.
@@ -184,21 +184,21 @@ impl<M, W, T> Split<Knowing<M, W, T>> for TellsSeen {
 }
 
 // A seat takes in what another has, and is told what it has seen.
-pub(crate) struct Merges;
+pub(crate) struct MergesSeats;
 
-impl<M, W, T> Join<Knowing<M, W, T>> for Merges {
-    ghost use Rattle.switchboard.specs.Knowing.{unseen, only_seen, merged};
+impl<M, W, T> Join<Knowing<M, W, T>> for MergesSeats {
+    ghost use Rattle.switchboard.specs.Knowing.{unseen, only_seen, merged_seats};
 
-    ghost both = { merged };
+    ghost both = { merged_seats };
 
     ghost spent = { only_seen unseen };
 }
 
 // A seat takes in what it was told.
-pub(crate) struct TakesIn;
+pub(crate) struct TakesInSeen;
 
 impl<W, M: Mail<W>, A: Allocator> Play<Option<Mailbox<M, A>>, Knowing<M, W, Mailbox<M, A>>>
-    for TakesIn {
+    for TakesInSeen {
     ghost then = { λ _ m _ w. SeatTookIn M.fits m w };
 }
 
@@ -215,8 +215,8 @@ pub(crate) fn take_in<W, M: Mail<W>, A: Allocator>(
     requires mine { (q : ℕ) → q < shared.now.key.boxes → (hand_at q seat.old.me.0).inside ≡ [] }
     requires theirs { (q : ℕ) → q < shared.now.key.boxes → (hand_at q other.me.0).inside ≡ [] }
     ensures { IsSameSeat seat.old seat.new
-        × SeatTookIn M.fits (merged seat.old.me.0 other.me.0, seat.old.me.1) seat.new.me }
+        × SeatTookIn M.fits (merged_seats seat.old.me.0 other.me.0, seat.old.me.1) seat.new.me }
 {
-    shared.join_seat::<Merges>(seat, other);
-    shared.load::<TakesIn>(seat, 0);
+    shared.join_seat::<MergesSeats>(seat, other);
+    shared.load::<TakesInSeen>(seat, 0);
 }

@@ -9,7 +9,7 @@ ghost use Rattle.switchboard.specs.Knowing.{hand_at};
 ghost use Rattle.switchboard.specs.PerBox.{word_of, IsBoxOf, CanDraw, IsInside, LeavesOneEvent};
 ghost use Rattle.switchboard.specs.PerBox.{TellsOrder};
 
-use crate::lock_per_box::doors::{Doors, Passed};
+use crate::lock_per_box::doors::{Doors, PastDoor};
 use crate::lock_per_box::outstanding::{Boards, BoxSeat};
 use crate::mail::Mail;
 use post_ledger::Mailbox;
@@ -34,10 +34,11 @@ pub(crate) fn enter_box<'d, R: Wait, W, M: Mail<W>, A: Allocator>(
     doors: &'d Doors,
     seat: &mut BoxSeat<M, W, A>,
     number: u8,
-) -> (Mailbox<M, A>, Passed<'d>)
+) -> (Mailbox<M, A>, PastDoor<'d>)
     requires table { IsBoxOf shared.now.key shared.now.table_id seat.old.table_id number }
     requires ready { CanDraw (hand_at number seat.old.me.0) }
-    ensures { IsSameSeat seat.old seat.new × IsInside M.fits number result.0 seat.old.me seat.new.me }
+    ensures { IsSameSeat seat.old seat.new
+        × IsInside M.fits number result.0 seat.old.me seat.new.me }
 {
     let passed = doors.knock(number);
     let (_, mailbox) = enter_at(rt, shared, seat, first_word(number), usize::from(number));
@@ -51,7 +52,7 @@ pub(crate) fn leave_box<W, M: Mail<W>, A: Allocator>(
     seat: &mut BoxSeat<M, W, A>,
     number: u8,
     mailbox: Mailbox<M, A>,
-    passed: Passed<'_>,
+    passed: PastDoor<'_>,
 )
     requires table { IsBoxOf shared.now.key shared.now.table_id seat.old.table_id number }
     requires out { seat.old.me.1 ≡ (number, None) ∷ rest seat.old.me.1 }

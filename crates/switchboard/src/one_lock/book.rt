@@ -6,7 +6,7 @@ ghost use Rattle.post_ledger.specs.declared.entry.Entry.TheVariants.{Posted, Com
 ghost use Rattle.post_ledger.specs.declared.event.Event.{Event};
 ghost use Rattle.post_ledger.specs.Orders.{HasJob, IsClosed};
 ghost use Rattle.switchboard.specs.Sights.{opened, abort_of};
-ghost use Rattle.switchboard.specs.Books.{with_entry, TakeAnswers, RefusesPost, AreParts};
+ghost use Rattle.switchboard.specs.Books.{with_new_event, TakeAnswers, RefusesPost, AreParts};
 
 use crate::calls::{Abort, Cause, Job, PostFault, Taken};
 use crate::world::Shown;
@@ -119,7 +119,7 @@ impl<M: Copy, W, A: Allocator> Book<M, W, A> {
         requires job { HasJob by job.now self.old.order }
         requires to { to < self.old.boxes }
         ensures ok { OnOk result ((self.old.aborted ≡ None)
-            × (self.new ≡ with_entry (Posted to by message job.now) self.old)) }
+            × (self.new ≡ with_new_event (Posted to by message job.now) self.old)) }
         ensures err { IfErr result (λ f. RefusesPost message f self.old self.new) }
     {
         if self.aborted.is_some() {
@@ -167,7 +167,7 @@ impl<M: Copy, W, A: Allocator> Book<M, W, A> {
     /// Records that the message of the job is dealt with. Takes no memory.
     pub fn done(&mut self, by: u8, job: Job)
         requires { HasJob by job self.old.order }
-        ensures { self.new ≡ with_entry (Completed by job) self.old }
+        ensures { self.new ≡ with_new_event (Completed by job) self.old }
     {
         let Job { take } = job;
         let mailbox = &mut self.mailboxes[usize::from(by)];

@@ -13,7 +13,7 @@ use Rattle.ticket_lock.specs.declared.view.Opening.{Opening}
 use Rattle.ticket_lock.specs.Count.{times}
 use Rattle.ticket_lock.specs.History.{StartsWith, EndsIn, IsRising}
 use Rattle.ticket_lock.specs.Turns.{draws, waits, enters, passes, Kept, Follows, Opens}
-use Rattle.ticket_lock.specs.Lone.{IsStart, hand_of, numbers, Knows, Lone, MayBeLeft, TellsHistory}
+use Rattle.ticket_lock.specs.Lone.{IsStart, hand_of, lane_numbers, Knows, Lone, MayBeLeft, TellsHistory}
 use Rattle.ticket_lock.specs.Proved.Facts.{total_set, total_two, at_set, set_here, set_else, at_inside, map-set, times-one, StartsWith-more}
 use Rattle.ticket_lock.specs.Proved.Facts.{EndsIn-same, EndsIn-more, rises_on}
 
@@ -65,7 +65,7 @@ module _ {T Part : Type 0} (before : T → T → Type 0) (part : ℕ → T → P
     -- the rule after one view was changed, which keeps the numbers of its lanes
     pub rebuilt : (log : List T) (words : List ℕ) (homes : List (maybe.Option (Option T))) (w : View T)
         → Kept 0 0 log words homes (set (map (hand_of 0) s.views) id w.hand)
-        → StartsWith log (opening ∷ []) → IsRising before log → numbers w ≡ numbers v → length w.own ≡ length v.own
+        → StartsWith log (opening ∷ []) → IsRising before log → lane_numbers w ≡ lane_numbers v → length w.own ≡ length v.own
         → Knows before part log w
         → ((j : ℕ) (u : View T) → j ≢ id → get_elem? s.views j ≡ some u → Knows before part log u) → IsKnown log (set s.views id w)
         → Lone before part opening lanes record { words = words; homes = homes; views = set s.views id w }
@@ -77,8 +77,8 @@ module _ {T Part : Type 0} (before : T → T → Type 0) (part : ℕ → T → P
       each_view =
           λ j u e. elim (at_set s.views id j w u e) [ inl t ↦ subst (λ z. Knows before part log z) t.1 mine | inr t ↦ others j u t.0 t.1 ];
       whole = omega (arith, total_set (λ (u : View T). length u.own) s.views id v w is_at, r.whole);
-      once = λ l. let same : times l (numbers w) ≡ times l (numbers v) = ap (times l) same_numbers in
-          omega (arith, total_set (λ (u : View T). times l (numbers u)) s.views id v w is_at, r.once l);
+      once = λ l. let same : times l (lane_numbers w) ≡ times l (lane_numbers v) = ap (times l) same_numbers in
+          omega (arith, total_set (λ (u : View T). times l (lane_numbers u)) s.views id v w is_at, r.once l);
       known = known;
     }
 
@@ -109,7 +109,7 @@ module _ {T Part : Type 0} (before : T → T → Type 0) (part : ℕ → T → P
         let mine = r.each_view id v is_at in
         let log : List T = r.log ++ y ∷ [] in
         let one : length v.own ≡ 1 = ap length own in
-        let my_number : numbers v ≡ l ∷ [] = ap (λ q. map (λ p. p.0) q) own in
+        let my_number : lane_numbers v ≡ l ∷ [] = ap (λ q. map (λ p. p.0) q) own in
         let only : (q : T) → EndsIn log q → y ≡ q = λ q e. EndsIn-same log y q (EndsIn-more r.log y) e in
         rebuilt log words homes w kept (StartsWith-more r.log (opening ∷ []) y r.begun)
         (rises_on before same on r.log x y ends step r.rising) (sym my_number) (sym one)
@@ -123,9 +123,9 @@ module _ {T Part : Type 0} (before : T → T → Type 0) (part : ℕ → T → P
           told = StartsWith-more r.log u.told y known_u.told;
           owns = λ k m a q at_k e.
               let other : m ≢ l = λ (same_lane : m ≡ l).
-              (let two = total_two (λ (i : View T). times l (numbers i)) s.views id j v u (λ (f : id ≡ j). ne (sym f)) is_at at_u in
-              let here : times l (numbers v) ≡ 1 = ap (times l) my_number ∙ times-one l in
-              let there : 0 < times l (numbers u) = subst (λ i. 0 < times i (numbers u)) same_lane (number_at u.own k m a at_k) in
+              (let two = total_two (λ (i : View T). times l (lane_numbers i)) s.views id j v u (λ (f : id ≡ j). ne (sym f)) is_at at_u in
+              let here : times l (lane_numbers v) ≡ 1 = ap (times l) my_number ∙ times-one l in
+              let there : 0 < times l (lane_numbers u) = subst (λ i. 0 < times i (lane_numbers u)) same_lane (number_at u.own k m a at_k) in
               omega (arith, r.once l)) in
               subst (λ i. part m i ≡ part m a) (only q e) (apart m other ∙ known_u.owns k m a x at_k ends);
         })

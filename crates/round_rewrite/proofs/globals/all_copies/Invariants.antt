@@ -2,9 +2,9 @@
 use Rattle.std.proofs.Common.{◌≡◌, ◌++◌, []}
 use Rattle.trees.specs.Trees.{names_of}
 use Rattle.round_rewrite.specs.Table.{numbers, copied}
-use Rattle.round_rewrite.specs.Names.{spelling, copy_name}
+use Rattle.round_rewrite.specs.Names.{by_names, copy_name}
 use Rattle.round_rewrite.proofs.globals.all_copies.Given as goal
 
 abbrev pub invariant-loop-round : goal.invariant-loop-round
 invariant-loop-round g l =
-    names_of l.list.items ≡ names_of l.fn.into.items ++ copied (spelling []) l.fn.rounds.last copy_name (names_of l.xs) (numbers 0 l.round)
+    names_of l.list.items ≡ names_of l.fn.into.items ++ copied (by_names []) l.fn.rounds.last copy_name (names_of l.xs) (numbers 0 l.round)

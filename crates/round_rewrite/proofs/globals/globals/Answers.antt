@@ -2,15 +2,15 @@ use Rattle.std.proofs.Common.{suc, ◌∙◌, ap, [], ◌∷◌, ◌++◌, rever
 use Rattle.trees.specs.Trees.{names_of}
 use Rattle.round_rewrite.specs.Limits.{round_bits}
 use Rattle.round_rewrite.specs.Table.{numbers, copied}
-use Rattle.round_rewrite.specs.Names.{fresh_name, bit_names, spelling, copy_name, save_name}
+use Rattle.round_rewrite.specs.Names.{fresh_name, bit_names, by_names, copy_name, save_name}
 use Rattle.round_rewrite.proofs.globals.globals.Goals as goal
 
 pub returns : goal.returns
 returns g c =
     let last = c.args.rounds.last in
     let xs = names_of c.args.xs.now in
-    let first = copied (spelling []) last copy_name xs (numbers 0 (suc last)) in
-    let second = copied (spelling []) last save_name xs (numbers 1 last) in
+    let first = copied (by_names []) last copy_name xs (numbers 0 (suc last)) in
+    let second = copied (by_names []) last save_name xs (numbers 1 last) in
     let copied = c.in_ok-copied.ensures ∙ ap (λ ns. names_of ns ++ first) c.new.ensures.items in
     let saved = c.in_ok-saved.ensures ∙ ap (λ ns. ns ++ second) copied in
     let bits = c.in_ok-bits.ensures ∙ (λ i. saved i ++ reverse (bit_names (c.bits.ensures.count i))) in

@@ -3,7 +3,7 @@ use Rattle.std.proofs.lemmas.Result.{IfOk-weaker}
 use Rattle.language.specs.Tree.{assign}
 use Rattle.trees.specs.Trees.{simple, names_of, items_of, all_before}
 use Rattle.round_rewrite.specs.Table.{no_mark}
-use Rattle.round_rewrite.specs.Names.{spelling, copy_name, save_name}
+use Rattle.round_rewrite.specs.Names.{by_names, copy_name, save_name}
 use Rattle.round_rewrite.proofs.AppendLemmas.{laid}
 use Rattle.round_rewrite.proofs.TargetLemmas.{empty}
 use Rattle.round_rewrite.proofs.Mains.{guess_some}
@@ -20,7 +20,7 @@ returns g c =
     IfOk-weaker c.push-2.result _ _
     (λ _ l k. laid _ _ no_mark _ _ l (deed_of-Assign _ _ ∙ (λ i. simple (assign (kept i) (c.in_ok-values.ensures i)))) k
     ∙ (drawn _
-    ∙ ap (all_before (items_of c.args.into.now.items)) (sym (guess_some (spelling []) c.args.last xs _ _ c.args.round k
+    ∙ ap (all_before (items_of c.args.into.now.items)) (sym (guess_some (by_names []) c.args.last xs _ _ c.args.round k
     (ap names_of c.in-Some.ensures.cases.0)))))
     c.push-2.ensures
 

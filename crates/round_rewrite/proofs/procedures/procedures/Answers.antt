@@ -1,5 +1,4 @@
-use Rattle.std.proofs.Common.{◌≡◌, ◌+◌, ◌<◌, ◌≤◌, ◌∙◌, ap, sym, refl, arith, [], ◌∷◌, ◌++◌, map, drop}
-use Rattle.std.proofs.Common.{append-nil}
+use Rattle.std.proofs.Common.{◌≡◌, ◌+◌, ◌<◌, ◌≤◌, ◌∙◌, ap, sym, refl, arith, [], ◌∷◌, ◌++◌, map, drop, append-nil}
 use Rattle.std.proofs.lemmas.List.{drop_more, drop_all}
 use Rattle.trees.specs.Trees.{proc_of, procs_of, tree_of}
 use Rattle.round_rewrite.specs.Names.{main_procedure, rewritten_procedure}

@@ -5,7 +5,7 @@ use Rattle.language.specs.Resolve.{gives_value}
 use Rattle.resolved.proofs.Counted.{as_number}
 use Rattle.round_rewrite.specs.Writing.{procedure_needs}
 use Rattle.round_rewrite.specs.Table.{temporaries}
-use Rattle.round_rewrite.specs.Names.{spelling}
+use Rattle.round_rewrite.specs.Names.{by_names}
 use Rattle.round_rewrite.proofs.width.places.Goals as goal
 
 pub returns : goal.returns
@@ -16,7 +16,7 @@ returns g c =
     let locals : length c.as_slice-locals.result.now ≡ length (names_of p.locals.items) =
     ap length c.as_slice-locals.ensures.value ∙ sym (length-map p.locals.items name_of) in
     let needs : c.needs-needs.result ≡ procedure_needs (proc_of p) =
-    c.needs-needs.ensures ∙ (λ i. temporaries (spelling (names_of (c.as_slice-formals.ensures.value i) ++
+    c.needs-needs.ensures ∙ (λ i. temporaries (by_names (names_of (c.as_slice-formals.ensures.value i) ++
     names_of (c.as_slice-locals.ensures.value i))).is_shared (block_of (c.deref.ensures.value i))) in
     let given =
     as_number c.give_value.result (gives_value (block_of p.body.items))

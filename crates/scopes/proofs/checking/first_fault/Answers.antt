@@ -9,40 +9,24 @@ pub returns : goal.returns
 returns g c =
     let t = tree_of c.args.program.now in
     let undeclared =
-    start fault.Undeclared (Undeclared t) 6 (λ n. refl) (λ n. refl) c.in_ok-first_undeclared.field-0 c.map-undeclared.result
-    (mapped fault.Undeclared c.in_ok-first_undeclared.field-0 c.map-undeclared.result c.map-undeclared.ensures.cases)
+    start fault.Undeclared (Undeclared t) 6 (λ n. refl) (λ n. refl) _ _ (mapped fault.Undeclared _ _ c.map-undeclared.ensures.cases)
     c.in_ok-first_undeclared.ensures in
     let through_twice =
-    next fault.DeclaredTwice (DeclaredTwice t) 6 (λ n. refl)
-    (λ n. refl) c.in_ok-first_twice.field-0 c.map-undeclared.result c.map-twice.result c.sooner-through_twice.result
-    (mapped fault.DeclaredTwice c.in_ok-first_twice.field-0 c.map-twice.result c.map-twice.ensures.cases) c.sooner-through_twice.ensures
-    undeclared
-    c.in_ok-first_twice.ensures in
+    next fault.DeclaredTwice (DeclaredTwice t) 6 (λ n. refl) (λ n. refl) _ _ _ _ (mapped fault.DeclaredTwice _ _ c.map-twice.ensures.cases)
+    c.sooner-through_twice.ensures undeclared c.in_ok-first_twice.ensures in
     let through_counts =
-    next fault.WrongCount (WrongCount t) 7 (λ n. refl)
-    (λ n. refl) c.in_ok-first_wrong_count.field-0 c.sooner-through_twice.result c.map-counts.result c.sooner-through_counts.result
-    (mapped fault.WrongCount c.in_ok-first_wrong_count.field-0 c.map-counts.result c.map-counts.ensures.cases)
+    next fault.WrongCount (WrongCount t) 7 (λ n. refl) (λ n. refl) _ _ _ _ (mapped fault.WrongCount _ _ c.map-counts.ensures.cases)
     c.sooner-through_counts.ensures through_twice c.in_ok-first_wrong_count.ensures in
     let through_threads =
-    next fault.BadThread (BadThread t) 8 (λ n. refl)
-    (λ n. refl) c.first_bad_thread.result c.sooner-through_counts.result c.map-threads.result c.sooner-through_threads.result
-    (mapped fault.BadThread c.first_bad_thread.result c.map-threads.result c.map-threads.ensures.cases) c.sooner-through_threads.ensures
-    through_counts
-    c.first_bad_thread.ensures in
+    next fault.BadThread (BadThread t) 8 (λ n. refl) (λ n. refl) _ _ _ _ (mapped fault.BadThread _ _ c.map-threads.ensures.cases)
+    c.sooner-through_threads.ensures through_counts c.first_bad_thread.ensures in
     let through_labels =
-    next fault.BadLabel (BadLabel t) 9 (λ n. refl)
-    (λ n. refl) c.in_ok-first_bad_label.field-0 c.sooner-through_threads.result c.map-labels.result c.sooner-through_labels.result
-    (mapped fault.BadLabel c.in_ok-first_bad_label.field-0 c.map-labels.result c.map-labels.ensures.cases) c.sooner-through_labels.ensures
-    through_threads
-    c.in_ok-first_bad_label.ensures in
+    next fault.BadLabel (BadLabel t) 9 (λ n. refl) (λ n. refl) _ _ _ _ (mapped fault.BadLabel _ _ c.map-labels.ensures.cases)
+    c.sooner-through_labels.ensures through_threads c.in_ok-first_bad_label.ensures in
     let through_reserved =
-    next fault.Reserved (Reserved t) 10 (λ n. refl)
-    (λ n. refl) c.in_ok-first_reserved.field-0 c.sooner-through_labels.result c.map-reserved.result c.sooner-through_reserved.result
-    (mapped fault.Reserved c.in_ok-first_reserved.field-0 c.map-reserved.result c.map-reserved.ensures.cases)
+    next fault.Reserved (Reserved t) 10 (λ n. refl) (λ n. refl) _ _ _ _ (mapped fault.Reserved _ _ c.map-reserved.ensures.cases)
     c.sooner-through_reserved.ensures through_labels c.in_ok-first_reserved.ensures in
     let through_many =
-    next fault.TooMany (TooMany t) 11 (λ n. refl)
-    (λ n. refl) c.in_ok-first_too_many.field-0 c.sooner-through_reserved.result c.map-many.result c.sooner.result
-    (mapped fault.TooMany c.in_ok-first_too_many.field-0 c.map-many.result c.map-many.ensures.cases) c.sooner.ensures through_reserved
-    c.in_ok-first_too_many.ensures in
+    next fault.TooMany (TooMany t) 11 (λ n. refl) (λ n. refl) _ _ _ _ (mapped fault.TooMany _ _ c.map-many.ensures.cases) c.sooner.ensures
+    through_reserved c.in_ok-first_too_many.ensures in
     first_of_all t 12 c.sooner.result through_many

@@ -1,5 +1,4 @@
-use Rattle.std.proofs.Common.{◌∙◌, ap₂, refl}
-use Rattle.std.proofs.Common.{add-one}
+use Rattle.std.proofs.Common.{◌∙◌, ap₂, refl, add-one}
 use Rattle.language.specs.Tree.{two, or}
 use Rattle.round_rewrite.proofs.writer.Writer.read_by_round.Goals as goal
 

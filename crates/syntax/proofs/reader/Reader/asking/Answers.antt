@@ -4,7 +4,7 @@ use Rattle.tokens.specs.declared.vocabulary.Kind.TheVariants as kind
 use Rattle.tokens.specs.Token.{Tok, toks_of}
 use Rattle.trees.specs.Trees.{name_of, Deed, simple}
 use Rattle.syntax.specs.Parser.{Parser, ◌>>=◌}
-use Rattle.syntax.specs.Exact.{asking, name, arguments, ended, closing}
+use Rattle.syntax.specs.Exact.{asking, name, argument_list, semicolon_after, closing}
 use Rattle.syntax.proofs.Closings.{behind_closing, closed_read, closed_shorter, shorter_behind, less_still}
 use Rattle.syntax.proofs.Exits.{refused}
 use Rattle.trees.proofs.Folds.{deed_of-CallTo}
@@ -13,7 +13,7 @@ use Rattle.syntax.proofs.reader.Reader.asking.Goals as goal
 
 -- a call for the value of x, after `:=`
 abbrev called_for : Name → Parser Deed
-called_for x = name >>= λ p. arguments >>= λ es. ended (simple (call_for x p es))
+called_for x = name >>= λ p. argument_list >>= λ es. semicolon_after (simple (call_for x p es))
 
 pub enclosed-requires : goal.enclosed-requires
 enclosed-requires g c = strict_expression
@@ -44,7 +44,7 @@ returns-in_err-name-clause-gives g c =
 
 pub returns-in_err-arguments-clause-gives : goal.returns-in_err-arguments-clause-gives
 returns-in_err-arguments-clause-gives g c =
-    refused _ c.from_residual-in_err-arguments.result _ (arguments (toks_of c.in_ok-name.opened.now)) _
+    refused _ c.from_residual-in_err-arguments.result _ (argument_list (toks_of c.in_ok-name.opened.now)) _
     c.from_residual-in_err-arguments.ensures.1
     (λ none. target_read (toks_of c.args.tokens.now)
     (closed_read name_of name kind.Assign c.read.result _ c.args.tokens.now c.read.ensures.gives c.in_ok-target.ensures)

@@ -1,6 +1,6 @@
 use Rattle.std.proofs.Common.{refl}
 use Rattle.tokens.specs.Token.{toks_of}
-use Rattle.syntax.specs.Exact.{calling, name, arguments}
+use Rattle.syntax.specs.Exact.{calling, name, argument_list}
 use Rattle.syntax.proofs.Exits.{refused}
 use Rattle.syntax.proofs.Closings.{less_still, shorter_behind, refused_shorter}
 use Rattle.trees.proofs.Folds.{deed_of-Call}
@@ -25,7 +25,7 @@ returns-in_err-name-clause-gives g c =
 pub returns-in_err-arguments-clause-gives : goal.returns-in_err-arguments-clause-gives
 unfolding calling
 returns-in_err-arguments-clause-gives g c =
-    refused _ c.from_residual-in_err-arguments.result _ (arguments (toks_of c.in_ok-name.others.now)) _
+    refused _ c.from_residual-in_err-arguments.result _ (argument_list (toks_of c.in_ok-name.others.now)) _
     c.from_residual-in_err-arguments.ensures.1
     (λ none. rw (c.in_ok-name.ensures.gives, none) refl) c.in_err-arguments.ensures.gives
 

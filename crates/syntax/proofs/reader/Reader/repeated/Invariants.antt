@@ -7,8 +7,8 @@ use Rattle.syntax.proofs.reader.Reader.repeated.Given as goal
 
 abbrev pub invariant-loop-rest : goal.invariant-loop-rest
 invariant-loop-rest g l = record {
-  whole : SoFar g.T.Written.tree (many g.T.Repeated.another g.T.Written.grammar)
-      (repeated g.T.Repeated.another g.T.Written.grammar (toks_of l.tokens)) l.list.items (toks_of l.rest);
+  whole : SoFar g.T.Written.tree (many g.T.Unseparated.another g.T.Written.grammar)
+      (repeated g.T.Unseparated.another g.T.Written.grammar (toks_of l.tokens)) l.list.items (toks_of l.rest);
   shorter : length l.rest < length l.tokens;
 }
 

@@ -2,7 +2,7 @@
 use Rattle.std.proofs.Common.{◌≡◌}
 use Rattle.post_ledger.specs.declared.entry.Entry.TheVariants.{Completed}
 use Rattle.post_ledger.specs.Orders.{HasJob}
-use Rattle.switchboard.specs.Books.{with_entry}
+use Rattle.switchboard.specs.Books.{with_new_event}
 use Rattle.switchboard.proofs.Inside.{inside, to_lane, to_call, job_inside, completing, completes_on, shows_completed}
 use Rattle.switchboard.proofs.Visits.{may_leave, visit_is}
 use Rattle.switchboard.proofs.one_lock.board.OneLockBoard.done.Goals as goal
@@ -18,7 +18,7 @@ leave-requires-clause-value g c =
     let F = g.M.Mail.fits in
     let y = c.done.new.self in
     let h = inside F c.pass.invariant c.in-Ok.ensures c.pass.view_is c.number-number.ensures c.value.ensures.value in
-    let is = to_lane F h (λ n x. y ≡ with_entry (Completed n c.args.job) x) c.done.ensures in
+    let is = to_lane F h (λ n x. y ≡ with_new_event (Completed n c.args.job) x) c.done.ensures in
     may_leave F c.in-Ok.guard c.pass.inside.lane c.enter.new.lane y c.in-Ok.ensures (completing F h (job_inside F h c.requires.job) is)
 
 pub invariant_of-pass : goal.invariant_of-pass

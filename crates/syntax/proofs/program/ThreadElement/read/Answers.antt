@@ -6,7 +6,7 @@ use Rattle.syntax.specs.Parser.{take, give, ◌>>=◌}
 use Rattle.syntax.specs.Exact.{thread_line, name, closing}
 use Rattle.syntax.proofs.Closings.{closed_read, behind_closing}
 use Rattle.syntax.proofs.Exits.{refused}
-use Rattle.syntax.proofs.program.ThreadItem.read.Goals as goal
+use Rattle.syntax.proofs.program.ThreadElement.read.Goals as goal
 
 pub returns-in_err-word-clause-gives : goal.returns-in_err-word-clause-gives
 unfolding thread_line

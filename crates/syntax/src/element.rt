@@ -12,15 +12,15 @@ use std::alloc::Allocator;
 use tokens::{Kind, Token};
 
 /// What is written one after the other, like the names of a declaration.
-pub(crate) trait Item<A: Allocator + Clone>: Written + Sized + Drop {
-    /// Reads an item.
+pub(crate) trait Element<A: Allocator + Clone>: Written + Sized + Drop {
+    /// Reads an element.
     fn read<'t>(reader: &Reader<'_, A>, tokens: &'t [Token<'t>]) -> Read<'t, Self>
         ensures gives { Parses Self.tree result Self.grammar tokens.now }
         ensures shorter { Shorter result tokens.now };
 }
 
-/// An item with no comma before the next.
-pub(crate) trait Repeated<A: Allocator + Clone>: Item<A> {
+/// An element with no comma before the next.
+pub(crate) trait Unseparated<A: Allocator + Clone>: Element<A> {
     // Whether another comes.
     ghost another: { List Tok → Bool };
 
@@ -30,8 +30,8 @@ pub(crate) trait Repeated<A: Allocator + Clone>: Item<A> {
 }
 
 impl<'a, A: Allocator + Clone> Reader<'a, A> {
-    /// Reads items with commas between them. Most lists have one element, so they begin with room for one.
-    pub fn list<'t, T: Item<A>>(&self, tokens: &'t [Token<'t>]) -> Read<'t, Vec<T, A>>
+    /// Reads elements with commas between them. Most lists have one element, so they begin with room for one.
+    pub fn list<'t, T: Element<A>>(&self, tokens: &'t [Token<'t>]) -> Read<'t, Vec<T, A>>
         requires { Strict T.grammar }
         ensures gives { Parses (λ v. map T.tree v.items) result (list T.grammar) tokens.now }
         ensures shorter { Shorter result tokens.now }
@@ -47,8 +47,8 @@ impl<'a, A: Allocator + Clone> Reader<'a, A> {
         Ok((list, rest))
     }
 
-    /// Reads items, at least one, as long as another comes.
-    pub fn repeated<'t, T: Repeated<A>>(&self, tokens: &'t [Token<'t>]) -> Read<'t, Vec<T, A>>
+    /// Reads elements, at least one, as long as another comes.
+    pub fn repeated<'t, T: Unseparated<A>>(&self, tokens: &'t [Token<'t>]) -> Read<'t, Vec<T, A>>
         requires { Strict T.grammar }
         ensures gives { Parses (λ v. map T.tree v.items) result
             (repeated T.another T.grammar) tokens.now }

@@ -2,7 +2,7 @@ use Rattle.std.proofs.Common.{refl}
 use Rattle.tokens.specs.Token.{toks_of}
 use Rattle.syntax.specs.Exact.{name, formals, insides, procedure}
 use Rattle.syntax.proofs.Exits.{refused}
-use Rattle.syntax.proofs.program.ProcItem.read.Goals as goal
+use Rattle.syntax.proofs.program.ProcElement.read.Goals as goal
 
 pub returns-in_err-name-clause-gives : goal.returns-in_err-name-clause-gives
 unfolding procedure
