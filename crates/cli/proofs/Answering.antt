@@ -19,7 +19,7 @@ use Rattle.summaries.specs.declared.due.Due.TheVariants.{Entry, Summary}
 use Rattle.summaries.specs.Found.{left}
 use Rattle.summaries.specs.Dues.{due_of}
 use Rattle.summaries.specs.Fitting.{IsDueFor}
-use Rattle.cli.specs.Counts.{AreSoMany, names_of}
+use Rattle.cli.specs.Counts.{AreSoMany, procedure_names}
 use Rattle.cli.specs.Counted.{HasEach, answer_line, answer_status, lines_behind}
 use Rattle.cli.specs.Refused.{HasRewriting}
 use Rattle.gather.specs.Reports.{AreDueOnce, IsReport, posted_to}
@@ -60,7 +60,7 @@ due_many p q h due taken = record {
 
 -- a report on a checked program covers each of its procedures
 pub has_each : {H A : Type 0} (rounds most : ℕ) (t : Tree) (r : Report H A) → IsChecked t → IsReport t rounds most r
-    → HasEach (names_of t) r
+    → HasEach (procedure_names t) r
 has_each rounds most t r checked h = record {
   summaries = h.found.summaries.0 ∙ as_many_names rounds t;
   mailboxes = h.found.through.all ∙ as_many_names rounds t;
@@ -72,7 +72,7 @@ has_each rounds most t r checked h = record {
 
 -- the lines after the answer are what is asked for
 lines_follow : {H A : Type 0} (rounds most : ℕ) (t : Tree) (r : Report H A) → IsReport t rounds most r → (stats : Bool)
-    → ComesBehind stats rounds t (lines_behind stats (names_of t) r)
+    → ComesBehind stats rounds t (lines_behind stats (procedure_names t) r)
 lines_follow rounds most t r h false = refl
 lines_follow rounds most t r h true =
     tell_counts t rounds r.summaries r.ledger.histories.items h.found.summaries h.found.through.all
@@ -90,7 +90,7 @@ answered t rounds stats Unsafe iff lines follows bytes status e s = (lines, foll
 -- so the reply to a text with a report is the answer on its program
 pub answers : {H A : Type 0} (text : List ℕ) (rounds most : ℕ) (t : Tree) (r : Report H A) (stats : Bool)
     → IsProgramOf text t → IsReport t rounds most r
-    → (bytes : List ℕ) (status : ℕ) → bytes ≡ answer_line r.answer ++ lines_behind stats (names_of t) r
+    → (bytes : List ℕ) (status : ℕ) → bytes ≡ answer_line r.answer ++ lines_behind stats (procedure_names t) r
     → status ≡ answer_status r.answer
     → Answers text rounds most stats bytes status
 answers text rounds most t r stats of h bytes status e s =

@@ -22,7 +22,7 @@ use Rattle.summaries.specs.Found.{left}
 use Rattle.summaries.specs.Effects.{Effect, Effects}
 use Rattle.summaries.specs.Fitting.{IsDueFor}
 use Rattle.summaries.specs.Tabulated.{ArePairsAscending, AreSummaries, IsAscending, IsPairBefore, IsSummary}
-use Rattle.cli.specs.Counts.{AreCountsOf, AreSoMany, Counts, TellCounts, counts_line, counts_lines, names_of}
+use Rattle.cli.specs.Counts.{AreCountsOf, AreSoMany, Counts, TellCounts, counts_line, counts_lines, procedure_names}
 use Rattle.cli.specs.Counted.{counted, counted_each}
 
 -- of ascending numbers, the first is less than each of the others
@@ -143,7 +143,7 @@ one_line_more (n ∷ ns) (d ∷ ds) (suc k) name c e f =
 
 -- the rewriting has a procedure for each name
 pub as_many_names : (rounds : ℕ) (t : Tree)
-    → length (sequential_for rounds t).routines ≡ length (names_of t)
+    → length (sequential_for rounds t).routines ≡ length (procedure_names t)
 as_many_names rounds t =
     let tree = rewritten_for rounds t in
     length-map (meaning_of tree).routines numbered_routine ∙ (length-map tree.procedures (routine_of tree)
@@ -156,7 +156,7 @@ pub tell_counts : (t : Tree) (rounds : ℕ) (s : Effects) (hs : List (List (Even
     → length hs ≡ length (sequential_for rounds t).routines
     → ((q : ℕ) (h : List (Event Due)) → slice_get hs q ≡ Some h
     → AreSoMany (IsDueFor (sequential_for rounds t) q) (length (takes h)))
-    → TellCounts rounds t (counts_lines (names_of t) (counted_each s.procedures hs))
+    → TellCounts rounds t (counts_lines (procedure_names t) (counted_each s.procedures hs))
 tell_counts t rounds s hs summaries boxes due = record {
   counts = counted_each s.procedures hs;
   each = counted_length s.procedures hs (boxes ∙ sym summaries.0) ∙ (summaries.0 ∙ as_many_names rounds t);
@@ -196,12 +196,6 @@ all_written names ss hs k first lines past past_ss same e =
     let cs = counted_each ss hs in
     let many : length cs ≤ k = let l = counted_length ss hs same in omega (arith, l, past_ss) in
     e ∙ ap₂ (λ x y. first ++ counts_lines x y) (take_all k names past) (take_all k cs many)
-
--- there is something at each number below the length
-pub there : {X : Type 0} (xs : List X) (i : ℕ) → i < length xs → (x : X) × (slice_get xs i ≡ Some x)
-there [] i lt = absurd (omega (arith, lt))
-there (x ∷ xs) zero lt = (x, refl)
-there (x ∷ xs) (suc i) lt = there xs i (omega (arith, lt))
 
 -- the name at a number is that of the procedure there
 pub named_at : {A : Type 0} (ps : List (Proc A)) (i : ℕ) (x : Proc A) → i < length ps → x ≡ get_or ps i x

@@ -17,11 +17,6 @@ use Rattle.refusals.specs.declared.refusal.Refusal.{Refusal}
 use Rattle.refusals.specs.declared.refusal.Refusal.TheVariants.{EdgeLimit, Memory, NoWorker, Spent, TooWide, Unchecked, Unread}
 use Rattle.cli.specs.declared.reply.Reply.{Reply}
 
--- a text that is rewritten has a rewriting that is not too wide
-pub has_rewriting : (text : List ℕ) (rounds : ℕ) (sequential : Tree) → IsRewriting text rounds sequential
-    → HasRewriting text rounds
-has_rewriting text rounds sequential h = (h.tree, h.of, h.checked, h.narrow)
-
 -- a fault of scopes that is not lack of memory has its place
 fault_place : (text : List ℕ) (fault : ScopeFault) → NamesOffset (Unchecked fault)
     → (t : Tree) × Text text t × ((fault ≡ scope.Memory) ⊎ IsFirstFault t fault) → HasPlace text

@@ -47,13 +47,13 @@ counts_lines (name ∷ names) [] = []
 counts_lines (name ∷ names) (counts ∷ cs) = counts_line name counts.entries counts.pairs counts.taken ++ counts_lines names cs
 
 -- the names of the rewriting's procedures, by number: `main__`, and then those of the source
-abbrev pub names_of : Tree → List (List ℕ)
-names_of tree = codes "main__" ∷ map (λ (p : Procedure). p.name.text) tree.procedures
+abbrev pub procedure_names : Tree → List (List ℕ)
+procedure_names tree = codes "main__" ∷ map (λ (p : Procedure). p.name.text) tree.procedures
 
 -- The lines give, for each procedure of the program's rewriting for K rounds, in the order of their numbers, its
 -- name and what is counted of it.
 pub record TellCounts (rounds : ℕ) (tree : Tree) (lines : List ℕ) : Type 0 where
   pub counts : List Counts
-  pub each : length counts ≡ length (names_of tree)
+  pub each : length counts ≡ length (procedure_names tree)
   pub are : (q : ℕ) (c : Counts) → slice_get counts q ≡ Some c → AreCountsOf (sequential_for rounds tree) q c
-  pub same : lines ≡ counts_lines (names_of tree) counts
+  pub same : lines ≡ counts_lines (procedure_names tree) counts

@@ -42,16 +42,16 @@ IsPast bytes rounds None = ⊥
 IsPast bytes rounds (Some edges) = IsOver bytes rounds edges
 
 -- where the name of a procedure of the rewriting is in the text; that of the first, `main__`, is not in it
-abbrev pub name_at : Tree → ℕ → Option ℕ
-name_at tree zero = None
-name_at tree (suc q) = option_map (λ (p : Procedure). p.name.at) (slice_get tree.procedures q)
+abbrev pub place_of_name : Tree → ℕ → Option ℕ
+place_of_name tree zero = None
+place_of_name tree (suc q) = option_map (λ (p : Procedure). p.name.at) (slice_get tree.procedures q)
 
 -- The procedure of the text's rewriting whose name is there has more path edges than the limit, if there is one.
 abbrev pub IsPastAt : List ℕ → ℕ → Option ℕ → Option ℕ → Type 0
 IsPastAt bytes rounds None at = ⊥
 IsPastAt bytes rounds (Some edges) at =
     (t : Tree) × Text bytes t × IsChecked t
-    × ((q : ℕ) × HasMoreEdges (sequential_for rounds t) q edges × (at ≡ name_at t q))
+    × ((q : ℕ) × HasMoreEdges (sequential_for rounds t) q edges × (at ≡ place_of_name t q))
 
 -- A check has workers: there is a limit, and the text has a rewriting that is not too wide.
 abbrev pub HasWorkers : List ℕ → ℕ → Option ℕ → Type 0
@@ -79,6 +79,6 @@ RefusalStands bytes rounds limit Spent = HasWorkers bytes rounds limit
 abbrev pub IsToldAs : Tree → ℕ → NoVerdict → Refusal → Type 0
 IsToldAs tree rounds cause.TooWide why = (wide : Option Wide) × IsFirstWideFor rounds tree wide × (why ≡ TooWide wide)
 IsToldAs tree rounds cause.Memory why = why ≡ Memory
-IsToldAs tree rounds (cause.EdgeLimit q) why = why ≡ EdgeLimit (name_at tree q)
+IsToldAs tree rounds (cause.EdgeLimit q) why = why ≡ EdgeLimit (place_of_name tree q)
 IsToldAs tree rounds cause.NoWorker why = why ≡ NoWorker
 IsToldAs tree rounds cause.Spent why = why ≡ Spent

@@ -7,7 +7,7 @@ ghost use Rattle.round_rewrite.specs.Programs.{count_of};
 ghost use Rattle.refusals.specs.Lines.{memory_line};
 ghost use Rattle.refusals.specs.declared.refusal.Refusal.TheVariants as why;
 ghost use Rattle.cli.specs.Counted.{HasEach, answer_line, answer_status, lines_behind};
-ghost use Rattle.cli.specs.Counts.{names_of};
+ghost use Rattle.cli.specs.Counts.{procedure_names};
 ghost use Rattle.cli.specs.Replies.{IsPastLimit, IsSequential, Refuses, RefusesFor, Replies};
 ghost use Rattle.cli.specs.Replies.{TellsRefusal, TellsOrLacks};
 ghost use Rattle.cli.specs.Verdict.{Answers};
@@ -70,10 +70,10 @@ fn reported<N: Allocator, H: Allocator, A: Allocator>(
     report: &Report<H, A>,
     stats: bool,
 ) -> Reply<A>
-    requires { HasEach (names_of (checked_tree program.now)) report.now }
+    requires { HasEach (procedure_names (checked_tree program.now)) report.now }
     ensures { (bytes_of result
         ≡ answer_line report.now.answer ++ lines_behind stats
-        (names_of (checked_tree program.now)) report.now)
+        (procedure_names (checked_tree program.now)) report.now)
         × (result.status ≡ answer_status report.now.answer) × (result.refusal ≡ None)
         ⊎ (stats ≡ true) × TellsRefusal why.Memory result }
 {
@@ -101,9 +101,9 @@ fn with_counts<N: Allocator, H: Allocator, A: Allocator>(
     program: &Checked<N>,
     report: &Report<H, A>,
 ) -> Result<String<A>, AllocError>
-    requires { HasEach (names_of (checked_tree program.now)) report.now }
+    requires { HasEach (procedure_names (checked_tree program.now)) report.now }
     ensures { IfOk result (λ s. string_bytes s
-        ≡ word.now ++ lines_behind true (names_of (checked_tree program.now)) report.now) }
+        ≡ word.now ++ lines_behind true (procedure_names (checked_tree program.now)) report.now) }
 {
     let mut lines = String::from_str(alloc, word)?;
     push_counts(

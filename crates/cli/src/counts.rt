@@ -3,7 +3,7 @@
 ghost use Rattle.std.specs.Prelude.{◌≡◌, ◌≤◌, ◌<◌, ◌++◌, OnOk, Some, length, slice_get};
 ghost use Rattle.std.specs.String.{string_bytes};
 ghost use Rattle.trees.specs.Trees.{tree_of};
-ghost use Rattle.cli.specs.Counts.{counts_line, counts_lines, names_of};
+ghost use Rattle.cli.specs.Counts.{counts_line, counts_lines, procedure_names};
 ghost use Rattle.cli.specs.Counted.{counted_each};
 
 use post_ledger::Mailbox;
@@ -13,8 +13,8 @@ use trees::Program;
 
 /// The name of a procedure of the rewriting.
 fn name_of<N: Allocator>(program: &Program<N>, number: u8) -> &str
-    requires { number < length (names_of (tree_of program.now)) }
-    ensures { slice_get (names_of (tree_of program.now)) number ≡ Some result.now }
+    requires { number < length (procedure_names (tree_of program.now)) }
+    ensures { slice_get (procedure_names (tree_of program.now)) number ≡ Some result.now }
 {
     if number == 0 {
         "main__"
@@ -49,11 +49,12 @@ pub(crate) fn push_counts<A: Allocator, N: Allocator, S: Allocator, H: Allocator
     summaries: &Summaries<S>,
     mailboxes: &[Mailbox<Due, H>],
 ) -> Result<(), AllocError>
-    requires all { length summaries.now.procedures ≡ length (names_of (tree_of program.now)) }
-    requires boxes { length mailboxes.now ≡ length (names_of (tree_of program.now)) }
-    requires few { length (names_of (tree_of program.now)) ≤ 32 }
+    requires all { length summaries.now.procedures
+        ≡ length (procedure_names (tree_of program.now)) }
+    requires boxes { length mailboxes.now ≡ length (procedure_names (tree_of program.now)) }
+    requires few { length (procedure_names (tree_of program.now)) ≤ 32 }
     ensures { OnOk result (string_bytes lines.new ≡ string_bytes lines.old
-        ++ counts_lines (names_of (tree_of program.now))
+        ++ counts_lines (procedure_names (tree_of program.now))
         (counted_each summaries.now.procedures mailboxes.now)) }
 {
     for number in 0..summaries.len() as u8 {

@@ -5,7 +5,7 @@ ghost use Rattle.syntax.specs.Text.{Text};
 ghost use Rattle.checked.specs.Programs.{checked_tree};
 ghost use Rattle.round_rewrite.specs.Programs.{count_of};
 ghost use Rattle.path_sets.specs.EdgeLimits.{most_of};
-ghost use Rattle.cli.specs.Refused.{IsToldAs, RefusalStands, name_at};
+ghost use Rattle.cli.specs.Refused.{IsToldAs, RefusalStands, place_of_name};
 ghost use Rattle.gather.specs.Reports.{IsReport};
 
 use gather::{CrewBoard, CrewSet, Report, check_rounds_with};
@@ -19,8 +19,8 @@ use std::thread::Threads;
 use summaries::{EdgeLimit, NoVerdict};
 
 /// Where the name of a procedure of the rewriting is in the text. That of the first, `main__`, is not in it.
-fn name_at<N: Allocator>(program: &Checked<N>, number: usize) -> Option<u32>
-    ensures { result ≡ name_at (checked_tree program.now) number }
+fn place_of_name<N: Allocator>(program: &Checked<N>, number: usize) -> Option<u32>
+    ensures { result ≡ place_of_name (checked_tree program.now) number }
 {
     if number == 0 {
         return None;
@@ -41,7 +41,7 @@ fn refusal_of<N: Allocator, A: Allocator + Copy>(
     match cause {
         NoVerdict::TooWide => Refusal::TooWide(too_wide(alloc, program, rounds)),
         NoVerdict::Memory => Refusal::Memory,
-        NoVerdict::EdgeLimit(number) => Refusal::EdgeLimit(name_at(program, number)),
+        NoVerdict::EdgeLimit(number) => Refusal::EdgeLimit(place_of_name(program, number)),
         NoVerdict::NoWorker => Refusal::NoWorker,
         NoVerdict::Spent => Refusal::Spent,
     }

@@ -54,10 +54,8 @@ where
     requires words { G.IsAlwaysCallable words }
     requires files { O.IsAlwaysCallable opener }
     ensures ends { ProgramEnds (G.post words) (λ v. map string_bytes v.items)
-        (FnOnceReturnsAt O.FnOnce opener) F.remaining
-        (streams (W.held writer.old) (L.held log.old))
-        (streams (W.held writer.new) (L.held log.new))
-        (exit_status result) }
+        (FnOnceReturnsAt O.FnOnce opener) F.remaining (streams (W.held writer.old) (L.held log.old))
+        (streams (W.held writer.new) (L.held log.new)) (exit_status result) }
     ensures answers { exit_status result ≤ 1
         → EndsAnswered (G.post words) (λ v. map string_bytes v.items)
         (FnOnceReturnsAt O.FnOnce opener) F.remaining (streams (W.held writer.old) (L.held log.old))

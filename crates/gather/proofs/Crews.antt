@@ -27,13 +27,13 @@ use Rattle.procedure_worker.proofs.Works.{new_fresh}
 use Rattle.procedure_worker.specs.declared.memory.OutOfMemory.{OutOfMemory}
 use Rattle.gather.specs.declared.finding.Finding.{Finding}
 use Rattle.gather.specs.declared.finding.Finding.TheVariants as finding
-use Rattle.gather.specs.Findings.{end_of, IsLeftOf}
+use Rattle.gather.specs.Findings.{finding_end, IsLeftOf}
 use Rattle.gather.specs.declared.lane.Lane.{Lane}
 use Rattle.gather.specs.Ends.{LaneEnds, HaveEnded, HaveLeft, HasWorked, WasDeclined, HaveReturned, IsCrew}
 use Rattle.jobs.specs.declared.jobs.JobResult.{JobResult}
 use Rattle.jobs.specs.declared.jobs.JobResult.TheVariants.{Run, Declined}
 use Rattle.jobs.specs.Jobs.{first_of, second_of, IsResultOf, AreResults}
-use Rattle.gather.specs.Lanes.{start_of, MayWork, RunsSo, DeclinesSo, AreOwn, AreLanes}
+use Rattle.gather.specs.Lanes.{lane_start, MayWork, RunsSo, DeclinesSo, AreOwn, AreLanes}
 use Rattle.gather.proofs.Full.{got_map}
 
 -- a pass of a new board
@@ -96,14 +96,14 @@ module _ {R G A S B K P : Type 0} (identity : B → TableId) (sight : P → Sigh
     (limit : EdgeLimit) (board : TableId) where
   -- one more lane
   pub own_push : (old new : List (Lane R P G A B S K)) (l : Lane R P G A B S K) (n : ℕ) → new ≡ old ++ l ∷ []
-      → length old ≡ n → start_of identity sight l ≡ begun graphs n limit board → MayWork identity sight l
+      → length old ≡ n → lane_start identity sight l ≡ begun graphs n limit board → MayWork identity sight l
       → AreOwn identity sight graphs limit board old → AreOwn identity sight graphs limit board new
   own_push old new l n is many starts may own q x at =
       elim (at_push_cases old l x q (subst (λ z. slice_get z q ≡ Some x) is at)) [
         | inl before ↦ own q x before
         | inr last ↦
-            subst (λ z. (start_of identity sight z ≡ begun graphs q limit board) × MayWork identity sight z) last.1
-            (subst (λ k. start_of identity sight l ≡ begun graphs k limit board) (sym many ∙ sym last.0) starts, may)
+            subst (λ z. (lane_start identity sight z ≡ begun graphs q limit board) × MayWork identity sight z) last.1
+            (subst (λ k. lane_start identity sight l ≡ begun graphs k limit board) (sym many ∙ sym last.0) starts, may)
       ]
 
   -- each lane has returned what the lane of its procedure returns
@@ -154,7 +154,7 @@ module _ {G A S P : Type 0} (members : S → List Triple) (sight : P → Sight D
       → (o : Outcome G A S) × (LaneEnds members b (sight (first_of c)) o × IsLeftOf o (second_of c))
   came_end b n (Run r) come = (come.0, (inl come.1, come.2))
   came_end b n (Declined r none) come = (
-    record { table = None; end = end_of r.1; out_of_memory = lack_in r.1 },
+    record { table = None; end = finding_end r.1; out_of_memory = lack_in r.1 },
     (
       inr come.0,
       record { ended = refl; out_of_memory = λ c l is. ap lack_in is; found = λ t s there is. absurd (none-some t there) },

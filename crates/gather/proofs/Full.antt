@@ -42,7 +42,7 @@ use Rattle.switchboard.specs.Promises.{Settles}
 use Rattle.procedure_worker.specs.declared.outcome.End.{End}
 use Rattle.procedure_worker.specs.declared.outcome.End.TheVariants.{Closed, Aborted, Failed}
 use Rattle.procedure_worker.specs.declared.outcome.Outcome.{Outcome}
-use Rattle.procedure_worker.specs.Own.{taken_in, posted_in}
+use Rattle.procedure_worker.specs.Own.{messages_taken, posted_in}
 use Rattle.procedure_worker.specs.Works.{Start, begun, mails_of, EndsSo, HasServed}
 use Rattle.gather.specs.Ends.{HaveEnded}
 use Rattle.gather.specs.Gathered.{NoneFailed, AllClosed}
@@ -235,8 +235,8 @@ module _ {G A S : Type 0} where
             let (o, is) = outcome_at to near in
             let v = served to o is in
             let g = v.served.0.0 in
-            let mine : Member m (taken_in (own to v.pass.seen.order)) =
-            subst (λ l. Member m (taken_in l)) (settled.own to v.pass v.at) (take_own to order (s, m) taken) in
+            let mine : Member m (messages_taken (own to v.pass.seen.order)) =
+            subst (λ l. Member m (messages_taken l)) (settled.own to v.pass v.at) (take_own to order (s, m) taken) in
             let took : Member m v.took = subst (Member m) g.stands.takes mine in
             subst (λ z. IsTaken z k) (sym (table_at outcomes has_tables to o v.table is v.is))
             (g.all k (subst (λ d. Member d v.took) (sym same) took))

@@ -10,7 +10,7 @@ use Rattle.post_ledger.specs.declared.entry.Entry.TheVariants.{Posted, Taken, Co
 use Rattle.post_ledger.specs.History.{posts, takes}
 use Rattle.post_ledger.specs.Orders.{mailbox_of, event_of, maker_of, part, own}
 use Rattle.post_ledger.proofs.Orders.{part_here, part_else, own_here, own_else}
-use Rattle.procedure_worker.specs.Own.{taken_in, posted_in}
+use Rattle.procedure_worker.specs.Own.{messages_taken, posted_in}
 
 -- what is at a place is a member
 pub member_at : {X : Type 0} (xs : List X) (i : ℕ) (x : X) → slice_get xs i ≡ Some x → Member x xs
@@ -111,7 +111,7 @@ module _ {M : Type 0} where
     | inr other ↦ inr (take_there q es x (subst (λ l. Member x (takes l)) (part_else q e es other) h))
   ]
 
-  taken_there : (es : List (Entry M)) (q s : ℕ) (m : M) → Member (Taken q s m) es → Member m (taken_in es)
+  taken_there : (es : List (Entry M)) (q s : ℕ) (m : M) → Member (Taken q s m) es → Member m (messages_taken es)
   taken_there [] q s m h = absurd h
   taken_there (Posted to s' m' t ∷ es) q s m (inl is) = let no : ⊥ = cc in absurd no
   taken_there (Posted to s' m' t ∷ es) q s m (inr h) = taken_there es q s m h
@@ -126,6 +126,6 @@ module _ {M : Type 0} where
   taken_there (Completed of t ∷ es) q s m (inr h) = taken_there es q s m h
 
   -- what was taken from a mailbox its pass took
-  pub take_own : (q : ℕ) (es : List (Entry M)) (x : ℕ × M) → Member x (takes (part q es)) → Member x.1 (taken_in (own q es))
+  pub take_own : (q : ℕ) (es : List (Entry M)) (x : ℕ × M) → Member x (takes (part q es)) → Member x.1 (messages_taken (own q es))
   take_own q es x h =
       let e : Entry M = Taken q x.0 x.1 in taken_there (own q es) q x.0 x.1 (in_own es e (take_there q es x h))

@@ -37,7 +37,7 @@ use Rattle.summaries.proofs.TabulationLemmas.{table_due}
 use Rattle.switchboard.specs.Sights.{Sight}
 use Rattle.switchboard.specs.Promises.{Settles}
 use Rattle.procedure_worker.specs.declared.outcome.Outcome.{Outcome}
-use Rattle.procedure_worker.specs.Own.{taken_in, posted_in}
+use Rattle.procedure_worker.specs.Own.{messages_taken, posted_in}
 use Rattle.gather.specs.Ends.{HaveEnded}
 use Rattle.gather.specs.Gathered.{NoneFailed}
 use Rattle.gather.specs.Reports.{posted_to, sender_of, AreDueOnce}
@@ -186,8 +186,8 @@ module _ {G A S : Type 0} (members : S → List Triple) (graphs : Graphs G) (lim
         let at = table_at outcomes tables q o v.table here v.is in
         let took = (table_due members p all whole.0 whole.1 q v.table at k).1 due in
         let stands = v.served.0.0.stands in
-        let mine : Member (due_of k) (taken_in (own q settled.order)) =
-        subst (λ l. Member (due_of k) (taken_in l)) (sym (settled.own q v.pass v.at))
+        let mine : Member (due_of k) (messages_taken (own q settled.order)) =
+        subst (λ l. Member (due_of k) (messages_taken l)) (sym (settled.own q v.pass v.at))
         (subst (Member (due_of k)) (sym stands.takes) (stands.only k took)) in
         let (s, taken) = taken_part q settled.order (due_of k) mine in
         let same = all_taken (part q settled.order) (settled.lawful.legal q)

@@ -10,7 +10,7 @@ use Rattle.post_ledger.specs.declared.entry.Entry.TheVariants.{Posted, Taken, Co
 use Rattle.post_ledger.specs.History.{posts, takes}
 use Rattle.post_ledger.specs.Orders.{mailbox_of, event_of, maker_of, part, own}
 use Rattle.post_ledger.proofs.Orders.{part_here, part_else, own_here, own_else}
-use Rattle.procedure_worker.specs.Own.{taken_in, posted_in}
+use Rattle.procedure_worker.specs.Own.{messages_taken, posted_in}
 use Rattle.gather.specs.Reports.{posted_to}
 use Rattle.gather.proofs.Lists.{in_own, in_part, own_member}
 
@@ -104,7 +104,7 @@ module _ {M : Type 0} where
       ]
 
   -- the entry of a message that was taken
-  taken_back : (es : List (Entry M)) (m : M) → Member m (taken_in es) → (q : ℕ) × (s : ℕ) × Member (Taken q s m) es
+  taken_back : (es : List (Entry M)) (m : M) → Member m (messages_taken es) → (q : ℕ) × (s : ℕ) × Member (Taken q s m) es
   taken_back [] m h = absurd h
   taken_back (Posted a b c u ∷ es) m h = let (q, s, there) = taken_back es m h in (q, s, inr there)
   taken_back (Taken a b c ∷ es) m (inl is) = (a, b, inl (λ i. Taken a b (is i)))
@@ -126,7 +126,7 @@ module _ {M : Type 0} where
   takes_there (event.Done t ∷ h) s m (inr there) = takes_there h s m there
 
   -- what a pass took is among the Takes of its mailbox
-  pub taken_part : (q : ℕ) (es : List (Entry M)) (m : M) → Member m (taken_in (own q es))
+  pub taken_part : (q : ℕ) (es : List (Entry M)) (m : M) → Member m (messages_taken (own q es))
       → (s : ℕ) × Member (s, m) (takes (part q es))
   taken_part q es m h =
       let (of, s, mine) = taken_back (own q es) m h in

@@ -22,34 +22,34 @@ use Rattle.switchboard.specs.declared.calls.Cause.{Cause}
 use Rattle.procedure_worker.specs.declared.memory.OutOfMemory.{OutOfMemory}
 use Rattle.gather.specs.declared.finding.Finding.{Finding}
 use Rattle.gather.specs.declared.finding.Finding.TheVariants as finding
-use Rattle.gather.specs.Findings.{closed_with, end_of, ends_in, AreLeftOf}
+use Rattle.gather.specs.Findings.{closed_with, finding_end, ends_in, AreLeftOf}
 use Rattle.gather.specs.Ends.{AreOfBoard}
 use Rattle.gather.specs.Gathered.{NoneFailed, AllClosed, AreRead}
 use Rattle.gather.proofs.Full.{ends_of, outcome_of, tables_all, ts, served, all_closed, shut, full, limits}
 
 module _ {A : Type 0} where
-  ends_more : (fs : List (Finding A)) (f : Finding A) → ends_in (fs ++ f ∷ []) ≡ ends_in fs ++ end_of f ∷ []
-  ends_more fs f = map-append end_of fs (f ∷ [])
+  ends_more : (fs : List (Finding A)) (f : Finding A) → ends_in (fs ++ f ∷ []) ≡ ends_in fs ++ finding_end f ∷ []
+  ends_more fs f = map-append finding_end fs (f ∷ [])
 
   -- one more lane, whose table was read off
   pub read_more : (fs : List (Finding A)) (ss : List Effect) (f : Finding A) (s : Effect) → f ≡ closed_with s → AreRead fs ss
       → AreRead (fs ++ f ∷ []) (ss ++ s ∷ [])
   read_more fs ss f s is read all =
       let front : AllClosed (ends_in fs) = λ e there.
-      all e (subst (Member e) (sym (ends_more fs f)) (member_left e (ends_in fs) (end_of f ∷ []) there)) in
+      all e (subst (Member e) (sym (ends_more fs f)) (member_left e (ends_in fs) (finding_end f ∷ []) there)) in
       (λ i. read front i ++ is i ∷ []) ∙ sym (map-append closed_with ss (s ∷ []))
 
   -- one more lane that did not end at the close: so not every worker did
-  pub read_other : (fs : List (Finding A)) (ss : List Effect) (f : Finding A) → (end_of f ≡ end.Closed → ⊥)
+  pub read_other : (fs : List (Finding A)) (ss : List Effect) (f : Finding A) → (finding_end f ≡ end.Closed → ⊥)
       → AreRead (fs ++ f ∷ []) ss
-  read_other fs ss f other all = absurd (other (all (end_of f)
-      (subst (Member (end_of f)) (sym (ends_more fs f)) (member_right (end_of f) (ends_in fs) (end_of f ∷ []) (inl refl)))))
+  read_other fs ss f other all = absurd (other (all (finding_end f)
+      (subst (Member (finding_end f)) (sym (ends_more fs f)) (member_right (finding_end f) (ends_in fs) (finding_end f ∷ []) (inl refl)))))
 
   -- a lane that was aborted or has failed did not end at the close
   pub not_closed : (f : Finding A)
-      → (f ≡ finding.Aborted) ⊎ ((c : Cause) × (l : Option OutOfMemory) × (f ≡ finding.Failed c l)) → end_of f ≡ end.Closed → ⊥
-  not_closed f (inl is) same = let now : end.Aborted ≡ end.Closed = sym (ap end_of is) ∙ same in cc
-  not_closed f (inr (c, l, is)) same = let now : end.Failed c ≡ end.Closed = sym (ap end_of is) ∙ same in cc
+      → (f ≡ finding.Aborted) ⊎ ((c : Cause) × (l : Option OutOfMemory) × (f ≡ finding.Failed c l)) → finding_end f ≡ end.Closed → ⊥
+  not_closed f (inl is) same = let now : end.Aborted ≡ end.Closed = sym (ap finding_end is) ∙ same in cc
+  not_closed f (inr (c, l, is)) same = let now : end.Failed c ≡ end.Closed = sym (ap finding_end is) ∙ same in cc
 
 module _ {G A S : Type 0} where
   -- the findings say how the workers ended

@@ -22,7 +22,7 @@ use Rattle.procedure_worker.specs.Works.{Start, begun, IsPassOf, IsFresh, HasEnd
 use Rattle.jobs.specs.declared.jobs.JobResult.{JobResult}
 use Rattle.jobs.specs.Jobs.{IsResultOf, IsDeclined}
 use Rattle.gather.specs.declared.finding.Finding.{Finding}
-use Rattle.gather.specs.Findings.{end_of, IsLeftOf, AreLeftOf}
+use Rattle.gather.specs.Findings.{finding_end, IsLeftOf, AreLeftOf}
 
 -- The lane had no thread, and ended so: its pass made no event, and aborted the board for that cause, unless another
 -- pass aborted it before.
@@ -76,7 +76,7 @@ module _ {GraphAlloc Alloc S P : Type 0} (members : S → List Triple) (sight : 
 
   -- a lane that was declined returned its pass, and that it had no thread
   abbrev pub WasDeclined : Start GraphAlloc → P × Finding Alloc → Type 0
-  WasDeclined b r = HadNoThread b (sight r.0) (end_of r.1)
+  WasDeclined b r = HadNoThread b (sight r.0) (finding_end r.1)
 
   -- What the lanes of all procedures returned, by number. A lane that ran has worked. For a lane that was declined
   -- there is evidence that its start was refused, or that of a lane before it; after such a lane all were declined.
@@ -87,6 +87,10 @@ module _ {GraphAlloc Alloc S P : Type 0} (members : S → List Triple) (sight : 
         → IsResultOf (HasWorked (begun graphs procedure limit board)) (WasDeclined (begun graphs procedure limit board)) procedure result
     pub behind : (index later : ℕ) (result later_result : JobResult (P × Finding Alloc)) → index ≤ later → slice_get results index ≡ Some result → slice_get results later ≡ Some later_result
         → IsDeclined result → IsDeclined later_result
+
+-- The graphs are those of some program, which has a procedure.
+abbrev pub AreOfProgram : {GraphAlloc : Type 0} → Graphs GraphAlloc → Type 0
+AreOfProgram graphs = ((program : Program) × AreDrawnFrom program (graphs_of graphs)) × (1 ≤ length (graphs_of graphs))
 
 -- The graphs are some program's, and the passes are those of all its procedures, by number, as given by a board that
 -- the starter's message opened.

@@ -17,20 +17,20 @@ module _ {Alloc : Type 0} where
   closed_with s = Closed s
 
   -- how a lane ended
-  abbrev pub end_of : Finding Alloc → End
-  end_of (Closed s) = end.Closed
-  end_of (Unread error) = end.Closed
-  end_of Aborted = end.Aborted
-  end_of (Failed c out_of_memory) = end.Failed c
+  abbrev pub finding_end : Finding Alloc → End
+  finding_end (Closed s) = end.Closed
+  finding_end (Unread error) = end.Closed
+  finding_end Aborted = end.Aborted
+  finding_end (Failed c out_of_memory) = end.Failed c
 
   -- how the lanes ended
   abbrev pub ends_in : List (Finding Alloc) → List End
-  ends_in findings = map end_of findings
+  ends_in findings = map finding_end findings
 
 -- The finding is what is left of a worker's outcome: how the worker ended, the evidence with which it failed, and what
 -- was read off its table.
 pub record IsLeftOf {GraphAlloc Alloc S : Type 0} (outcome : Outcome GraphAlloc Alloc S) (finding : Finding Alloc) : Type 0 where
-  pub ended : outcome.end ≡ end_of finding
+  pub ended : outcome.end ≡ finding_end finding
   pub out_of_memory : (cause_now : Cause) (evidence : Option OutOfMemory) → finding ≡ Failed cause_now evidence → outcome.out_of_memory ≡ evidence
   pub found : (t : Table GraphAlloc Alloc S) (effect : Effect) → outcome.table ≡ Some t → finding ≡ Closed effect → IsReadOff t.found effect
 

@@ -1,7 +1,7 @@
 //! What a lane leaves beside its pass.
 ghost use Rattle.std.specs.Prelude.{◌≡◌, Some};
 ghost use Rattle.summaries.specs.declared.table.Table.{Table};
-ghost use Rattle.gather.specs.Findings.{end_of, IsLeftOf};
+ghost use Rattle.gather.specs.Findings.{finding_end, IsLeftOf};
 
 use path_sets::PathSet;
 use procedure_worker::{End, OutOfMemory, Outcome};
@@ -25,7 +25,7 @@ pub enum Finding<A: Allocator> {
 impl<A: Allocator> Finding<A> {
     /// How the lane ended.
     pub fn end(&self) -> End
-        ensures { result ≡ end_of self.now }
+        ensures { result ≡ finding_end self.now }
     {
         match self {
             Finding::Closed(_) | Finding::Unread(_) => End::Closed,

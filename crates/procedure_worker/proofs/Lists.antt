@@ -3,10 +3,10 @@ use Rattle.std.proofs.Common.{◌≡◌, ◌∷◌, ◌++◌, [], ℕ, List, ref
 use Rattle.std.proofs.lemmas.List.{append-nil}
 use Rattle.post_ledger.specs.declared.entry.Entry.{Entry}
 use Rattle.post_ledger.specs.declared.entry.Entry.TheVariants.{Posted, Taken, Completed}
-use Rattle.procedure_worker.specs.Own.{taken_in, posted_in}
+use Rattle.procedure_worker.specs.Own.{messages_taken, posted_in}
 
 module _ {M : Type 0} where
-  taken-append : (a b : List (Entry M)) → taken_in (a ++ b) ≡ taken_in a ++ taken_in b
+  taken-append : (a b : List (Entry M)) → messages_taken (a ++ b) ≡ messages_taken a ++ messages_taken b
   taken-append [] b = refl
   taken-append (Posted to s m t ∷ a) b = taken-append a b
   taken-append (Taken of s m ∷ a) b = ap (λ l. m ∷ l) (taken-append a b)
@@ -20,15 +20,15 @@ module _ {M : Type 0} where
 
   -- one more event
   pub taken_post : (l a : List (Entry M)) (to s : ℕ) (m : M) (t : ℕ) → a ≡ l ++ Posted to s m t ∷ []
-      → taken_in a ≡ taken_in l
-  taken_post l a to s m t is = ap taken_in is ∙ (taken-append l (Posted to s m t ∷ []) ∙ append-nil (taken_in l))
+      → messages_taken a ≡ messages_taken l
+  taken_post l a to s m t is = ap messages_taken is ∙ (taken-append l (Posted to s m t ∷ []) ∙ append-nil (messages_taken l))
 
   pub taken_take : (l a : List (Entry M)) (of s : ℕ) (m : M) → a ≡ l ++ Taken of s m ∷ []
-      → taken_in a ≡ taken_in l ++ m ∷ []
-  taken_take l a of s m is = ap taken_in is ∙ taken-append l (Taken of s m ∷ [])
+      → messages_taken a ≡ messages_taken l ++ m ∷ []
+  taken_take l a of s m is = ap messages_taken is ∙ taken-append l (Taken of s m ∷ [])
 
-  pub taken_done : (l a : List (Entry M)) (of t : ℕ) → a ≡ l ++ Completed of t ∷ [] → taken_in a ≡ taken_in l
-  taken_done l a of t is = ap taken_in is ∙ (taken-append l (Completed of t ∷ []) ∙ append-nil (taken_in l))
+  pub taken_done : (l a : List (Entry M)) (of t : ℕ) → a ≡ l ++ Completed of t ∷ [] → messages_taken a ≡ messages_taken l
+  taken_done l a of t is = ap messages_taken is ∙ (taken-append l (Completed of t ∷ []) ∙ append-nil (messages_taken l))
 
   pub posted_post : (l a : List (Entry M)) (to s : ℕ) (m : M) (t : ℕ) → a ≡ l ++ Posted to s m t ∷ [] →
       posted_in a ≡ posted_in l ++ (to, m) ∷ []

@@ -48,7 +48,7 @@ use Rattle.procedure_worker.specs.declared.outcome.End.TheVariants as end
 use Rattle.procedure_worker.specs.declared.stop.Reason.{Reason}
 use Rattle.procedure_worker.specs.declared.stop.Reason.TheVariants as reason
 use Rattle.procedure_worker.specs.declared.worker.Worker.{Worker}
-use Rattle.procedure_worker.specs.Own.{taken_in, posted_in}
+use Rattle.procedure_worker.specs.Own.{messages_taken, posted_in}
 use Rattle.procedure_worker.specs.Stops.{StopReason, WorkerEnd, cause_of, end_of, memory_of, end_at, RefusedFor, FailsFor, TakesOrFails}
 use Rattle.procedure_worker.specs.Works.{Start, IsPassOf, IsFresh, HasStood, HasFailed, Stands, Goes, HasSent, EndsSo, IsReady, IsTaking}
 use Rattle.procedure_worker.specs.Works.{IsDealing, IsSending, IsStopped, HasStopped, Failed, Completes, StopsSo, StoppedFor, IsAtFault}
@@ -165,7 +165,7 @@ module _ {G : Type 0} (b : Start G) where
       table = k.table;
       limit = k.limit;
       only = k.only;
-      takes = ap taken_in same ∙ k.takes;
+      takes = ap messages_taken same ∙ k.takes;
       posts = ap posted_in same ∙ k.posts;
     }
 
@@ -589,7 +589,7 @@ module _ {G : Type 0} (b : Start G) where
               };
               limit = limit;
               only = λ i h. absurd (new.nothing i h);
-              takes = ap taken_in fresh.none;
+              takes = ap messages_taken fresh.none;
               posts = ap posted_in fresh.none;
             };
             made = fresh.made;
@@ -610,8 +610,8 @@ took_still (Some e) a b c first then = tt
 module _ {G : Type 0} where
   -- what a pass took, by its own list at a number that stays
   took_on : (s t : Sight Due (Graphs G)) (l : List Due) → t.number ≡ s.number
-      → taken_in (own s.number t.seen.order) ≡ l → took_by t ≡ l
-  took_on s t l same is = ap (λ n. taken_in (own n t.seen.order)) same ∙ is
+      → messages_taken (own s.number t.seen.order) ≡ l → took_by t ≡ l
+  took_on s t l same is = ap (λ n. messages_taken (own n t.seen.order)) same ∙ is
 
   -- a post takes no message
   pub took_posted : (job to : ℕ) (d : Due) (s t : Sight Due (Graphs G)) → WasPosted FitsIn job to d s t → took_by t ≡ took_by s

@@ -5,11 +5,11 @@ use Rattle.post_ledger.specs.declared.entry.Entry.TheVariants.{Posted, Taken, Co
 
 module _ {M : Type 0} where
   -- the messages of the Takes, in order
-  abbrev pub taken_in : List (Entry M) → List M
-  taken_in [] = []
-  taken_in (Posted to s m t ∷ es) = taken_in es
-  taken_in (Taken of s m ∷ es) = m ∷ taken_in es
-  taken_in (Completed of t ∷ es) = taken_in es
+  abbrev pub messages_taken : List (Entry M) → List M
+  messages_taken [] = []
+  messages_taken (Posted to s m t ∷ es) = messages_taken es
+  messages_taken (Taken of s m ∷ es) = m ∷ messages_taken es
+  messages_taken (Completed of t ∷ es) = messages_taken es
 
   -- the messages of the Posts, each with its mailbox, in order
   abbrev pub posted_in : List (Entry M) → List (ℕ × M)

@@ -1,6 +1,6 @@
 -- What a worker knows while it works, and what it returns.
 use Rattle.std.specs.Prelude.{◌≡◌, ◌≢◌, ◌⊎◌, ◌↔◌, ◌<◌, ◌++◌, ◌∷◌, ℕ, Bool, true, false, IsSome, List, [], Option}
-use Rattle.std.specs.Prelude.{Some, None, Err, length, map}
+use Rattle.std.specs.Prelude.{Some, None, Result, Err, MatchResult, length, map}
 use Rattle.std.specs.Bool.{OnFalse}
 use Rattle.atomic_table.specs.Seated.{TableId}
 use Rattle.post_ledger.specs.Orders.{own, HasJob, IsClosed}
@@ -41,7 +41,7 @@ use Rattle.procedure_worker.specs.declared.memory.OutOfMemory.{OutOfMemory}
 use Rattle.procedure_worker.specs.declared.stop.Reason.{Reason}
 use Rattle.procedure_worker.specs.declared.stop.Reason.TheVariants as reason
 use Rattle.procedure_worker.specs.declared.worker.Worker.{Worker}
-use Rattle.procedure_worker.specs.Own.{taken_in, posted_in}
+use Rattle.procedure_worker.specs.Own.{messages_taken, posted_in}
 use Rattle.procedure_worker.specs.Stops.{StopReason, WorkerEnd, cause_of, end_of, end_at}
 
 -- What a worker begins with: the flow graphs, the number of its procedure, how many path edges its table may keep, and
@@ -110,7 +110,7 @@ pub record FoundNone {GraphAlloc : Type 0} (sight later : Sight Due (Graphs Grap
 
 -- the messages that a pass took, in order
 abbrev pub took_by : {GraphAlloc : Type 0} → Sight Due (Graphs GraphAlloc) → List Due
-took_by s = taken_in (own s.number s.seen.order)
+took_by s = messages_taken (own s.number s.seen.order)
 
 -- A worker continues only if it took one more message, or found none yet.
 abbrev pub MayGoOn : {GraphAlloc : Type 0} → Sight Due (Graphs GraphAlloc) → Sight Due (Graphs GraphAlloc) → Type 0
@@ -175,7 +175,7 @@ module _ {GraphAlloc : Type 0} (b : Start GraphAlloc) where
       pub table : (program : Program) → AreDrawnFrom program (graphs_of b.graphs) → IsTableOf members program b.number t
       pub limit : limit_of t ≡ b.limit
       pub only : (numbered : NumberedMessage) → TookMessage t.found numbered → Member (due_of numbered) took
-      pub takes : taken_in (own b.number sight.seen.order) ≡ took
+      pub takes : messages_taken (own b.number sight.seen.order) ≡ took
       pub posts : posted_in (own b.number sight.seen.order) ≡ sent
 
     -- It has made no abort, and its table has not failed and has taken all that the pass took.
@@ -256,6 +256,11 @@ module _ {GraphAlloc : Type 0} (b : Start GraphAlloc) where
         pub has : HasJob b.number job sight.seen.order
         pub reason : StoppedFor why sight
         pub fault : IsAtFault (end_at why) worker.table
+
+      -- The worker has a job, and has posted all that its table answered; or it stops, for the reason returned.
+      abbrev pub DealsOrStops : ℕ → Result (Unit {0}) StopReason → Sight Due (Graphs GraphAlloc) → Worker P GraphAlloc Alloc S → Type 0
+      DealsOrStops job answer sight worker =
+          MatchResult answer (λ _. IsDealing job sight worker) (λ why. IsStopped job why sight worker)
 
       -- The worker has ended, for its table's fault if that has failed.
       abbrev pub HasStopped : WorkerEnd → Sight Due (Graphs GraphAlloc) → Worker P GraphAlloc Alloc S → Type 0

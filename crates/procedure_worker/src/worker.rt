@@ -5,7 +5,7 @@ ghost use Rattle.post_ledger.specs.Orders.{HasJob};
 ghost use Rattle.summaries.specs.Fitting.{FitsIn};
 ghost use Rattle.procedure_worker.specs.Works.{start_of, IsReady, IsTaking, IsDealing, IsSending};
 ghost use Rattle.procedure_worker.specs.Works.{IsStopped, Failed, Completes, StopsSo, took_by};
-ghost use Rattle.procedure_worker.specs.Works.{HasAnswered, HasDealt, HasTurned};
+ghost use Rattle.procedure_worker.specs.Works.{DealsOrStops, HasAnswered, HasDealt, HasTurned};
 
 use crate::desk::Desk;
 use crate::gate::Gate;
@@ -95,13 +95,8 @@ impl<'g, P, G: Allocator, A: Allocator, S: PathSet<A>> Worker<'g, P, G, A, S> {
     ) -> Result<(), Stop>
         requires { IsSending (start_of B.identity desk.now) S.members job.now to due
             (B.sight self.old.pass) self.old }
-        ensures done { MatchResult result
-            (λ _.
-            IsDealing (start_of B.identity desk.now) S.members job.now
-            (B.sight self.new.pass) self.new)
-            (λ why.
-            IsStopped (start_of B.identity desk.now) S.members job.now why
-            (B.sight self.new.pass) self.new) }
+        ensures done { DealsOrStops (start_of B.identity desk.now) S.members job.now result
+            (B.sight self.new.pass) self.new }
         ensures takes { OnOk result
             (took_by (B.sight self.new.pass) ≡ took_by (B.sight self.old.pass)) }
     {

@@ -3,7 +3,7 @@ use Rattle.std.proofs.Common.{◌≡◌, ◌∙◌, ◌<◌, ◌-◌, Some, suc,
 use Rattle.std.proofs.lemmas.List.{length-map}
 use Rattle.language.specs.Tree.{Procedure}
 use Rattle.trees.specs.Trees.{proc_of, tree_of}
-use Rattle.cli.specs.Counts.{names_of}
+use Rattle.cli.specs.Counts.{procedure_names}
 use Rattle.cli.proofs.Counting.{named_at}
 use Rattle.cli.proofs.counts.name_of.Goals as goal
 
@@ -16,5 +16,5 @@ returns-else-number-eq0 g c =
     let not_first = c.if-number-eq0.false in
     let lt : i < length ps = omega (arith, within, many, not_first) in
     let next : suc i ≡ c.args.number = omega (arith, not_first) in
-    subst (λ n. slice_get (names_of (tree_of c.args.program.now)) n ≡ Some c.as_str.result.now) next
+    subst (λ n. slice_get (procedure_names (tree_of c.args.program.now)) n ≡ Some c.as_str.result.now) next
     (named_at ps i c.index.result.now lt c.index.ensures ∙ ap Some (sym c.as_str.ensures.value))

@@ -3,13 +3,13 @@ use Rattle.std.proofs.Common.{◌∙◌, ◌<◌, ◌≤◌, arith, length, refl
 use Rattle.std.proofs.lemmas.Option.{slice_get_read}
 use Rattle.std.specs.String.{string_bytes}
 use Rattle.trees.specs.Trees.{tree_of}
-use Rattle.cli.specs.Counts.{names_of}
+use Rattle.cli.specs.Counts.{procedure_names}
 use Rattle.cli.proofs.Counting.{all_written, line_pushed, there}
 use Rattle.cli.proofs.counts.push_counts.Goals as goal
 
 pub loop-number-preserved : goal.loop-number-preserved
 loop-number-preserved g c =
-    let names = names_of (tree_of c.args.program.now) in
+    let names = procedure_names (tree_of c.args.program.now) in
     let ss = c.args.summaries.now.procedures in
     let hs = c.args.mailboxes.now in
     let k = c.loop-number.number in
@@ -33,7 +33,7 @@ returns g c =
     let len = c.len-number-end.ensures in
     let all = c.requires.all in
     let boxes = c.requires.boxes in
-    let names = names_of (tree_of c.args.program.now) in
+    let names = procedure_names (tree_of c.args.program.now) in
     let ss = c.args.summaries.now.procedures in
     let hs = c.args.mailboxes.now in
     let past_names : length names ≤ c.loop-number.number = omega (arith, past, len, all) in

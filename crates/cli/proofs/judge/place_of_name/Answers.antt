@@ -5,15 +5,15 @@ use Rattle.language.specs.Tree.{Procedure}
 use Rattle.trees.specs.Trees.{proc_of, tree_of}
 use Rattle.trees.specs.declared.tree.Proc.{Proc}
 use Rattle.trees.specs.declared.tree.Program.{Program}
-use Rattle.cli.specs.Refused.{name_at}
-use Rattle.cli.proofs.judge.name_at.Goals as goal
+use Rattle.cli.specs.Refused.{place_of_name}
+use Rattle.cli.proofs.judge.place_of_name.Goals as goal
 
 named : {A : Type 0} (p : Program A) (k n : ℕ) (x : Proc A) → suc k ≡ n → slice_get p.procs.items k ≡ Some x
-    → Some x.name.at ≡ name_at (tree_of p) n
+    → Some x.name.at ≡ place_of_name (tree_of p) n
 named p k n x next is =
     let at = option_map (λ (q : Procedure). q.name.at) in
     let found = ap at (slice_get-map proc_of p.procs.items k ∙ ap (option_map proc_of) is) in
-    subst (λ m. Some x.name.at ≡ name_at (tree_of p) m) next (sym found)
+    subst (λ m. Some x.name.at ≡ place_of_name (tree_of p) m) next (sym found)
 
 pub returns : goal.returns
 returns g c =

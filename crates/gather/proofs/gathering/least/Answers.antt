@@ -3,7 +3,7 @@ use Rattle.std.proofs.Common.{◌≡◌, ◌+◌, ◌++◌, ◌<◌, ◌≤◌, 
 use Rattle.std.proofs.lemmas.Option.{slice_get-get_or}
 use Rattle.std.proofs.lemmas.List.{length-map, map-append}
 use Rattle.post_ledger.proofs.Histories.{split_at_element}
-use Rattle.gather.specs.Findings.{end_of, ends_in}
+use Rattle.gather.specs.Findings.{finding_end, ends_in}
 use Rattle.gather.specs.Gathered.{IsLeastOf}
 use Rattle.gather.proofs.Causes.{none_least}
 use Rattle.jobs.proofs.ResultLemmas.{take_whole}
@@ -27,7 +27,7 @@ loop-procedure-preserved g c =
     subst (λ l. IsLeastOf l c.least_with-least.result)
     (sym (ap ends_in next ∙ map-append _ (take i all) (item ∷ [])))
     (subst (λ e. IsLeastOf (ends_in (take i all) ++ e ∷ []) c.least_with-least.result)
-    (c.end.ensures ∙ ap end_of c.index-findings-procedure.is)
+    (c.end.ensures ∙ ap finding_end c.index-findings-procedure.is)
     (c.least_with-least.ensures (ends_in (take i all)) count c.loop-procedure.invariant))
 
 pub returns : goal.returns
