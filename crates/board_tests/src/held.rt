@@ -33,8 +33,8 @@ fn raised(flag: &AtomicBool, turns: u32) -> bool {
     false
 }
 
-// What the two threads tell each other: that the first is inside, how often it came there, that the second's post has returned, and
-// whether that was while the first was inside.
+// What the two threads tell each other: that the first is inside, how often it came there, that the second's post has
+// returned, and whether that was while the first was inside.
 #[derive(Drop)]
 struct Flags {
     begun: AtomicBool,

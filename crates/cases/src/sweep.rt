@@ -30,8 +30,8 @@ pub enum Outcome {
 /// The outcome of a sweep. A run is counted from 1.
 #[derive(Clone, Copy, Debug, PartialEq, Eq)]
 pub enum Swept {
-    /// So many runs were refused an allocation, and each came to the whole answer or to lack of memory. In the next run,
-    /// unless the sweep has no more, no allocation was refused, and it came to the whole answer.
+    /// So many runs were refused an allocation, and each came to the whole answer or to lack of memory. In the next
+    /// run, unless the sweep has no more, no allocation was refused, and it came to the whole answer.
     Kept(u64),
     /// The run with this number came to something else.
     Other(u64),

@@ -14,8 +14,8 @@ abbrev pub no_utf8 : Said
 no_utf8 =
     record { reply = codes "refused: line\n"; status = 2; message = codes "error: a word of the command line is no UTF-8\n" }
 
--- This is written about words that the system, with an error of this kind, does not pass on: that one is not a text, if the
--- error says so, and otherwise that memory ran out.
+-- This is written about words that the system, with an error of this kind, does not pass on: that one is not a text, if
+-- the error says so, and otherwise that memory ran out.
 abbrev pub AreUnread : ErrorKind → Said → Type 0
 AreUnread kind said = ((kind ≡ InvalidData) × (said ≡ no_utf8)) ⊎ ((kind ≢ InvalidData) × (said ≡ without_memory))
 

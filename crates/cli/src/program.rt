@@ -20,9 +20,9 @@ use std::rt::Env;
 use std::sync::Wait;
 use std::thread::Threads;
 
-/// Replies to words that the system did not pass on, and returns the status: `refused: line` with 2 if one is not UTF-8, and
-/// the reply for lack of memory with 3 otherwise. The reason is written to `log`. If a write to `writer` fails, the status
-/// is 3.
+/// Replies to words that the system did not pass on, and returns the status: `refused: line` with 2 if one is not
+/// UTF-8, and the reply for lack of memory with 3 otherwise. The reason is written to `log`. If a write to `writer`
+/// fails, the status is 3.
 fn not_passed<W: Stream, L: Stream>(
     alloc: Global,
     error: &io::Error,

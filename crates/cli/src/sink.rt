@@ -12,14 +12,17 @@ pub trait Stream {
 
     /// Writes the bytes. If a write fails, the stream took only a part of them, and the error says why.
     fn put(&mut self, bytes: &[u8]) -> io::Result<()>
-        ensures all { IfOk result (λ _. StreamTakes (held self.old) (held self.new) bytes.now true) }
-        ensures part { IfErr result (λ _. StreamTakes (held self.old) (held self.new) bytes.now false) };
+        ensures all { IfOk result
+            (λ _. StreamTakes (held self.old) (held self.new) bytes.now true) }
+        ensures part { IfErr result
+            (λ _. StreamTakes (held self.old) (held self.new) bytes.now false) };
 }
 
 /// Writes the bytes. If a write fails, the writer took only a part of them, and the error says why: `WriteZero` if it
 /// took none of those that are left.
 fn put_all<W: Write>(writer: &mut W, bytes: &[u8]) -> io::Result<()>
-    ensures all { IfOk result (λ _. Appends (W.contents writer.old) (W.contents writer.new) bytes.now) }
+    ensures all { IfOk result
+        (λ _. Appends (W.contents writer.old) (W.contents writer.new) bytes.now) }
     ensures part { IfErr result (λ _. (n : ℕ) × (n < length bytes.now)
         × Appends (W.contents writer.old) (W.contents writer.new) (take n bytes.now)) }
 {

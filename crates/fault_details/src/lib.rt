@@ -1,5 +1,5 @@
-//! What is said about a fault of scopes: which of its cases it is, the counts that differ, and where the other one is; and
-//! where a text is too deep.
+//! What is said about a fault of scopes: which of its cases it is, the counts that differ, and where the other one is;
+//! and where a text is too deep.
 #![tactic(auto)]
 
 mod counting;

@@ -26,7 +26,8 @@ use Rattle.gather.specs.Findings.{finding_end, IsLeftOf, AreLeftOf}
 
 -- The lane had no thread, and ended so: its pass made no event, and aborted the board for that cause, unless another
 -- pass aborted it before.
-pub record HadNoThread {GraphAlloc : Type 0} (begun : Start GraphAlloc) (sight : Sight Due (Graphs GraphAlloc)) (ending : End) : Type 0 where
+pub record HadNoThread {GraphAlloc : Type 0} (begun : Start GraphAlloc) (sight : Sight Due (Graphs GraphAlloc))
+    (ending : End) : Type 0 where
   pub pass : IsPassOf begun sight
   pub made : sight.made ≡ true
   pub abort : Abort
@@ -41,9 +42,11 @@ module _ {GraphAlloc Alloc S : Type 0} (members : S → List Triple) where
   LaneEnds b s o = HasEnded b members s o ⊎ HadNoThread b s o.end
 
   -- each lane for which there is a pass and an outcome has ended
-  abbrev pub AllEnd : Graphs GraphAlloc → EdgeLimit → TableId → List (Sight Due (Graphs GraphAlloc)) → List (Outcome GraphAlloc Alloc S) → Type 0
+  abbrev pub AllEnd : Graphs GraphAlloc → EdgeLimit → TableId → List (Sight Due (Graphs GraphAlloc)) → List (Outcome GraphAlloc Alloc S)
+      → Type 0
   AllEnd graphs limit board passes outcomes =
-      (procedure : ℕ) (sight : Sight Due (Graphs GraphAlloc)) (outcome : Outcome GraphAlloc Alloc S) → slice_get passes procedure ≡ Some sight
+      (procedure : ℕ) (sight : Sight Due (Graphs GraphAlloc)) (outcome : Outcome GraphAlloc Alloc S)
+      → slice_get passes procedure ≡ Some sight
       → slice_get outcomes procedure ≡ Some outcome → LaneEnds (begun graphs procedure limit board) sight outcome
 
   -- The lanes of all procedures have ended, by number, each with at most `limit` path edges, on one board.
@@ -85,7 +88,8 @@ module _ {GraphAlloc Alloc S P : Type 0} (members : S → List Triple) (sight : 
     pub all : length results ≡ length (graphs_of graphs)
     pub each : (procedure : ℕ) (result : JobResult (P × Finding Alloc)) → slice_get results procedure ≡ Some result
         → IsResultOf (HasWorked (begun graphs procedure limit board)) (WasDeclined (begun graphs procedure limit board)) procedure result
-    pub behind : (index later : ℕ) (result later_result : JobResult (P × Finding Alloc)) → index ≤ later → slice_get results index ≡ Some result → slice_get results later ≡ Some later_result
+    pub behind : (index later : ℕ) (result later_result : JobResult (P × Finding Alloc)) → index ≤ later
+        → slice_get results index ≡ Some result → slice_get results later ≡ Some later_result
         → IsDeclined result → IsDeclined later_result
 
 -- The graphs are those of some program, which has a procedure.
@@ -98,4 +102,5 @@ pub record IsCrew {GraphAlloc : Type 0} (graphs : Graphs GraphAlloc) (limit : Ed
     (passes : List (Sight Due (Graphs GraphAlloc))) : Type 0 where
   pub drawn : (program : Program) × AreDrawnFrom program (graphs_of graphs)
   pub all : length passes ≡ length (graphs_of graphs)
-  pub fresh : (procedure : ℕ) (sight : Sight Due (Graphs GraphAlloc)) → slice_get passes procedure ≡ Some sight → IsFresh (begun graphs procedure limit board) sight
+  pub fresh : (procedure : ℕ) (sight : Sight Due (Graphs GraphAlloc)) → slice_get passes procedure ≡ Some sight
+      → IsFresh (begun graphs procedure limit board) sight

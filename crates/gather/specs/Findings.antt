@@ -31,11 +31,14 @@ module _ {Alloc : Type 0} where
 -- was read off its table.
 pub record IsLeftOf {GraphAlloc Alloc S : Type 0} (outcome : Outcome GraphAlloc Alloc S) (finding : Finding Alloc) : Type 0 where
   pub ended : outcome.end ≡ finding_end finding
-  pub out_of_memory : (cause_now : Cause) (evidence : Option OutOfMemory) → finding ≡ Failed cause_now evidence → outcome.out_of_memory ≡ evidence
+  pub out_of_memory : (cause_now : Cause) (evidence : Option OutOfMemory) → finding ≡ Failed cause_now evidence
+      → outcome.out_of_memory ≡ evidence
   pub found : (t : Table GraphAlloc Alloc S) (effect : Effect) → outcome.table ≡ Some t → finding ≡ Closed effect → IsReadOff t.found effect
 
 -- The findings are what is left of the outcomes, one of each, in their order.
-pub record AreLeftOf {GraphAlloc Alloc S : Type 0} (outcomes : List (Outcome GraphAlloc Alloc S)) (findings : List (Finding Alloc)) : Type 0 where
+pub record AreLeftOf {GraphAlloc Alloc S : Type 0} (outcomes : List (Outcome GraphAlloc Alloc S))
+    (findings : List (Finding Alloc)) : Type 0 where
   pub all : length findings ≡ length outcomes
-  pub each : (procedure : ℕ) (outcome : Outcome GraphAlloc Alloc S) (finding : Finding Alloc) → slice_get outcomes procedure ≡ Some outcome → slice_get findings procedure ≡ Some finding
+  pub each : (procedure : ℕ) (outcome : Outcome GraphAlloc Alloc S) (finding : Finding Alloc) → slice_get outcomes procedure ≡ Some outcome
+      → slice_get findings procedure ≡ Some finding
       → IsLeftOf outcome finding

@@ -73,7 +73,8 @@ pub record IsLesser (one : Option Failure) (other failure : Failure) : Type 0 wh
 
 -- The summaries are those of the programs that the graphs are drawn from, if no procedure has more path edges than
 -- the limit, the board is closed, and every worker has ended at the close.
-pub record IsGathered {GraphAlloc : Type 0} (graphs : Graphs GraphAlloc) (most : ℕ) (closed : Bool) (ends : List End) (effects : Effects) : Type 0 where
+pub record IsGathered {GraphAlloc : Type 0} (graphs : Graphs GraphAlloc) (most : ℕ) (closed : Bool) (ends : List End)
+    (effects : Effects) : Type 0 where
   pub shut : closed ≡ true
   pub ended : AllClosed ends
   pub summaries : (program : Program) → AreDrawnFrom program (graphs_of graphs) → AreSummaries program effects

@@ -39,7 +39,8 @@ sender_of starter (Summary s r a b) = s
 pub record AreDueOnce (program : Program) (procedure : ℕ) (history : List (Event Due)) : Type 0 where
   pub once : NoneTwice (posted_to history)
   pub all : (numbered : NumberedMessage) → Member (due_of numbered) (posted_to history) ↔ IsNumberOf (IsDue program procedure) numbered
-  pub senders : (sender : ℕ) (message : Due) → Member (sender, message) (posts history) → sender ≡ sender_of (length program.routines) message
+  pub senders : (sender : ℕ) (message : Due) → Member (sender, message) (posts history)
+      → sender ≡ sender_of (length program.routines) message
 
 -- What the workers of a sequential program have done and found. In each mailbox each message posted was taken once,
 -- each sender's in the order of posting, and nothing was posted after the close; the messages posted are those due
@@ -47,7 +48,8 @@ pub record AreDueOnce (program : Program) (procedure : ℕ) (history : List (Eve
 -- procedure has more path edges than `most`.
 pub record IsFound (program : Program) (most : ℕ) (histories : List (List (Event Due))) (effects : Effects) : Type 0 where
   pub through : AreThrough (length program.routines) histories
-  pub due : (procedure : ℕ) (history : List (Event Due)) → slice_get histories procedure ≡ Some history → AreDueOnce program procedure history
+  pub due : (procedure : ℕ) (history : List (Event Due)) → slice_get histories procedure ≡ Some history
+      → AreDueOnce program procedure history
   pub summaries : AreSummaries program effects
   pub few : (procedure : ℕ) → HasMoreEdges program procedure most → ⊥
 

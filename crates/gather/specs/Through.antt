@@ -14,6 +14,7 @@ pub record AreThrough {M : Type 0} (boxes : ℕ) (histories : List (List (Event 
   pub all : length histories ≡ boxes
   pub parts : (procedure : ℕ) (history : List (Event M)) → slice_get histories procedure ≡ Some history → history ≡ part procedure order
   pub each_taken : (procedure : ℕ) (history : List (Event M)) → slice_get histories procedure ≡ Some history → takes history ≡ posts history
-  pub in_order : (procedure sender : ℕ) (history : List (Event M)) → slice_get histories procedure ≡ Some history → taken sender history ≡ sent sender history
+  pub in_order : (procedure sender : ℕ) (history : List (Event M)) → slice_get histories procedure ≡ Some history
+      → taken sender history ≡ sent sender history
   pub close : IsClosed order
   pub last : (front rest : List (Entry M)) → order ≡ front ++ rest → IsLawful boxes front → IsClosed front → rest ≡ []

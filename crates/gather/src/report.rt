@@ -97,11 +97,11 @@ where
 }
 
 /// The report on a checked program for K rounds, if no procedure of its rewriting has more path edges than the limit.
-/// It is rewritten into a sequential program, whose procedures have a worker each, in a thread of its own, over a
-/// board of the type `B`; the path edges are kept in sets of the type `S`. The board and its histories are in memory
-/// of `heap`, tables and summaries in that of `alloc`. The gate is called at each take and post. `TooWide` is
-/// returned if and only if some procedure of the rewriting has more than 128 places, `EdgeLimit` with the number of a
-/// procedure that has more path edges than the limit. Of several causes the one that `NoVerdict` lists first is returned.
+/// It is rewritten into a sequential program, whose procedures have a worker each, in a thread of its own, over a board
+/// of the type `B`; the path edges are kept in sets of the type `S`. The board and its histories are in memory of
+/// `heap`, tables and summaries in that of `alloc`. The gate is called at each take and post. `TooWide` is returned if
+/// and only if some procedure of the rewriting has more than 128 places, `EdgeLimit` with the number of a procedure
+/// that has more path edges than the limit. Of several causes the one that `NoVerdict` lists first is returned.
 ///
 /// A worker has a thread only if `hire` says that it may; if it says no, or the system refuses a thread, that worker
 /// and those after it do nothing but abort the board, and a cause is `NoWorker`. Each worker has one call of the

@@ -1,8 +1,7 @@
-//! Rows of flow graphs: each line of the standard input is a question on the graphs of a text, and is printed again with
-//! its answer.
-//!
-//! A line is `ROUNDS | QUESTION | TEXT`: the text is checked and rewritten for K rounds, and the question is put
-//! to the flow graphs of the result. After `each allocation: ` it is answered if that holds with each allocation for the
+//! Rows of flow graphs: each line of the standard input is a question on the graphs of a text, and is printed again
+//! with its answer.
+//! A line is `ROUNDS | QUESTION | TEXT`: the text is checked and rewritten for K rounds, and the question is put to the
+//! flow graphs of the result. After `each allocation: ` it is answered if that holds with each allocation for the
 //! graphs refused in turn. A line that begins with `#` is a heading.
 #![tactic(auto)]
 

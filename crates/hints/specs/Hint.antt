@@ -27,8 +27,8 @@ abbrev pub MentionsEnd : List ℕ → Option Token → List ℕ → List ℕ →
 MentionsEnd text None old new = new ≡ old
 MentionsEnd text (Some token) old new = WritesPlace text (min (length text) (token.at + length token.text.now)) old new
 
--- The message goes on with what a hint mentions after these tokens: nothing; the innermost `begin`, `if` or `while` that is
--- open; the innermost `(` that is open; or where the last token ends.
+-- The message goes on with what a hint mentions after these tokens: nothing; the innermost `begin`, `if` or `while`
+-- that is open; the innermost `(` that is open; or where the last token ends.
 abbrev pub Mentions : Mention → List ℕ → List Token → List ℕ → List ℕ → Type 0
 Mentions mention.Nothing text tokens old new = new ≡ old
 Mentions mention.Block text tokens old new = MentionsToken text (last_token (front_to Blocks group.Opener tokens)) old new

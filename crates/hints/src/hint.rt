@@ -107,7 +107,8 @@ fn push_after<A: Allocator>(
     tokens: &[Token<'_>],
     rest: &[u8],
 ) -> Result<(), AllocError>
-    ensures { OnOk result (told.AddsRow text.now tokens.now (row_for (surroundings_at tokens.now rest.now))
+    ensures { OnOk result
+        (told.AddsRow text.now tokens.now (row_for (surroundings_at tokens.now rest.now))
         (string_bytes message.old) (string_bytes message.new)) }
 {
     match row_for(&spot_of(tokens, rest)) {

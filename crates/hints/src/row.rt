@@ -73,9 +73,11 @@ macro_rules! row {
     ([$($field:ident: $group:expr),*] $after:expr, $of:expr, $at:expr => $hint:expr) => {
         (Pattern { $($field: $group,)* ..ANY }, &$after, &$of, &$at, $hint, "")
     };
-    ([$($field:ident: $group:expr),*] $after:expr, $of:expr, $at:expr => $front:expr, $mention:ident,
+    ([$($field:ident: $group:expr),*] $after:expr, $of:expr, $at:expr => $front:expr,
+    $mention:ident,
     $back:expr) => {
-        (Pattern { $($field: $group,)* mention: Mention::$mention, ..ANY }, &$after, &$of, &$at, $front,
+        (Pattern { $($field: $group,)* mention: Mention::$mention, ..ANY }, &$after, &$of, &$at,
+        $front,
         $back)
     };
 }

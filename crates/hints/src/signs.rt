@@ -12,7 +12,7 @@ pub const SIGNS: &[Row] = &[
     // Comments.
     row!([] [], [], ["/*", "#", "--"] => "a comment begins with `//` and ends with its line"),
     // Operators.
-    row!([last: Only(Equal)] [], [], ["=>"] => "implication is written `=>`"),
+    row!([last: Only(Equal)] [], [], ["=>"] => "implication is written `=>`, with one `=`"),
     row!([last: Only(Equal)] [], [], ["="] => "equality is written `=`"),
     row!([last: Only(Differs)] [], [], ["="] => "difference is written `!=`"),
     row!([last: Only(And)] [], [], ["&"] => "conjunction is written `&`"),

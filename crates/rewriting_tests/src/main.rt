@@ -1,10 +1,9 @@
 //! Reads cases, one on each line, and prints each followed by its answer: what the check of scopes or the
 //! rewriting says about a text.
-//!
 //! `check TEXT` and `parts TEXT` ask for the check, `rewrite COUNT TEXT`, `holds COUNT LINE :: TEXT`, `fits COUNT TEXT`
 //! and `widths COUNT TEXT` for the rewriting, and `rounds COUNT` for a number of rounds alone. `each allocation: `
-//! before a case has each allocation refused in turn. `{COUNT WORDS}` in a text stands for these words, COUNT times. Lines that
-//! begin with `#`, and empty lines, are printed alone.
+//! before a case has each allocation refused in turn. `{COUNT WORDS}` in a text stands for these words, COUNT times.
+//! Lines that begin with `#`, and empty lines, are printed alone.
 #![tactic(auto)]
 
 mod answers;

@@ -4,7 +4,8 @@ ghost use Rattle.std.specs.Prelude.{◌≡◌, ◌≢◌, IfOk, length};
 ghost use Rattle.trees.specs.Trees.{names_of, proc_of, procs_of, tree_of};
 ghost use Rattle.scopes.specs.Find.{Finds};
 ghost use Rattle.resolved.specs.Statements.{statement_of};
-ghost use Rattle.checked.specs.Faults.{first_at, MiscountsSides, MiscountsArguments, Miscounts, MiscountsIn, WrongCount};
+ghost use Rattle.checked.specs.Faults.{first_at, MiscountsSides, MiscountsArguments, Miscounts};
+ghost use Rattle.checked.specs.Faults.{MiscountsIn, WrongCount};
 
 use crate::names::earlier;
 use crate::search::{Answer, earliest, try_earliest};

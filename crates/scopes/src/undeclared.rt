@@ -3,7 +3,8 @@
 ghost use Rattle.std.specs.Prelude.{◌≡◌, None, option_map, IfOk};
 ghost use Rattle.trees.specs.Trees.{name_of, expr_of, rhs_of, proc_of, procs_of, tree_of};
 ghost use Rattle.language.specs.Parts.{targets_of, arguments_of};
-ghost use Rattle.checked.specs.Faults.{AnyOf, named, AnyUnknown, CallsUnknown, IsUndeclaredIn, UndeclaredInProcedure, Undeclared};
+ghost use Rattle.checked.specs.Faults.{AnyOf, named, AnyUnknown, CallsUnknown, IsUndeclaredIn};
+ghost use Rattle.checked.specs.Faults.{UndeclaredInProcedure, Undeclared};
 ghost use Rattle.scopes.specs.Find.{Finds, as_list};
 ghost use Rattle.resolved.specs.Statements.{lent, statement_of, used_by, variables_of};
 ghost use Rattle.resolved.specs.Statements.{variables_of_side, variables_of_test};

@@ -50,8 +50,8 @@ fn counted(alloc: Global, words: &str, spot: Spot) -> Result<(u64, u64), AllocEr
     Ok((before, nodes))
 }
 
-/// Counts the nodes at one point of a set of diagrams that has the members of another set, and counts again if the first
-/// count is refused memory. The set stays as it was.
+/// Counts the nodes at one point of a set of diagrams that has the members of another set, and counts again if the
+/// first count is refused memory. The set stays as it was.
 fn outcome_of<A: Allocator + Copy, B: Allocator, T: PathSet<B>>(
     set: &DiagramEdges<A>,
     other: &T,
@@ -85,8 +85,8 @@ fn outcome_in<B: Allocator, T: PathSet<B>>(
     }
 }
 
-/// Writes the count with ample memory, if each run of the sweep comes to it or to lack of memory, at least one of them in
-/// the count itself. The set is compared with one of the type `T` after the same steps.
+/// Writes the count with ample memory, if each run of the sweep comes to it or to lack of memory, at least one of them
+/// in the count itself. The set is compared with one of the type `T` after the same steps.
 fn compared<B: Allocator, T: PathSet<B>>(
     alloc: Global,
     room: B,

@@ -7,9 +7,9 @@
 //! | `each allocation: summaries K N \| TEXT` | the same, if each allocation that is refused leads to lack of memory |
 //! | `table P K: MESSAGES \| TEXT` | what the table of procedure P owes after each message: `2.5` is an entry by procedure 2 with 5, `S.5` one by the starter, `s1.5.6` a summary of procedure 1, `s1.5.6.1` one with the result 1 |
 //! | `each allocation: table P K: MESSAGES \| TEXT` | to which calls of that table an allocation was refused, with each kind of set |
-//!
-//! A valuation is a number, whose bits are the places. A line that begins with `#` is a heading. If an allocation is refused, that
-//! call and each later one must return lack of memory, all memory must come back, and without a refusal the table must owe the same.
+//! A valuation is a number, whose bits are the places. A line that begins with `#` is a heading. If an allocation is
+//! refused, that call and each later one must return lack of memory, all memory must come back, and without a refusal
+//! the table must owe the same.
 #![tactic(auto)]
 
 mod case;

@@ -225,8 +225,8 @@ fn came_in<G: Allocator, A: Allocator + Copy, S: PathSet<A>>(
     came_of(scarce, &mut table, words, wanted)
 }
 
-/// Writes to which calls of the table of a procedure an allocation was refused, whose edges are kept in an ordered set or
-/// in diagrams.
+/// Writes to which calls of the table of a procedure an allocation was refused, whose edges are kept in an ordered set
+/// or in diagrams.
 fn write_in_turn(
     alloc: Global,
     out: &mut String,

@@ -40,8 +40,8 @@ fn tabulated<A: Allocator + Copy, S: PathSet<A>>(
     }
 }
 
-/// Writes the summaries of a text, for rounds and path edges; or, with a sweep, whether each refused allocation leads to
-/// lack of memory, and none to summaries.
+/// Writes the summaries of a text, for rounds and path edges; or, with a sweep, whether each refused allocation leads
+/// to lack of memory, and none to summaries.
 pub fn summaries(
     alloc: Global,
     out: &mut String,

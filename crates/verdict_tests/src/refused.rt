@@ -88,8 +88,8 @@ fn outcome<R: Wait + Threads + Sync>(
     }
 }
 
-/// Prints the reply without refusal, if over the first `pairs` pairs of board and set each run of the sweep leaves it or
-/// leads to `no verdict: memory`.
+/// Prints the reply without refusal, if over the first `pairs` pairs of board and set each run of the sweep leaves it
+/// or leads to `no verdict: memory`.
 pub fn in_turn<R: Print + AllocGlobal + Wait + Threads + Sync>(
     rt: &R,
     sweep: Sweep,

@@ -16,6 +16,7 @@ returns c =
     c.first_like-formal.ensures ∙ ap (find p) (c.formals.ensures ∙ ap formal_tokens c.own-here.ensures) in
     let local : c.first_declared-local.result ≡ find p (declared here) =
     c.first_declared-local.ensures ∙ ap (λ ts. find p (declared ts)) c.own-here.ensures in
-    let own_names = c.or.ensures ∙ ap (λ o. option_or o c.first_declared-local.result) formal ∙ ap (option_or (find p (formal_tokens here))) local in
+    let own_names = c.or.ensures ∙ ap (λ o. option_or o c.first_declared-local.result) formal
+    ∙ ap (option_or (find p (formal_tokens here))) local in
     c.or-2.ensures ∙ ap (λ o. option_or o c.or.result) global ∙ ap (option_or (find p (global_tokens c.args.tokens.now))) own_names
     ∙ sym (joined p (global_tokens c.args.tokens.now) (formal_tokens here) (declared here))

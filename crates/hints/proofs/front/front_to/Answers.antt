@@ -51,7 +51,9 @@ loop-left-preserved c =
       closed = ap (λ n. c.loop-left.closed + n) c.from-closed.ensures ∙ more_closed;
       none = passed b c.args.group ts left j e within ends_none loop.none;
       few_opened =
-          few c.loop-left.opened left (length ts) c.from-opened.result c.is_opening.result c.from-opened.ensures loop.few_opened (omega arith);
+          few c.loop-left.opened left (length ts) c.from-opened.result c.is_opening.result c.from-opened.ensures loop.few_opened
+          (omega arith);
       few_closed =
-          few c.loop-left.closed left (length ts) c.from-closed.result c.is_closing.result c.from-closed.ensures loop.few_closed (omega arith);
+          few c.loop-left.closed left (length ts) c.from-closed.result c.is_closing.result c.from-closed.ensures loop.few_closed
+          (omega arith);
     }

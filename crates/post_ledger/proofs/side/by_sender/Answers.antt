@@ -21,7 +21,8 @@ module _ {M : Type 0} where
       let is_one = λ (p : ℕ × M). p.0 == sender in
       ap (map (λ (p : ℕ × M). p.1)) (filter-append is_one xs ys) ∙ map-append (λ (p : ℕ × M). p.1) (filter is_one xs) (filter is_one ys)
 
-  on_both : (side : Side) (sender : ℕ) (xs ys : List (Event M)) → on_side side sender (xs ++ ys) ≡ on_side side sender xs ++ on_side side sender ys
+  on_both : (side : Side) (sender : ℕ) (xs ys : List (Event M))
+      → on_side side sender (xs ++ ys) ≡ on_side side sender xs ++ on_side side sender ys
   on_both Posts sender xs ys = ap (messages_of sender) (posts-append xs ys) ∙ of_both sender (posts xs) (posts ys)
   on_both Takes sender xs ys = ap (messages_of sender) (takes-append xs ys) ∙ of_both sender (takes xs) (takes ys)
 
