@@ -209,7 +209,7 @@ fn came_of<G: Allocator, A: Allocator + Copy, S: PathSet<A>>(
     }
 }
 
-/// The same for the table of a procedure, whose edges are kept in a set of the type `S`.
+/// The same for the table of a procedure, if there is such a one, whose edges are kept in a set of the type `S`.
 fn came_in<G: Allocator, A: Allocator + Copy, S: PathSet<A>>(
     room: A,
     scarce: &Scarce<Global>,
@@ -218,9 +218,10 @@ fn came_in<G: Allocator, A: Allocator + Copy, S: PathSet<A>>(
     limit: EdgeLimit,
     words: &str,
     wanted: &[Mail],
-) -> Came
-    requires { procedure < length (graphs_of graphs.now) }
-{
+) -> Came {
+    if procedure as usize >= graphs.len() {
+        return Came::Other;
+    }
     let mut table: Table<'_, G, A, S> = Table::new(room, graphs, procedure, limit);
     came_of(scarce, &mut table, words, wanted)
 }
@@ -237,9 +238,7 @@ fn write_in_turn(
     limit: EdgeLimit,
     words: &str,
     wanted: &[Mail],
-) -> Result<(), AllocError>
-    requires { procedure < length (graphs_of graphs.now) }
-{
+) -> Result<(), AllocError> {
     let mut seen = Seen {
         entry: false,
         summary: false,
