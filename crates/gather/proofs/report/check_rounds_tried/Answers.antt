@@ -16,10 +16,6 @@ use Rattle.gather.proofs.ReportLemmas.{keeps_answer, no_report}
 use Rattle.gather.proofs.report.check_rounds_tried.Goals as goal
 use Rattle.gather.proofs.report.check_rounds_tried.Goals.{then-bad, else-bad}
 
-pub analyse-requires-clause-graphs : goal.analyse-requires-clause-graphs
-analyse-requires-clause-graphs g c =
-    ((sequential_of (sequential_tree c.in-Ok.sequential), c.in_ok-graphs.ensures.graphs), search rules)
-
 pub returns-in_err-ledger-clause-none : goal.returns-in_err-ledger-clause-none
 returns-in_err-ledger-clause-none g c =
     let e = err_from_is_err_and c.from_residual-in_err-ledger.result c.from_residual-in_err-ledger.ensures.1 in
