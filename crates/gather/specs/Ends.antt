@@ -92,10 +92,6 @@ module _ {GraphAlloc Alloc S P : Type 0} (members : S → List Triple) (sight : 
         → slice_get results index ≡ Some result → slice_get results later ≡ Some later_result
         → IsDeclined result → IsDeclined later_result
 
--- The graphs are those of some program, which has a procedure.
-abbrev pub AreOfProgram : {GraphAlloc : Type 0} → Graphs GraphAlloc → Type 0
-AreOfProgram graphs = ((program : Program) × AreDrawnFrom program (graphs_of graphs)) × (1 ≤ length (graphs_of graphs))
-
 -- The graphs are some program's, and the passes are those of all its procedures, by number, as given by a board that
 -- the starter's message opened.
 pub record IsCrew {GraphAlloc : Type 0} (graphs : Graphs GraphAlloc) (limit : EdgeLimit) (board : TableId)

@@ -1,5 +1,5 @@
 //! A report on a program: what the workers of its rewriting did and found.
-ghost use Rattle.std.specs.Prelude.{◌≡◌, ◌≢◌, ◌≤◌, ◌^◌, ◌↔◌, ℕ, true, IfOk, IfErr, Err};
+ghost use Rattle.std.specs.Prelude.{◌≡◌, ◌≢◌, ◌≤◌, ◌^◌, ◌↔◌, ℕ, true, length, IfOk, IfErr, Err};
 ghost use Rattle.language.specs.Step.{Program};
 ghost use Rattle.language.specs.Sequential.{SomeBad};
 ghost use Rattle.round_rewrite.specs.Programs.{count_of};
@@ -8,7 +8,6 @@ ghost use Rattle.flow_graph.specs.Drawn.{bad_of, graphs_of};
 ghost use Rattle.flow_graph.specs.Graphs.{AreDrawnFrom};
 ghost use Rattle.path_sets.specs.EdgeLimits.{most_of};
 ghost use Rattle.summaries.specs.Tabulated.{HasMoreEdges, SomePairBad};
-ghost use Rattle.gather.specs.Ends.{AreOfProgram};
 ghost use Rattle.gather.specs.Reports.{IsFound, IsReport, IsNoReport};
 
 use crate::crew::{split_results, work_all};
@@ -65,7 +64,8 @@ where
     S: CrewSet,
     K: Gate + Sync,
     H: Hire,
-    requires graphs { AreOfProgram graphs.now }
+    requires drawn { (p : Program) × AreDrawnFrom p (graphs_of graphs.now) }
+    requires some { 1 ≤ length (graphs_of graphs.now) }
     requires budget { (2 ≤ budget) × (budget ≤ 2 ^ 56) }
     ensures found { (p : Program) → AreDrawnFrom p (graphs_of graphs.now)
         → IfOk result (λ r. IsFound p (most_of limit) r.0.histories.items r.1) }

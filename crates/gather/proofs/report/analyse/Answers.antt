@@ -11,11 +11,11 @@ use Rattle.gather.proofs.report.analyse.Goals as goal
 use Rattle.gather.proofs.report.analyse.Goals.{After-back-2-1}
 
 pub open_with_budget-requires-clause-fits : goal.open_with_budget-requires-clause-fits
-open_with_budget-requires-clause-fits g c = opening_fits c.args.graphs.now c.requires.graphs.1
+open_with_budget-requires-clause-fits g c = opening_fits c.args.graphs.now c.requires.some
 
 pub work_all-requires-after_bounds : goal.work_all-requires-after_bounds
 work_all-requires-after_bounds g c κs within =
-    new_crew c.args.graphs.now c.args.limit (g.B-Board.identity c.in_ok-board.board) c.args.budget c.len-boxes.result c.requires.graphs.0
+    new_crew c.args.graphs.now c.args.limit (g.B-Board.identity c.in_ok-board.board) c.args.budget c.len-boxes.result c.requires.drawn
     c.len-boxes.ensures (map g.B-Board.sight c.in_ok-board.passes.items)
     c.in_ok-board.ensures.1
 
