@@ -197,6 +197,12 @@ all_written names ss hs k first lines past past_ss same e =
     let many : length cs ≤ k = let l = counted_length ss hs same in omega (arith, l, past_ss) in
     e ∙ ap₂ (λ x y. first ++ counts_lines x y) (take_all k names past) (take_all k cs many)
 
+-- there is something at each number below the length
+pub there : {X : Type 0} (xs : List X) (i : ℕ) → i < length xs → (x : X) × (slice_get xs i ≡ Some x)
+there [] i lt = absurd (omega (arith, lt))
+there (x ∷ xs) zero lt = (x, refl)
+there (x ∷ xs) (suc i) lt = there xs i (omega (arith, lt))
+
 -- the name at a number is that of the procedure there
 pub named_at : {A : Type 0} (ps : List (Proc A)) (i : ℕ) (x : Proc A) → i < length ps → x ≡ get_or ps i x
     → slice_get (map (λ (p : Procedure). p.name.text) (map proc_of ps)) i ≡ Some (string_bytes x.name.text)
