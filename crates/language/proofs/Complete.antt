@@ -54,8 +54,6 @@ back p M closed k z q a v reached (f ∷ fs) (c, b, u, r, same, before, calls, b
 
 held_step : (p : Program) (M : ℕ → Message → Type 0) → HasOwed p M → (k : ℕ) (z : Valuation) (s t : State) → Held p M k z s → Step p s t
     → Held p M k z t
-held_step p M closed k z (state g []) t held step = absurd step
-held_step p M closed k z (state g (waiting q l x r ∷ fs)) t held step = absurd step
 held_step p M closed k z (state g (frame q l r ∷ fs)) t (a, reached, wait) step = by_kind ((step_kinds p q v r fs t).0 step)
   where
     v : Valuation
@@ -68,6 +66,7 @@ held_step p M closed k z (state g (frame q l r ∷ fs)) t (a, reached, wait) ste
     by_kind (inr (inr (s, e, calls, same))) =
         subst (Held p M k z) (sym same)
         (e, starts (caller q) e (called p M closed q a v e r s reached calls), (q, a, v, r, refl, reached, calls, wait))
+held_step p M closed k z _ t held step = absurd step
 
 held_steps : (p : Program) (M : ℕ → Message → Type 0) → HasOwed p M → (k : ℕ) (z : Valuation) (n : ℕ) (s t : State) →
     Held p M k z s → AfterSteps p n s (λ u. u ≡ t) → Held p M k z t

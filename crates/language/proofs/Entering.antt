@@ -2,7 +2,7 @@
 use Rattle.std.proofs.Common.{◌≡◌, ℕ, List, [], ◌∷◌, Bool, Option, Some, None, inl, inr, refl, sym, ◌∙◌, ap, subst}
 use Rattle.std.proofs.Common.{slice_get}
 use Rattle.std.proofs.lemmas.Option.{none-some}
-use Rattle.language.specs.Tree.{Expression, done, one, choose, loop}
+use Rattle.language.specs.Tree.{Expression, one}
 use Rattle.language.specs.Value.{Place, values_of}
 use Rattle.language.specs.Rest.{Code, called_by, target_of}
 use Rattle.language.specs.Step.{Routine, Program, Frame, frame, state, zeros, fresh, frame_size, AtRoutine, body_of}
@@ -42,10 +42,8 @@ call_shape p g l r s e calls =
 
 -- what comes after a call follows it
 pub call_follows : (r : Code) (s : ℕ) (es : List (Expression Place)) → called_by r ≡ Some (s, es) → Follows r (after_first r)
-call_follows done s es e = absurd (none-some (s, es) e)
 call_follows (one m u t) s es e = refl
-call_follows (choose m c a b t) s es e = absurd (none-some (s, es) e)
-call_follows (loop m c a t) s es e = absurd (none-some (s, es) e)
+call_follows _ s es e = absurd (none-some (s, es) e)
 
 -- what is called exists
 pub callee_there : (p : Program) (g l : List Bool) (r : Code) (s : ℕ) (e : Valuation) → Calls p g l r s e → IsThere p s

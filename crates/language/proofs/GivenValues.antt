@@ -38,12 +38,8 @@ returning_step _ _ ended P f = (_, _, gone, f)
 returning_step _ _ gone P f = absurd f
 
 returning_passes : (g : List Bool) (stack : List Frame) → Returning g stack → Fails (state g stack) → ⊥
-returning_passes _ _ asked f = f
-returning_passes _ _ entered f = f
-returning_passes _ _ returned f = f
 returning_passes _ _ written f = grind (arith, f)
-returning_passes _ _ ended f = f
-returning_passes _ _ gone f = f
+returning_passes _ _ _ f = f
 
 pub return_and_write_holds : (k : ℕ) → Unsafe return_and_write k → ⊥
 return_and_write_holds k = never_unsafe return_and_write Returning returning_step returning_passes 1 refl asked k
@@ -89,10 +85,7 @@ early_step _ _ leaves P f = absurd f
 
 early_passes : (g : List Bool) (stack : List Frame) → Early g stack → Fails (state g stack) → ⊥
 early_passes _ _ asks f = f
-early_passes _ _ reads f = f
-early_passes _ _ holds f = f
-early_passes _ _ writes f = f
-early_passes _ _ leaves f = f
+early_passes _ _ _ f = f
 
 -- b in its first turn: nobody changes x between its two looks
 data Looking : List Bool → List Frame → Type 0 where
@@ -111,22 +104,18 @@ looking_step _ _ (starts x y) P (vs, are, f) = (
       P (state (written_globals (global 1 ∷ []) ws (x ∷ y ∷ [])) (frame 2 (written_locals (global 1 ∷ []) ws []) b1 ∷ []))) vs
       are f,
 )
-looking_step _ _ (looks true) P f = grind (arith, f.0)
 looking_step _ _ (looks false) P f = (_, _, stays, f.1)
-looking_step _ _ stays P f = grind (arith, f.0)
+looking_step _ _ _ P f = grind (arith, f.0)
 
 looking_passes : (g : List Bool) (stack : List Frame) → Looking g stack → Fails (state g stack) → ⊥
 looking_passes _ _ (starts x y) f = f
-looking_passes _ _ (looks x) f = f
-looking_passes _ _ stays f = f
+looking_passes _ _ _ f = f
 
 -- b begins its first turn with any globals that a has come to
 begin : (g : List Bool) (stack : List Frame) → Early g stack → Looking g (b b0)
-begin _ _ asks = starts false false
-begin _ _ reads = starts false false
-begin _ _ holds = starts false false
 begin _ _ writes = starts true false
 begin _ _ leaves = starts true false
+begin _ _ _ = starts false false
 
 first_round : FailsInRound late_value (false ∷ false ∷ []) ((frame 1 [] late_asking ∷ []) ∷ b b0 ∷ []) → ⊥
 first_round (inl (s, run, bad)) = no_failure late_value Early early_step early_passes _ _ s asks run bad

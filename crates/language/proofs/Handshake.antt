@@ -86,8 +86,7 @@ blocked_step _ _ (stays x y) P f = grind (arith, f.0)
 
 blocked_passes : (g : List Bool) (stack : List Frame) → Blocked g stack → Fails (state g stack) → ⊥
 blocked_passes _ _ (asks x y) f = f
-blocked_passes _ _ (answers x y) f = f
-blocked_passes _ _ (stays x y) f = f
+blocked_passes _ _ _ f = f
 
 -- b anywhere: it has no assert
 data Unfailing : List Bool → List Frame → Type 0 where
@@ -121,10 +120,7 @@ unfailing_step _ _ (gone x y z) P f = absurd f
 
 unfailing_passes : (g : List Bool) (stack : List Frame) → Unfailing g stack → Fails (state g stack) → ⊥
 unfailing_passes _ _ (writes_x x y z) f = f
-unfailing_passes _ _ (awaits_y x y z) f = f
-unfailing_passes _ _ (writes_z x y z) f = f
-unfailing_passes _ _ (ends x y z) f = f
-unfailing_passes _ _ (gone x y z) f = f
+unfailing_passes _ _ _ f = f
 
 -- b fails after no turn of a
 after_waiting : (g : List Bool) (stack : List Frame) (s : State) → Waiting g stack → Runs handshake (state g (b (setting b1))) s → Fails s
@@ -132,20 +128,17 @@ after_waiting : (g : List Bool) (stack : List Frame) (s : State) → Waiting g s
 after_waiting _ _ s waits run bad =
     no_failure handshake Unfailing unfailing_step unfailing_passes _ _ s (writes_x false false false) run bad
 
+-- nor after a has given x and y values
+after_start : (x y : Bool) (g : List Bool) (below : List Frame) (s : State) → Starting g below
+    → Runs handshake (state (x ∷ y ∷ false ∷ []) below) s → Fails s → ⊥
+after_start x y _ _ s (starts z) run bad = no_failure handshake Unfailing unfailing_step unfailing_passes _ _ s (writes_x x y false) run bad
+after_start x y _ _ s (stops z) run bad = no_failure handshake Unfailing unfailing_step unfailing_passes _ _ s (awaits_y x y false) run bad
+
 after_blocked : (g h : List Bool) (stack below : List Frame) (s : State) → Blocked h stack → Starting g below
     → Runs handshake (state h below) s → Fails s → ⊥
-after_blocked _ _ _ _ s (asks x y) (starts z) run bad =
-    no_failure handshake Unfailing unfailing_step unfailing_passes _ _ s (writes_x x y false) run bad
-after_blocked _ _ _ _ s (asks x y) (stops z) run bad =
-    no_failure handshake Unfailing unfailing_step unfailing_passes _ _ s (awaits_y x y false) run bad
-after_blocked _ _ _ _ s (answers x y) (starts z) run bad =
-    no_failure handshake Unfailing unfailing_step unfailing_passes _ _ s (writes_x x y false) run bad
-after_blocked _ _ _ _ s (answers x y) (stops z) run bad =
-    no_failure handshake Unfailing unfailing_step unfailing_passes _ _ s (awaits_y x y false) run bad
-after_blocked _ _ _ _ s (stays x y) (starts z) run bad =
-    no_failure handshake Unfailing unfailing_step unfailing_passes _ _ s (writes_x x y false) run bad
-after_blocked _ _ _ _ s (stays x y) (stops z) run bad =
-    no_failure handshake Unfailing unfailing_step unfailing_passes _ _ s (awaits_y x y false) run bad
+after_blocked g _ _ below s (asks x y) = after_start x y g below s
+after_blocked g _ _ below s (answers x y) = after_start x y g below s
+after_blocked g _ _ below s (stays x y) = after_start x y g below s
 
 first_round : FailsInRound handshake (false ∷ false ∷ false ∷ []) (a a0 ∷ b (setting b1) ∷ []) → ⊥
 first_round (inl (s, run, bad)) = no_failure handshake Waiting waiting_step waiting_passes _ _ s waits run bad

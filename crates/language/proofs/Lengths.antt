@@ -34,13 +34,11 @@ length_values g l [] = refl
 length_values g l (e ∷ es) = ap suc (length_values g l es)
 
 pub length_globals : (xs : List Place) (vs g : List Bool) → length (written_globals xs vs g) ≡ length g
-length_globals [] vs g = refl
-length_globals (x ∷ xs) [] g = refl
 length_globals (global n ∷ xs) (v ∷ vs) g = length_globals xs vs (with_bit g n v) ∙ length-set g n v
 length_globals (local n ∷ xs) (v ∷ vs) g = length_globals xs vs g
+length_globals _ _ g = refl
 
 pub length_locals : (xs : List Place) (vs l : List Bool) → length (written_locals xs vs l) ≡ length l
-length_locals [] vs l = refl
-length_locals (x ∷ xs) [] l = refl
 length_locals (global n ∷ xs) (v ∷ vs) l = length_locals xs vs l
 length_locals (local n ∷ xs) (v ∷ vs) l = length_locals xs vs (with_bit l n v) ∙ length-set l n v
+length_locals _ _ l = refl

@@ -1,5 +1,5 @@
 -- The points of a numbered block, and the bodies of a numbered program.
-use Rattle.std.proofs.Common.{◌≡◌, ℕ, zero, suc, ◌+◌, List, [], map, slice_get, ◌∷◌, ◌++◌, refl, ◌∙◌, ap, ap₂, arith}
+use Rattle.std.proofs.Common.{◌≡◌, ℕ, zero, suc, ◌+◌, List, map, slice_get, ◌∷◌, ◌++◌, refl, ◌∙◌, ap, ap₂, arith}
 use Rattle.language.specs.Tree.{done, one, choose, loop}
 use Rattle.language.specs.Rest.{Code}
 use Rattle.language.specs.Step.{Routine, body_of}
@@ -28,6 +28,5 @@ points_numbered n (loop m r a t) =
     ∙ numbers-append (suc n) (statements a) (statements t) nt (statements a + statements t) refl refl)
 
 pub bodies_numbered : (rs : List Routine) (q : ℕ) → body_of (slice_get (map numbered_routine rs) q) ≡ numbered 1 (body_of (slice_get rs q))
-bodies_numbered [] q = refl
-bodies_numbered (r ∷ rs) zero = refl
 bodies_numbered (r ∷ rs) (suc q) = bodies_numbered rs q
+bodies_numbered _ _ = refl

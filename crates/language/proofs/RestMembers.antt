@@ -15,9 +15,7 @@ In b k r = (r ≡ k) ⊎ Member r (rests b k)
 -- the whole block is left from its first statement on, if it has one
 pub in_whole : (b k : Code) → In b k (join b k)
 in_whole done k = inl refl
-in_whole (one m s t) k = inr (inl refl)
-in_whole (choose m r a b t) k = inr (inl refl)
-in_whole (loop m r a t) k = inr (inl refl)
+in_whole _ k = inr (inl refl)
 
 -- r' can be what is left to run after a step that begins with r
 abbrev pub Follows : Code → Code → Type 0

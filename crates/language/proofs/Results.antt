@@ -6,9 +6,8 @@ use Rattle.language.specs.Value.{bit, with_bit}
 use Rattle.language.specs.Step.{Routine, zeros, fresh, frame_size, result_of, with_result}
 
 pub zeros_bit : (n i : ℕ) → bit (zeros n) i ≡ false
-zeros_bit zero i = refl
-zeros_bit (suc n) zero = refl
 zeros_bit (suc n) (suc i) = zeros_bit n i
+zeros_bit _ _ = refl
 
 -- after the values that are given all are 0
 behind_bit : (vs : List Bool) (n i : ℕ) → length vs ≤ i → bit (vs ++ zeros n) i ≡ false

@@ -1,6 +1,6 @@
 -- Steps and runs, as properties of where they lead.
 use Rattle.std.proofs.Common.{◌≡◌, ℕ, zero, suc, [], ◌∷◌, Option, Some, None, slice_get, refl, sym, subst}
-use Rattle.language.specs.Tree.{skip, assign, assert, assume, goto, leave, call, leave_with, call_for, done, one, choose, loop}
+use Rattle.language.specs.Tree.{assign, assert, assume, goto, call, call_for, done, one, choose, loop}
 use Rattle.language.specs.Value.{values_of}
 use Rattle.language.specs.Rest.{Code, rest_from}
 use Rattle.language.specs.Step.{Routine, Program, frame, waiting, State, state, fresh, frame_size, AtRoutine, AtRest, body_of}
@@ -18,21 +18,17 @@ at_routine_map (Some c) P Q f h = f c h
 pub steps_map : (p : Program) (s : State) (P Q : State → Type 0) → ((u : State) → P u → Q u) → StepsTo p s P → StepsTo p s Q
 steps_map p (state g []) P Q f h = h
 steps_map p (state g (waiting c l x t ∷ fs)) P Q f h = h
-steps_map p (state g (frame c l done ∷ fs)) P Q f h = f _ h
-steps_map p (state g (frame c l (one m skip t) ∷ fs)) P Q f h = f _ h
 steps_map p (state g (frame c l (one m (assign xs rs) t) ∷ fs)) P Q f h = (h.0, h.1, f _ h.2)
 steps_map p (state g (frame c l (one m (assert r) t) ∷ fs)) P Q f h = (h.0, f _ h.1)
 steps_map p (state g (frame c l (one m (assume r) t) ∷ fs)) P Q f h = (h.0, f _ h.1)
 steps_map p (state g (frame c l (one m (goto x) t) ∷ fs)) P Q f h =
     at_rest_map (rest_from x (body_of (slice_get p.routines c)) done) (λ u. P (state g (frame c l u ∷ fs)))
     (λ u. Q (state g (frame c l u ∷ fs))) (λ u. f (state g (frame c l u ∷ fs))) h
-steps_map p (state g (frame c l (one m leave t) ∷ fs)) P Q f h = f _ h
 steps_map p (state g (frame c l (one m (call q es) t) ∷ fs)) P Q f h =
     at_routine_map (slice_get p.routines q)
     (λ r. P (state g (frame q (fresh (frame_size r) (values_of g l es)) r.body ∷ frame c l t ∷ fs)))
     (λ r. Q (state g (frame q (fresh (frame_size r) (values_of g l es)) r.body ∷ frame c l t ∷ fs)))
     (λ r. f (state g (frame q (fresh (frame_size r) (values_of g l es)) r.body ∷ frame c l t ∷ fs))) h
-steps_map p (state g (frame c l (one m (leave_with e) t) ∷ fs)) P Q f h = f _ h
 steps_map p (state g (frame c l (one m (call_for x q es) t) ∷ fs)) P Q f h =
     at_routine_map (slice_get p.routines q)
     (λ r. P (state g (frame q (fresh (frame_size r) (values_of g l es)) r.body ∷ waiting c l x t ∷ fs)))
@@ -40,6 +36,7 @@ steps_map p (state g (frame c l (one m (call_for x q es) t) ∷ fs)) P Q f h =
     (λ r. f (state g (frame q (fresh (frame_size r) (values_of g l es)) r.body ∷ waiting c l x t ∷ fs))) h
 steps_map p (state g (frame c l (choose m r a b t) ∷ fs)) P Q f h = (h.0, h.1, f _ h.2)
 steps_map p (state g (frame c l (loop m r a t) ∷ fs)) P Q f h = (h.0, h.1, f _ h.2)
+steps_map p _ P Q f h = f _ h
 
 pub after_map : (p : Program) (n : ℕ) (s : State) (P Q : State → Type 0) → ((u : State) → P u → Q u) → AfterSteps p n s P
     → AfterSteps p n s Q
@@ -60,23 +57,20 @@ at_routine_pick (Some c) F P h = (F c, refl, h)
 pub steps_pick : (p : Program) (s : State) (P : State → Type 0) → StepsTo p s P → (u : State) × StepsTo p s (λ v. v ≡ u) × P u
 steps_pick p (state g []) P h = absurd h
 steps_pick p (state g (waiting c l x t ∷ fs)) P h = absurd h
-steps_pick p (state g (frame c l done ∷ fs)) P h = (_, refl, h)
-steps_pick p (state g (frame c l (one m skip t) ∷ fs)) P h = (_, refl, h)
 steps_pick p (state g (frame c l (one m (assign xs rs) t) ∷ fs)) P h = (_, (h.0, h.1, refl), h.2)
 steps_pick p (state g (frame c l (one m (assert r) t) ∷ fs)) P h = (_, (h.0, refl), h.1)
 steps_pick p (state g (frame c l (one m (assume r) t) ∷ fs)) P h = (_, (h.0, refl), h.1)
 steps_pick p (state g (frame c l (one m (goto x) t) ∷ fs)) P h =
     at_rest_pick (rest_from x (body_of (slice_get p.routines c)) done) (λ u. state g (frame c l u ∷ fs)) P h
-steps_pick p (state g (frame c l (one m leave t) ∷ fs)) P h = (_, refl, h)
 steps_pick p (state g (frame c l (one m (call q es) t) ∷ fs)) P h =
     at_routine_pick (slice_get p.routines q)
     (λ r. state g (frame q (fresh (frame_size r) (values_of g l es)) r.body ∷ frame c l t ∷ fs)) P h
-steps_pick p (state g (frame c l (one m (leave_with e) t) ∷ fs)) P h = (_, refl, h)
 steps_pick p (state g (frame c l (one m (call_for x q es) t) ∷ fs)) P h =
     at_routine_pick (slice_get p.routines q)
     (λ r. state g (frame q (fresh (frame_size r) (values_of g l es)) r.body ∷ waiting c l x t ∷ fs)) P h
 steps_pick p (state g (frame c l (choose m r a b t) ∷ fs)) P h = (_, (h.0, h.1, refl), h.2)
 steps_pick p (state g (frame c l (loop m r a t) ∷ fs)) P h = (_, (h.0, h.1, refl), h.2)
+steps_pick p _ P h = (_, refl, h)
 
 pub after_pick : (p : Program) (n : ℕ) (s : State) (P : State → Type 0) → AfterSteps p n s P
     → (u : State) × AfterSteps p n s (λ v. v ≡ u) × P u

@@ -6,9 +6,8 @@ use Rattle.language.specs.Value.{Place}
 use Rattle.language.specs.Rest.{Code, target_of}
 use Rattle.language.specs.Step.{Program, Frame, frame, waiting, State, state, body_of, result_of, given_back, Step, AfterSteps, Runs}
 use Rattle.language.specs.Sequential.{Valuation, Calls, Exit, resumed_with}
-use Rattle.language.specs.Flow.{Flow, after_first, caller_frame}
+use Rattle.language.specs.Flow.{after_first, caller_frame}
 use Rattle.language.proofs.Runs.{steps_pick, step_runs, no_steps}
-use Rattle.language.proofs.Callers.{flow_over_callers}
 use Rattle.language.proofs.StepKinds.{step_kinds}
 
 steps_then : (p : Program) (n : ℕ) (s t u : State) → AfterSteps p n s (λ v. v ≡ t) → Runs p t u → Runs p s u
@@ -48,8 +47,6 @@ given_over v g (frame c l t ∷ gs) fs has = refl
 given_over v g (waiting c l x t ∷ gs) fs has = refl
 
 step_over : (p : Program) (fs : List Frame) (s t : State) → HasFrame t → Step p s t → Step p (over fs s) (over fs t)
-step_over p fs (state g []) t has h = absurd h
-step_over p fs (state g (waiting q l x r ∷ gs)) t has h = absurd h
 step_over p fs (state g (frame q l r ∷ gs)) t has h =
     (step_kinds p q v r (gs ++ fs) (over fs t)).1
     (elim ((step_kinds p q v r gs t).0 h) [
@@ -61,6 +58,7 @@ step_over p fs (state g (frame q l r ∷ gs)) t has h =
   where
     v : Valuation
     v = record { globals = g; places = l }
+step_over p fs _ t has h = absurd h
 
 steps_over : (p : Program) (fs : List Frame) (n : ℕ) (s t : State) → HasFrame t → AfterSteps p n s (λ u. u ≡ t)
     → Runs p (over fs s) (over fs t)
@@ -93,8 +91,3 @@ pub given_caller : (q : ℕ) (v : Valuation) (x : Option Place) (t : Code) (fs :
     ≡ state (resumed_with x v b).globals (frame q (resumed_with x v b).places t ∷ fs)
 given_caller q v None t fs b = refl
 given_caller q v (Some x) t fs b = refl
-
--- a flow, over any callers
-pub flowing : (p : Program) (q : ℕ) (v v' : Valuation) (r r' : Code) (fs : List Frame) → Flow p q v r v' r' →
-    Step p (state v.globals (frame q v.places r ∷ fs)) (state v'.globals (frame q v'.places r' ∷ fs))
-flowing p q v v' r r' fs flow = (flow_over_callers p q v v' r r' fs).0 flow

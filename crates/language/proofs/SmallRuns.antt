@@ -121,10 +121,8 @@ sound_step _ _ at_end P f = (_, _, gone, f)
 sound_step _ _ gone P f = absurd f
 
 sound_passes : (g : List Bool) (stack : List Frame) → Sound g stack → Fails (state g stack) → ⊥
-sound_passes _ _ (at_write b) f = f
 sound_passes _ _ at_check f = grind (arith, f)
-sound_passes _ _ at_end f = f
-sound_passes _ _ gone f = f
+sound_passes _ _ _ f = f
 
 pub checked_write_holds : (k : ℕ) → Unsafe checked_write k → ⊥
 checked_write_holds k = never_unsafe checked_write Sound sound_step sound_passes 0 refl (at_write false) k

@@ -51,8 +51,6 @@ given_stand p v g (waiting c l x t ∷ fs) at = at
 
 -- a step from a state whose frames all stand leads to such a state
 steps_stand : (p : Program) (s : State) (P : State → Type 0) → Standing p s → StepsTo p s P → (u : State) × Standing p u × P u
-steps_stand p (state g []) P at h = absurd h
-steps_stand p (state g (waiting c l x t ∷ fs)) P at h = absurd h
 steps_stand p (state g (frame c l done ∷ fs)) P at h = (_, given_stand p (result_of (slice_get p.routines c) l) g fs at.1, h)
 steps_stand p (state g (frame c l (one m skip t) ∷ fs)) P at h =
     (state g (frame c l t ∷ fs), (rest_follows (body_of (slice_get p.routines c)) (one m skip t) t at.0 refl, at.1), h)
@@ -95,6 +93,7 @@ steps_stand p (state g (frame c l (loop m r a t) ∷ fs)) P at (true, is, h) = (
 )
 steps_stand p (state g (frame c l (loop m r a t) ∷ fs)) P at (false, is, h) =
     (state g (frame c l t ∷ fs), (rest_follows (body_of (slice_get p.routines c)) (loop m r a t) t at.0 (inr refl), at.1), h)
+steps_stand p _ P at h = absurd h
 
 -- so does each run
 run_stands : (p : Program) (n : ℕ) (s t : State) → Standing p s → AfterSteps p n s (λ u. u ≡ t) → Standing p t

@@ -93,18 +93,9 @@ entering_steps : (p : Program) (q : ℕ) (v : Valuation) (r : Code) (fs : List F
     s ≡ state a.globals
     (frame n a.places (body_of (slice_get p.routines n)) ∷ caller_frame q v.places (target_of r) (after_first r) ∷ fs) →
     Step p (state v.globals (frame q v.places r ∷ fs)) s
-entering_steps p q v done fs s n a h e = absurd h
-entering_steps p q v (one m skip t) fs s n a h e = absurd h
-entering_steps p q v (one m (assign xs rs) t) fs s n a h e = absurd h
-entering_steps p q v (one m (assert c) t) fs s n a h e = absurd h
-entering_steps p q v (one m (assume c) t) fs s n a h e = absurd h
-entering_steps p q v (one m (goto x) t) fs s n a h e = absurd h
-entering_steps p q v (one m leave t) fs s n a h e = absurd h
 entering_steps p q v (one m (call k es) t) fs s n a (same, h) e = begun p v es (frame q v.places t) fs s k n a same h e
-entering_steps p q v (one m (leave_with u) t) fs s n a h e = absurd h
 entering_steps p q v (one m (call_for x k es) t) fs s n a (same, h) e = begun p v es (waiting q v.places x t) fs s k n a same h e
-entering_steps p q v (choose m c a' b t) fs s n a h e = absurd h
-entering_steps p q v (loop m c a' t) fs s n a h e = absurd h
+entering_steps p q v _ fs s n a h e = absurd h
 
 step_of_kind : (p : Program) (q : ℕ) (v : Valuation) (r : Code) (fs : List Frame) (s : State) → Kinds p q v r fs s →
     Step p (state v.globals (frame q v.places r ∷ fs)) s

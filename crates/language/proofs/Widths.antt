@@ -71,13 +71,10 @@ entered_breadth p g l r s e calls =
 
 -- removing a frame keeps the number of globals
 given_breadth : (v : Bool) (g : List Bool) (fs : List Frame) → breadth (given_back v g fs) ≡ length g
-given_breadth v g [] = refl
-given_breadth v g (frame c l t ∷ fs) = refl
 given_breadth v g (waiting c l x t ∷ fs) = length_globals (x ∷ []) (v ∷ []) g
+given_breadth v g _ = refl
 
 step_breadth : (p : Program) (s t : State) → Step p s t → breadth s ≡ breadth t
-step_breadth p (state g []) t h = absurd h
-step_breadth p (state g (waiting q l x r ∷ fs)) t h = absurd h
 step_breadth p (state g (frame q l r ∷ fs)) t h = by_kind ((step_kinds p q v r fs t).0 h)
   where
     v : Valuation
@@ -87,6 +84,7 @@ step_breadth p (state g (frame q l r ∷ fs)) t h = by_kind ((step_kinds p q v r
     by_kind (inl (v', r', flow, same)) = (flow_widths p q v v' r r' flow).0 ∙ sym (ap breadth same)
     by_kind (inr (inl (e, same))) = sym (given_breadth (result_of (slice_get p.routines q) l) g fs) ∙ sym (ap breadth same)
     by_kind (inr (inr (s, e, calls, same))) = entered_breadth p g l r s e calls ∙ sym (ap breadth same)
+step_breadth p _ t h = absurd h
 
 steps_breadth : (p : Program) (n : ℕ) (s t : State) → AfterSteps p n s (λ u. u ≡ t) → breadth s ≡ breadth t
 steps_breadth p zero s t e = ap breadth e

@@ -45,9 +45,7 @@ once_step _ _ gone P f = absurd f
 
 once_passes : (g : List Bool) (stack : List Frame) → Once g stack → Fails (state g stack) → ⊥
 once_passes _ _ at_check f = grind (arith, f)
-once_passes _ _ at_write f = f
-once_passes _ _ at_end f = f
-once_passes _ _ gone f = f
+once_passes _ _ _ f = f
 
 once_holds : (k : ℕ) → Unsafe run_once k → ⊥
 once_holds k = never_unsafe run_once Once once_step once_passes 0 refl at_check k
@@ -112,15 +110,8 @@ passing_step _ _ ended P f = (_, _, left, f)
 passing_step _ _ left P f = absurd f
 
 passing_passes : (g : List Bool) (stack : List Frame) → Passing g stack → Fails (state g stack) → ⊥
-passing_passes _ _ first_asked f = f
-passing_passes _ _ first_entered f = f
-passing_passes _ _ first_written f = f
-passing_passes _ _ second_asked f = f
-passing_passes _ _ second_entered f = f
-passing_passes _ _ second_written f = f
 passing_passes _ _ checked f = grind (arith, f)
-passing_passes _ _ ended f = f
-passing_passes _ _ left f = f
+passing_passes _ _ _ f = f
 
 pub passed_values_hold : (k : ℕ) → Unsafe passed_values k → ⊥
 passed_values_hold k = never_unsafe passed_values Passing passing_step passing_passes 1 refl first_asked k
