@@ -2,6 +2,7 @@
 use Rattle.std.proofs.Common.{◌≡◌, ℕ, suc, ◌+◌, ◌≤◌, ◌||◌, Bool, true, false, cond, List, [], ◌∷◌, ◌++◌}
 use Rattle.std.proofs.Common.{length, map, Option, Some, None, option_map, slice_get, sym, ◌∙◌, ap, subst, arith, length-append}
 use Rattle.std.proofs.lemmas.List.{length-map}
+use Rattle.std.proofs.lemmas.Bool.{or_left, or_right}
 use Rattle.std.proofs.lemmas.Option.{slice_get-map}
 use Rattle.language.specs.Tree.{Name, Expression, const, var, negation, two, RightSide, any, value, Simple, Mark, Block}
 use Rattle.language.specs.Tree.{done, one, choose, loop, Procedure, ThreadLine, Tree}
@@ -10,11 +11,10 @@ use Rattle.language.specs.Rest.{Label, Code, has_label, first_of_two, join, rest
 use Rattle.language.specs.Step.{Routine, AtRoutine, AtRest}
 use Rattle.language.specs.Resolve.{number_of, Scope, place_of, scope_of, resolve_expression, resolve_side}
 use Rattle.language.specs.Resolve.{resolve_simple, resolve_block, gives_value, routine_of, meaning_of}
-use Rattle.language.proofs.Giving.{or_left, or_right}
 use Rattle.language.specs.Sequential.{statements, marked, numbered, numbered_routine, sequential_of}
 use Rattle.language.specs.Parts.{plain, assigns, targets_of, sides_of, test_of, arguments_of, callee_of, gives, jump_of}
 use Rattle.resolved.specs.There.{IsThere, names}
-use Rattle.resolved.specs.Statements.{Statement, statements_of, variables_of, variables_of_side, variables_of_sides}
+use Rattle.resolved.specs.Statements.{statements_of, variables_of, variables_of_side, variables_of_sides}
 use Rattle.resolved.specs.Statements.{variables_of_test, variables_of_all}
 use Rattle.resolved.specs.Resolves.{IsPlaceIn, StatementResolves, Resolves}
 use Rattle.resolved.proofs.Each.{each_left, each_right}
@@ -50,20 +50,14 @@ module _ (t : Tree) (p : Procedure) where
   expression_in_scope (const b) h = tt
   expression_in_scope (var x) h = in_scope (place_of s x) h.0
   expression_in_scope (negation e) h = expression_in_scope e h
-  expression_in_scope (two o a b) h = (
-    expression_in_scope a (each_left Placed (variables_of a) (variables_of b) h),
-    expression_in_scope b
-        (each_right Placed (variables_of a) (variables_of b) h),
-  )
+  expression_in_scope (two o a b) h =
+      (expression_in_scope a (each_left _ (variables_of a) _ h), expression_in_scope b (each_right _ (variables_of a) _ h))
 
   arguments_in_scope : (es : List (Expression Name)) → AllByRecursion Placed (variables_of_all es)
       → AreInScope n own (map (resolve_expression s) es)
   arguments_in_scope [] h = tt
-  arguments_in_scope (e ∷ es) h = (
-    expression_in_scope e (each_left Placed (variables_of e) (variables_of_all es) h),
-    arguments_in_scope es
-        (each_right Placed (variables_of e) (variables_of_all es) h),
-  )
+  arguments_in_scope (e ∷ es) h =
+      (expression_in_scope e (each_left _ (variables_of e) _ h), arguments_in_scope es (each_right _ (variables_of e) _ h))
 
   side_in_scope : (r : RightSide Name) → AllByRecursion Placed (variables_of_side r) → SideInScope n own (resolve_side s r)
   side_in_scope any h = tt
@@ -72,11 +66,8 @@ module _ (t : Tree) (p : Procedure) where
   sides_in_scope : (rs : List (RightSide Name)) → AllByRecursion Placed (variables_of_sides rs)
       → SidesInScope n own (map (resolve_side s) rs)
   sides_in_scope [] h = tt
-  sides_in_scope (r ∷ rs) h = (
-    side_in_scope r (each_left Placed (variables_of_side r) (variables_of_sides rs) h),
-    sides_in_scope rs
-        (each_right Placed (variables_of_side r) (variables_of_sides rs) h),
-  )
+  sides_in_scope (r ∷ rs) h =
+      (side_in_scope r (each_left _ (variables_of_side r) _ h), sides_in_scope rs (each_right _ (variables_of_side r) _ h))
 
   room : (o : Option Procedure) (es : List (Expression Name)) → IsThere o (λ r. length r.formals ≡ length es)
       → AtRoutine (option_map (routine_of t) o) (λ r. length (map (resolve_expression s) es) ≤ r.places)
@@ -146,25 +137,20 @@ module _ (t : Tree) (p : Procedure) where
     block_complete k h.1 (λ is. within (or_right (gives (plain c)) (gives_value k) is)),
   )
   block_complete (choose m r a b k) h within =
-      let P : Statement → Type 0 = StatementResolves t p in
-      let rest : AllByRecursion P (statements_of b ++ statements_of k) =
-      each_right P (statements_of a) (statements_of b ++ statements_of k) h.1 in (
-        side_in_scope r (each_left Placed (variables_of_side r) [] h.0.variables),
-        block_complete a (each_left P (statements_of a) (statements_of b ++ statements_of k) h.1)
+      let rest = each_right _ (statements_of a) _ h.1 in (
+        side_in_scope r (each_left _ (variables_of_side r) _ h.0.variables),
+        block_complete a (each_left _ (statements_of a) _ h.1)
             (λ is. within (or_left (gives_value a) (gives_value b || gives_value k) is)),
-        block_complete b (each_left P (statements_of b) (statements_of k) rest)
+        block_complete b (each_left _ (statements_of b) _ rest)
             (λ is. within (or_right (gives_value a) (gives_value b || gives_value k) (or_left (gives_value b) (gives_value k) is))),
-        block_complete k (each_right P (statements_of b) (statements_of k) rest)
+        block_complete k (each_right _ (statements_of b) _ rest)
             (λ is. within (or_right (gives_value a) (gives_value b || gives_value k) (or_right (gives_value b) (gives_value k) is))),
       )
-  block_complete (loop m r a k) h within =
-      let P : Statement → Type 0 = StatementResolves t p in (
-        side_in_scope r (each_left Placed (variables_of_side r) [] h.0.variables),
-        block_complete a (each_left P (statements_of a) (statements_of k) h.1)
-            (λ is. within (or_left (gives_value a) (gives_value k) is)),
-        block_complete k (each_right P (statements_of a) (statements_of k) h.1)
-            (λ is. within (or_right (gives_value a) (gives_value k) is)),
-      )
+  block_complete (loop m r a k) h within = (
+    side_in_scope r (each_left _ (variables_of_side r) _ h.0.variables),
+    block_complete a (each_left _ (statements_of a) _ h.1) (λ is. within (or_left (gives_value a) (gives_value k) is)),
+    block_complete k (each_right _ (statements_of a) _ h.1) (λ is. within (or_right (gives_value a) (gives_value k) is)),
+  )
 
 -- there is a rest
 abbrev IsRest : Option Code → Type 0

@@ -60,3 +60,11 @@ pub places_few : {A : Type 0} (program : Program A) (i : ℕ) (p : Proc A) → i
 places_few program i p lt is narrow =
     subst (λ n. n ≤ most_places) (width_counted program p)
     (each_at (λ q. width (tree_of program) q ≤ most_places) program.procs.items i p lt is narrow)
+
+-- the same with the result counted as a number
+pub width_few : {A : Type 0} (program : Program A) (i : ℕ) (p : Proc A) (b : Bool) → b ≡ gives_value (block_of p.body.items)
+    → i < length program.procs.items → p ≡ get_or program.procs.items i p → AllNarrow (tree_of program)
+    → (length program.globals.items + (length p.formals.items + length p.locals.items)) + bool_byte b ≤ most_places
+width_few program i p b given lt is narrow =
+    let counted = as_number b (gives_value (block_of p.body.items)) given in
+    omega (arith, counted, places_few program i p lt is narrow)

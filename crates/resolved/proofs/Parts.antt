@@ -1,6 +1,6 @@
 -- To resolve a statement is to resolve its parts.
 use Rattle.std.proofs.Common.{◌≡◌, map, option_map, refl}
-use Rattle.language.specs.Tree.{Name, Simple, skip, assign, assert, assume, goto, leave, call, leave_with, call_for}
+use Rattle.language.specs.Tree.{Name, Simple, skip}
 use Rattle.language.specs.Parts.{plain, assigns, targets_of, sides_of, test_of, arguments_of, callee_of, gives, jump_of}
 use Rattle.language.specs.Resolve.{number_of, Scope, place_of, resolve_expression, resolve_side, resolve_simple}
 
@@ -17,19 +17,5 @@ pub record PartsResolve (s : Scope) (c : Simple Name Name Name) : Type 0 where
 pub parts_resolve : (s : Scope) (c : Simple Name Name Name) → PartsResolve s c
 parts_resolve s skip =
     record { assigns = refl; targets = refl; sides = refl; test = refl; arguments = refl; callee = refl; gives = refl; jump = refl }
-parts_resolve s (assign xs rs) =
-    record { assigns = refl; targets = refl; sides = refl; test = refl; arguments = refl; callee = refl; gives = refl; jump = refl }
-parts_resolve s (assert r) =
-    record { assigns = refl; targets = refl; sides = refl; test = refl; arguments = refl; callee = refl; gives = refl; jump = refl }
-parts_resolve s (assume r) =
-    record { assigns = refl; targets = refl; sides = refl; test = refl; arguments = refl; callee = refl; gives = refl; jump = refl }
-parts_resolve s (goto l) =
-    record { assigns = refl; targets = refl; sides = refl; test = refl; arguments = refl; callee = refl; gives = refl; jump = refl }
-parts_resolve s leave =
-    record { assigns = refl; targets = refl; sides = refl; test = refl; arguments = refl; callee = refl; gives = refl; jump = refl }
-parts_resolve s (call p es) =
-    record { assigns = refl; targets = refl; sides = refl; test = refl; arguments = refl; callee = refl; gives = refl; jump = refl }
-parts_resolve s (leave_with e) =
-    record { assigns = refl; targets = refl; sides = refl; test = refl; arguments = refl; callee = refl; gives = refl; jump = refl }
-parts_resolve s (call_for x p es) =
+parts_resolve s _ =
     record { assigns = refl; targets = refl; sides = refl; test = refl; arguments = refl; callee = refl; gives = refl; jump = refl }

@@ -4,7 +4,7 @@ use Rattle.std.proofs.Common.{slice_get, option_map, inl, inr, refl, sym, ◌∙
 use Rattle.std.proofs.lemmas.List.{length-map}
 use Rattle.std.proofs.lemmas.Option.{none-some, same_Some}
 use Rattle.std.specs.List.{AllByRecursion}
-use Rattle.language.specs.Tree.{Expression, RightSide, Simple, skip, assign, assert, assume, goto, leave, call, leave_with, call_for}
+use Rattle.language.specs.Tree.{Expression, RightSide, Simple, call, call_for}
 use Rattle.language.specs.Tree.{done, one, choose, loop, Procedure, Tree}
 use Rattle.language.specs.Value.{Place}
 use Rattle.language.specs.Rest.{Label, Code, join, called_by}
@@ -34,9 +34,7 @@ module _ (S : Simple Place ℕ Label → Type 0) (R : RightSide Place → Type 0
   -- what each statement of a block has, the first of each of its rests has
   heads : (b k r : Code) → Throughout S R b → Member r (rests b k) → Heads r
   heads done k r h f = absurd f
-  heads (one m s t) k r h (inl e) = subst Heads (sym e) h.0
   heads (one m s t) k r h (inr f) = heads t k r h.1 f
-  heads (choose m c a b t) k r h (inl e) = subst Heads (sym e) h.0
   heads (choose m c a b t) k r h (inr f) =
       elim (member_append r (rests a (join t k)) (rests b (join t k) ++ rests t k) f) [
         | inl g ↦ heads a (join t k) r h.1 g
@@ -45,36 +43,27 @@ module _ (S : Simple Place ℕ Label → Type 0) (R : RightSide Place → Type 0
           | inr i ↦ heads t k r h.3 i
         ]
       ]
-  heads (loop m c a t) k r h (inl e) = subst Heads (sym e) h.0
   heads (loop m c a t) k r h (inr f) =
       elim (member_append r (rests a (loop m c a (join t k))) (rests t k) f) [
         | inl g ↦ heads a (loop m c a (join t k)) r h.1 g
         | inr g ↦ heads t k r h.2 g
       ]
+  heads _ k r h (inl e) = subst Heads (sym e) h.0
 
 -- a complete call is of a procedure that is there, with a place for each argument
 call_fits : (rs : List Routine) (globals : ℕ) (own : Routine) (r : Code) (n : ℕ) (es : List (Expression Place))
     → called_by r ≡ Some (n, es)
     → Heads (SimpleComplete rs globals own) (SideInScope globals own.places) r
     → AtRoutine (slice_get rs n) (λ z. length es ≤ z.places)
-call_fits rs globals own done n es e h = absurd (none-some (n, es) e)
-call_fits rs globals own (one m skip t) n es e h = absurd (none-some (n, es) e)
-call_fits rs globals own (one m (assign xs us) t) n es e h = absurd (none-some (n, es) e)
-call_fits rs globals own (one m (assert c) t) n es e h = absurd (none-some (n, es) e)
-call_fits rs globals own (one m (assume c) t) n es e h = absurd (none-some (n, es) e)
-call_fits rs globals own (one m (goto x) t) n es e h = absurd (none-some (n, es) e)
-call_fits rs globals own (one m leave t) n es e h = absurd (none-some (n, es) e)
 call_fits rs globals own (one m (call k ks) t) n es e h =
     subst (λ (c : ℕ × List (Expression Place)). AtRoutine (slice_get rs c.0) (λ z. length c.1 ≤ z.places))
     (same_Some (k, ks) (n, es) e)
     h.scope.callee
-call_fits rs globals own (one m (leave_with v) t) n es e h = absurd (none-some (n, es) e)
 call_fits rs globals own (one m (call_for x k ks) t) n es e h =
     subst (λ (c : ℕ × List (Expression Place)). AtRoutine (slice_get rs c.0) (λ z. length c.1 ≤ z.places))
     (same_Some (k, ks) (n, es) e)
     h.scope.callee
-call_fits rs globals own (choose m c a b t) n es e h = absurd (none-some (n, es) e)
-call_fits rs globals own (loop m c a t) n es e h = absurd (none-some (n, es) e)
+call_fits rs globals own _ n es e h = absurd (none-some (n, es) e)
 
 -- if a program is complete, each call in a body has a place for each argument
 complete_fit : (p : Program) → IsComplete p → ArgumentsFit p

@@ -5,7 +5,7 @@ use Rattle.language.specs.Resolve.{gives_value}
 use Rattle.resolved.specs.There.{IsThere}
 use Rattle.trees.specs.Trees.{tree_of, proc_of, block_of}
 use Rattle.resolved.specs.Narrow.{width}
-use Rattle.resolved.proofs.Counted.{proc_there, as_number, width_counted, places_few}
+use Rattle.resolved.proofs.Counted.{proc_there, as_number, width_counted, places_few, width_few}
 use Rattle.resolved.proofs.sequential.Sequential.width.Goals as goal
 
 pub overflow_add-result : goal.overflow_add-result
@@ -17,22 +17,20 @@ overflow_add-result g c =
 
 pub overflow_add-result-2 : goal.overflow_add-result-2
 overflow_add-result-2 g c =
-    let given =
-    as_number c.give_value-given.result _ (c.give_value-given.ensures ∙ ap (λ l. gives_value (block_of l)) c.deref.ensures.value) in
     omega (
       arith,
-      given,
-      places_few c.args.self.now.program c.args.procedure c.index-proc.result.now c.requires c.index-proc.ensures c.args.self.now.narrow,
+      width_few c.args.self.now.program c.args.procedure c.index-proc.result.now c.give_value-given.result
+          (c.give_value-given.ensures ∙ ap (λ l. gives_value (block_of l)) c.deref.ensures.value) c.requires c.index-proc.ensures
+          c.args.self.now.narrow,
     )
 
 pub overflow_cast-result : goal.overflow_cast-result
 overflow_cast-result g c =
-    let given =
-    as_number c.give_value-given.result _ (c.give_value-given.ensures ∙ ap (λ l. gives_value (block_of l)) c.deref.ensures.value) in
     omega (
       arith,
-      given,
-      places_few c.args.self.now.program c.args.procedure c.index-proc.result.now c.requires c.index-proc.ensures c.args.self.now.narrow,
+      width_few c.args.self.now.program c.args.procedure c.index-proc.result.now c.give_value-given.result
+          (c.give_value-given.ensures ∙ ap (λ l. gives_value (block_of l)) c.deref.ensures.value) c.requires c.index-proc.ensures
+          c.args.self.now.narrow,
     )
 
 pub returns : goal.returns
