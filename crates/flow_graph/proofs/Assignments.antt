@@ -119,24 +119,21 @@ Compiled s (w ∷ ws) [] = ⊥
 Compiled s (w ∷ ws) (k ∷ ks) = ((w.mask ≡ 2 ^ k.0) × SaysSide w.side s k.1) × Compiled s ws ks
 
 any_same : {A : Type 0} (s : Scope) (sd : CompiledSide A) (r : RightSide Name) → SaysSide sd s r → any_of sd ≡ any_in r
-any_same s side.Any any h = refl
 any_same s side.Any (value e) h = absurd h
 any_same s (side.Value f) any h = absurd h
-any_same s (side.Value f) (value e) h = refl
+any_same s _ _ h = refl
 
 pub anys_same : {A : Type 0} (s : Scope) (ws : List (Write A)) (ks : List (ℕ × RightSide Name)) → Compiled s ws ks
     → anys ws ≡ anys_in ks
 anys_same s [] [] h = refl
-anys_same s [] (k ∷ ks) h = absurd h
-anys_same s (w ∷ ws) [] h = absurd h
 anys_same s (w ∷ ws) (k ∷ ks) h = ap (λ n. n + anys ws) (any_same s w.side k.1 h.0.1)
     ∙ ap (λ n. any_in k.1 + n) (anys_same s ws ks h.1)
+anys_same s _ _ h = absurd h
 
 left_same : {A : Type 0} (s : Scope) (sd : CompiledSide A) (r : RightSide Name) (i : ℕ) → SaysSide sd s r → choice_left sd i ≡ left_of r i
-left_same s side.Any any i h = refl
 left_same s side.Any (value e) i h = absurd h
 left_same s (side.Value f) any i h = absurd h
-left_same s (side.Value f) (value e) i h = refl
+left_same s _ _ i h = refl
 
 -- ---- values after_writes to bits
 
@@ -211,20 +208,18 @@ module _ (s : Scope) (gs ls : List Bool) where
   pub got_same : {A : Type 0} (sd : CompiledSide A) (r : RightSide Name) (i : ℕ) → length gs ≡ length s.globals → SaysSide sd s r
       → side_value sd (coded (gs ++ ls)) i ≡ value_at r i
   got_same side.Any any i e h = refl
-  got_same side.Any (value x) i e h = absurd h
-  got_same (side.Value f) any i e h = absurd h
   got_same (side.Value f) (value x) i e h = h gs ls e
+  got_same _ _ i e h = absurd h
 
   run_same : {A : Type 0} (ws : List (Write A)) (ks : List (ℕ × RightSide Name)) (i m : ℕ) → length gs ≡ length s.globals
       → Compiled s ws ks → after_writes ws (coded (gs ++ ls)) i m ≡ run ks i m
   run_same [] [] i m e h = refl
-  run_same [] (k ∷ ks) i m e h = absurd h
-  run_same (w ∷ ws) [] i m e h = absurd h
   run_same (w ∷ ws) (k ∷ ks) i m e h =
       run_same ws ks (choice_left w.side i) (masked m w.mask (side_value w.side (coded (gs ++ ls)) i)) e h.1
       ∙ ap (λ j. run ks j (masked m w.mask (side_value w.side (coded (gs ++ ls)) i))) (left_same s w.side k.1 i h.0.1)
       ∙ ap (λ n. run ks (left_of k.1 i) (masked m n (side_value w.side (coded (gs ++ ls)) i))) h.0.0
       ∙ ap (λ v. run ks (left_of k.1 i) (masked m (2 ^ k.0) v)) (got_same w.side k.1 i e h.0.1)
+  run_same _ _ i m e h = absurd h
 
   -- ---- what the writes end in
 
@@ -250,8 +245,6 @@ module _ (s : Scope) (gs ls : List Bool) where
       → bit_of (run (kept ts rs) i m) k ≡ bit (put ts vs bs) k
 
   ends : (n : ℕ) (ts : List (Option ℕ)) (rs : List (RightSide Name)) (vs : List Bool) → Below n ts → Ends n ts rs vs
-  ends n [] rs vs below i m bs f len agree k = agree k refl
-  ends n (t ∷ ts) [] [] below i m bs f len agree k = agree k refl
   ends n (t ∷ ts) [] (v ∷ vs) below i m bs f len agree k = absurd f
   ends n (t ∷ ts) (r ∷ rs) [] below i m bs f len agree k = absurd f
   ends n (None ∷ ts) (r ∷ rs) (v ∷ vs) below i m bs f len agree k = ends n ts rs vs below i m bs f.1 len agree k
@@ -264,14 +257,13 @@ module _ (s : Scope) (gs ls : List Bool) where
       go false e g rest =
           rest (left_of r i) (masked m (2 ^ b) (value_at r i)) (with_bit bs b v) g.1 (length-set bs b v ∙ len)
           (agree_kept b v (value_at r i) (paired ts rs) m bs g.0 (let z : b < length bs = omega (arith, below.0, len) in z) agree) k
+  ends n _ _ _ below i m bs f len agree k = agree k refl
 
   -- ---- values and choices
 
   -- values of the right sides are those of a choice
   chosen : (ts : List (Option ℕ)) (rs : List (RightSide Name)) (vs : List Bool) → AreValues gs ls (map (resolve_side s) rs) vs
       → (i : ℕ) × (i < 2 ^ anys_in (kept ts rs)) × Fits ts rs vs i
-  chosen [] rs vs h = (0, omega arith, tt)
-  chosen (t ∷ ts) [] [] h = (0, omega arith, tt)
   chosen (t ∷ ts) [] (v ∷ vs) h = absurd h
   chosen (t ∷ ts) (r ∷ rs) [] h = absurd h
   chosen (t ∷ ts) (any ∷ rs) (v ∷ vs) h = go (lasting t (paired ts rs)) (chosen ts rs vs h.1)
@@ -291,6 +283,7 @@ module _ (s : Scope) (gs ls : List Bool) where
           × (FitsOne o (value x) v i × Fits ts rs vs (behind o (value x) i))
       go None c = (c.0, c.1, (tt, c.2))
       go (Some b) c = (c.0, omega (arith, c.1, once_more (anys_in (kept ts rs))), (h.0, c.2))
+  chosen _ _ _ h = (0, omega arith, tt)
 
   -- a value of each right side
   some_values : (rs : List (RightSide Name)) → (vs : List Bool) × AreValues gs ls (map (resolve_side s) rs) vs
@@ -329,8 +322,6 @@ module _ (s : Scope) (gs ls : List Bool) where
   -- a bit that no target has keeps its value
   untouched : (ts : List (Option ℕ)) (rs : List (RightSide Name)) (k : ℕ) → is_among k (paired ts rs) ≡ false → (i m : ℕ)
       → bit_of (run (kept ts rs) i m) k ≡ bit_of m k
-  untouched [] rs k h i m = refl
-  untouched (t ∷ ts) [] k h i m = refl
   untouched (None ∷ ts) (r ∷ rs) k h i m = untouched ts rs k h i m
   untouched (Some b ∷ ts) (r ∷ rs) k h i m = go (b == k) refl h (is_among b (paired ts rs)) (untouched ts rs k)
     where
@@ -341,6 +332,7 @@ module _ (s : Scope) (gs ls : List Bool) where
       go false e g true rest = rest g i m
       go false e g false rest = rest g (left_of r i) (masked m (2 ^ b) (value_at r i))
           ∙ masked_elsewhere m b k (value_at r i) (eqb-false b k e)
+  untouched _ _ k h i m = refl
 
   -- a number is its lowest bit and its half
   by_half : (i j : ℕ) → bit_of i 0 ≡ bit_of j 0 → i / 2 ≡ j / 2 → i ≡ j
@@ -354,8 +346,6 @@ module _ (s : Scope) (gs ls : List Bool) where
   apart : (ts : List (Option ℕ)) (rs : List (RightSide Name)) (i j m n : ℕ) → i < 2 ^ anys_in (kept ts rs)
       → j < 2 ^ anys_in (kept ts rs)
       → run (kept ts rs) i m ≡ run (kept ts rs) j n → i ≡ j
-  apart [] rs i j m n h k same = omega (arith, h, k)
-  apart (t ∷ ts) [] i j m n h k same = omega (arith, h, k)
   apart (None ∷ ts) (r ∷ rs) i j m n h k same = apart ts rs i j m n h k same
   apart (Some b ∷ ts) (r ∷ rs) i j m n h k same = go (is_among b (paired ts rs)) refl r h k same (apart ts rs)
     where
@@ -377,6 +367,7 @@ module _ (s : Scope) (gs ls : List Bool) where
       go false e (value x) h k same rest =
           rest i j (masked m (2 ^ b) (value_at (value x) i)) (masked n (2 ^ b) (value_at (value x) j))
           (omega (arith, h, once_more (anys_in (kept ts rs)))) (omega (arith, k, once_more (anys_in (kept ts rs)))) same
+  apart _ _ i j m n h k same = omega (arith, h, k)
 
 -- ---- how many writes there are
 
@@ -401,8 +392,6 @@ module _ {R : Type 0} where
 
   others_differ : (ts : List (Option ℕ)) (rs : List R) (b : ℕ) → is_among b (paired ts rs) ≡ false
       → AllByRecursion (λ c. eqb b c ≡ false) (bits_of (kept ts rs))
-  others_differ [] rs b h = tt
-  others_differ (t ∷ ts) [] b h = tt
   others_differ (None ∷ ts) (r ∷ rs) b h = others_differ ts rs b h
   others_differ (Some c ∷ ts) (r ∷ rs) b h = go (c == b) refl h (is_among c (paired ts rs)) (others_differ ts rs b)
     where
@@ -412,11 +401,10 @@ module _ {R : Type 0} where
       go true e g y rest = absurd (true≢false g)
       go false e g true rest = rest g
       go false e g false rest = (not_eqb b c (eqb-false c b e), rest g)
+  others_differ _ _ b h = tt
 
   distinct : (ts : List (Option ℕ)) (rs : List R) → IsDistinct eqb (bits_of (kept ts rs))
   unfolding IsDistinct
-  distinct [] rs = tt
-  distinct (t ∷ ts) [] = tt
   distinct (None ∷ ts) (r ∷ rs) = distinct ts rs
   distinct (Some b ∷ ts) (r ∷ rs) = go (is_among b (paired ts rs)) refl (distinct ts rs)
     where
@@ -424,11 +412,10 @@ module _ {R : Type 0} where
           → IsDistinct eqb (bits_of (kept_one (cond y None (Some b)) r (kept ts rs)))
       go true e rest = rest
       go false e rest = IsDistinct-cons eqb b (bits_of (kept ts rs)) (others_differ ts rs b e) rest
+  distinct _ _ = tt
 
   all_below : (n : ℕ) (ts : List (Option ℕ)) (rs : List R) (q : ℕ) → Below n ts
       → list_any (eqb q) (bits_of (kept ts rs)) ≡ true → q < n
-  all_below n [] rs q below h = absurd (false≢true h)
-  all_below n (t ∷ ts) [] q below h = absurd (false≢true h)
   all_below n (None ∷ ts) (r ∷ rs) q below h = all_below n ts rs q below h
   all_below n (Some b ∷ ts) (r ∷ rs) q below h = go (is_among b (paired ts rs)) h (all_below n ts rs q below.1)
     where
@@ -441,6 +428,7 @@ module _ {R : Type 0} where
           → (list_any (eqb q) (bits_of (kept ts rs)) ≡ true → q < n) → q < n
       go true g rest = rest g
       go false g rest = one (eqb q b) refl g rest
+  all_below n _ _ q below h = absurd (false≢true h)
 
 -- no more are kept than there are variables
 pub anys_few : (n : ℕ) (ts : List (Option ℕ)) (rs : List (RightSide Name)) → Below n ts → anys_in (kept ts rs) ≤ n
@@ -489,9 +477,6 @@ bits_same s (x ∷ xs) = ap (λ l. bit_of_name s x ∷ l) (bits_same s xs)
 -- what is after_writes to places is after_writes to their bits
 pub written_bits : (n : ℕ) (ps : List Place) (vs gs ls : List Bool) → length gs ≡ n
     → written_globals ps vs gs ++ written_locals ps vs ls ≡ put (map (bit_of_place n) ps) vs (gs ++ ls)
-written_bits n [] vs gs ls e = refl
-written_bits n (global i ∷ ps) [] gs ls e = refl
-written_bits n (local i ∷ ps) [] gs ls e = refl
 written_bits n (local i ∷ ps) (v ∷ vs) gs ls e =
     written_bits n ps vs gs (with_bit ls i v) e
     ∙ ap (put (map (bit_of_place n) ps) vs)
@@ -509,6 +494,7 @@ written_bits n (global i ∷ ps) (v ∷ vs) gs ls e =
     go false is rest = rest
         ∙ ap (λ l. put (map (bit_of_place n) ps) vs (l ++ ls))
         (set_past gs i v (let least = ltb-false i n is in omega (arith, least, e)))
+written_bits n _ _ gs ls e = refl
 
 -- ---- the law
 
@@ -574,11 +560,9 @@ later_paired : {X Y Z R : Type 0} (f : Z → Option ℕ) (g : X → Z) (h : Y �
     → n ≡ min (length xs) (length ys)
     → map f (map g (take n xs)) ≡ paired (map f (map g xs)) (map h ys)
 later_paired f g h [] ys zero e = refl
-later_paired f g h [] ys (suc n) e = absurd (omega (arith, e))
 later_paired f g h (x ∷ xs) [] zero e = refl
-later_paired f g h (x ∷ xs) [] (suc n) e = absurd (omega (arith, e))
-later_paired f g h (x ∷ xs) (y ∷ ys) zero e = absurd (omega (arith, e))
 later_paired f g h (x ∷ xs) (y ∷ ys) (suc n) e = ap (λ l. f (g x) ∷ l) (later_paired f g h xs ys n (omega (arith, e)))
+later_paired f g h _ _ _ e = absurd (omega (arith, e))
 
 kept_step : {X Y Z R : Type 0} (f : Z → Option ℕ) (g : X → Z) (h : Y → R) (xs : List X) (ys : List Y) (at n : ℕ) (x : X) (y : Y)
     → at < length xs → at < length ys → x ≡ get_or xs at x → y ≡ get_or ys at y
@@ -639,11 +623,9 @@ kept_none : {X Y Z R : Type 0} (f : Z → Option ℕ) (g : X → Z) (h : Y → R
     → n ≡ min (length xs) (length ys)
     → kept (map f (map g (drop n xs))) (map h (drop n ys)) ≡ []
 kept_none f g h [] ys zero e = refl
-kept_none f g h [] ys (suc n) e = absurd (omega (arith, e))
 kept_none f g h (x ∷ xs) [] zero e = refl
-kept_none f g h (x ∷ xs) [] (suc n) e = absurd (omega (arith, e))
-kept_none f g h (x ∷ xs) (y ∷ ys) zero e = absurd (omega (arith, e))
 kept_none f g h (x ∷ xs) (y ∷ ys) (suc n) e = kept_none f g h xs ys n (omega (arith, e))
+kept_none f g h _ _ _ e = absurd (omega (arith, e))
 
 -- if no target is left, the writes are all
 pub all_written : {N A : Type 0} (s : Scope) (xs : List (syntax.Name N)) (ys : List (Rhs N)) (n : ℕ) (ws : List (Write A))

@@ -11,7 +11,7 @@ use Rattle.flow_graph.specs.Flows.{last_of, next_of}
 use Rattle.flow_graph.specs.declared.assignment.Assignment.{Assignment}
 use Rattle.flow_graph.specs.declared.assignment.Write.{Write}
 use Rattle.flow_graph.specs.declared.flow.Flow.{Flow}
-use Rattle.flow_graph.specs.declared.flow.Flow.TheVariants.{Assign, Test, Assume, Call, Return}
+use Rattle.flow_graph.specs.declared.flow.Flow.TheVariants.{Assign, Test}
 use Rattle.flow_graph.specs.declared.side.CompiledSide.{CompiledSide}
 use Rattle.flow_graph.specs.declared.side.CompiledSide.TheVariants as side
 use Rattle.flow_graph.proofs.Assignments.{or_one, or_then_xor}
@@ -109,6 +109,4 @@ next_alike (Assign a to) u v i m n w more from_u from_v =
     ap (λ z. Some (to, z)) (assigned_alike a u v i (by_u ∙ sym by_v))
 next_alike (Test side.Any x y) u v i m n w more from_u from_v = absurd (omega (arith, more))
 next_alike (Test (side.Value f) x y) u v i m n w more from_u from_v = absurd (omega (arith, more))
-next_alike (Assume test x) u v i m n w more from_u from_v = absurd (omega (arith, more))
-next_alike (Call call) u v i m n w more from_u from_v = absurd (omega (arith, more))
-next_alike Return u v i m n w more from_u from_v = absurd (omega (arith, more))
+next_alike _ u v i m n w more from_u from_v = absurd (omega (arith, more))

@@ -1,10 +1,10 @@
 -- Postfix code put together.
-use Rattle.std.proofs.Common.{◌≡◌, ◌≢◌, ◌<◌, ◌≤◌, ℕ, suc, ◌+◌, ◌-◌, ◌^◌, min, max, ◌==◌, nat_lt, cond, Bool, true, false, List, []}
+use Rattle.std.proofs.Common.{◌≡◌, ◌<◌, ◌≤◌, ℕ, suc, ◌+◌, ◌-◌, ◌^◌, min, max, ◌==◌, nat_lt, cond, Bool, true, false, List, []}
 use Rattle.std.proofs.Common.{◌∷◌, ◌++◌, length, length-append, refl, sym, ◌∙◌, ap, subst, arith, append_assoc, append-nil, pow-suc}
 use Rattle.std.proofs.Common.{Option, Some, None}
 use Rattle.std.proofs.Math.Pow.{pow_mono}
-use Rattle.std.proofs.lemmas.Bool.{eq-eqb, ne_eqb, eqb-true, eqb-false, ltb-true, ltb-false}
-use Rattle.language.specs.Tree.{Operator, Expression, const, var, negation, two}
+use Rattle.std.proofs.lemmas.Bool.{eqb-true, eqb-false, ltb-true, ltb-false}
+use Rattle.language.specs.Tree.{Expression, const, var, negation, two}
 use Rattle.trees.specs.Trees.{operator_of}
 use Rattle.trees.specs.declared.tree.Op.{Op}
 use Rattle.flow_graph.specs.Located.{worth, read_of}
@@ -141,22 +141,6 @@ worth_alone f e old new p none =
 pub need_read : (o : Option ℕ) → need (read_of o) ≡ 1
 need_read None = refl
 need_read (Some b) = refl
-
--- two operands that need as much as each other together need one more, others as much as the one that needs
--- more
-module _ (o : Operator) (a b : Expression ℕ) (n m whole : ℕ) (left : n ≡ need a) (right : m ≡ need b) where
-  pub need_same : n ≡ m → whole ≡ min (n + 1) 4294967295 → whole ≡ need (two o a b)
-  need_same same is =
-      is
-      ∙ ap (λ k. min (k + 1) 4294967295) left
-      ∙ ap (λ f. cond f (min (need a + 1) 4294967295) (max (need a) (need b))) (sym (eq-eqb _ _ (sym left ∙ same ∙ right)))
-
-  pub need_other : n ≢ m → whole ≡ max n m → whole ≡ need (two o a b)
-  need_other other is =
-      is
-      ∙ ap (λ k. max k m) left
-      ∙ ap (max (need a)) right
-      ∙ ap (λ f. cond f (min (need a + 1) 4294967295) (max (need a) (need b))) (sym (ne_eqb _ _ (λ same. other (left ∙ same ∙ sym right))))
 
 -- a bit that is read, and a constant, are by themselves the value of an expression
 pub bit_read : (b : ℕ) → b < most_places → Evaluates (var b) (Read b ∷ [])

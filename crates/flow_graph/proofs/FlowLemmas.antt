@@ -1,13 +1,13 @@
 -- Flows that do what happens at nodes.
 use Rattle.std.proofs.Common.{◌≡◌, ◌≤◌, ◌<◌, ℕ, zero, suc, ◌+◌, Bool, true, false, cond, Option}
-use Rattle.std.proofs.Common.{Some, None, List, [], ◌∷◌}
+use Rattle.std.proofs.Common.{Some, List, [], ◌∷◌}
 use Rattle.std.proofs.Common.{◌++◌, length, map, refl, sym, ◌∙◌, ap, subst, arith, ◌*◌, ◌^◌, ◌⊎◌, inl, inr}
 use Rattle.std.proofs.lemmas.List.{length-map}
 use Rattle.std.proofs.Math.Nat.{mul_comm}
 use Rattle.std.proofs.lemmas.Option.{none-some, same_Some}
 use Rattle.std.proofs.lemmas.Bool.{true≢false}
 use Rattle.language.specs.Tree.{Name, Expression, RightSide, any, value}
-use Rattle.language.specs.Value.{Place, global, local, value_of, values_of, IsValue, written_globals, written_locals}
+use Rattle.language.specs.Value.{Place, local, value_of, values_of, IsValue, written_globals, written_locals}
 use Rattle.language.specs.Step.{Routine}
 use Rattle.language.specs.Resolve.{Scope, place_of, resolve_expression, resolve_side}
 use Rattle.language.specs.Sequential.{Valuation}
@@ -166,14 +166,13 @@ chosen_small false = omega arith
 
 -- two choices that lead to one of two points are the same
 one_choice : (i j a b : ℕ) → (a ≡ b → ⊥) → i ≤ 1 → j ≤ 1 → cond (bit_of i 0) a b ≡ cond (bit_of j 0) a b → i ≡ j
-one_choice zero zero a b ne le lj e = refl
 one_choice zero (suc zero) a b ne le lj e =
     absurd (ne (sym (ap (λ x. cond x a b) (sym (first_bit false 0)) ∙ e ∙ ap (λ x. cond x a b) (first_bit true 0))))
 one_choice (suc zero) zero a b ne le lj e =
     absurd (ne (ap (λ x. cond x a b) (sym (first_bit true 0)) ∙ e ∙ ap (λ x. cond x a b) (first_bit false 0)))
-one_choice (suc zero) (suc zero) a b ne le lj e = refl
 one_choice (suc (suc i)) j a b ne le lj e = absurd (omega (arith, le))
 one_choice i (suc (suc j)) a b ne le lj e = absurd (omega (arith, lj))
+one_choice _ _ a b ne le lj e = refl
 
 pub does_tests : {A : Type 0} (sd : CompiledSide A) (r : RightSide Name) (s : Scope) (gives : Bool) (j k : ℕ) → (j ≡ k → ⊥)
     → SaysSide sd s r →
@@ -195,8 +194,6 @@ does_tests side.Any any s gives j k ne d = record {
   enters = λ v s e n wide. (λ h. absurd (none-some _ h), λ h. absurd h.1);
   resumes = λ v x s e n wide count h. absurd (none-some _ h);
 }
-does_tests side.Any (value e) s gives j k ne d = absurd d
-does_tests (side.Value f) any s gives j k ne d = absurd d
 does_tests (side.Value f) (value e) s gives j k ne d = record {
   leads = λ v n w wide. (
     λ h.
@@ -216,6 +213,7 @@ does_tests (side.Value f) (value e) s gives j k ne d = record {
   enters = λ v s e n wide. (λ h. absurd (none-some _ h), λ h. absurd h.1);
   resumes = λ v x s e n wide count h. absurd (none-some _ h);
 }
+does_tests _ _ s gives j k ne d = absurd d
 
 -- a flow on which no run continues does a call that no run makes
 pub does_no_call : {A : Type 0} (f : Flow A) (x : Option Place) (p : ℕ) (es : List (Expression Place)) (k : ℕ) (w : Widths) →
@@ -257,9 +255,8 @@ entry_code fs s es v all e =
 
 -- a target has a place if there are more
 target_within : (n k : ℕ) (x : Option Place) → n ≤ k → HasTarget n x → HasTarget k x
-target_within n k None le has = tt
-target_within n k (Some (global i)) le has = tt
 target_within n k (Some (local i)) le has = omega (arith, le, has)
+target_within n k _ le has = tt
 
 pub does_calls : {A : Type 0} (c : Call A) (x : Option Place) (p : ℕ) (es : List (Expression Place)) (s : Scope)
     (gives : Bool) → c.callee ≡ p → c.globals ≡ length s.globals → p < length s.procedures → AllSay c.arguments.items s es →

@@ -4,7 +4,7 @@ use Rattle.std.proofs.Common.{None, option_map, List, [], ◌∷◌, ◌++◌, l
 use Rattle.std.proofs.Common.{map, slice_get, inl, inr, refl, sym, ◌∙◌, ap, subst, arith, ◌*◌, ◌⊎◌, get_or}
 use Rattle.std.proofs.lemmas.List.{length-map, append_assoc}
 use Rattle.std.proofs.lemmas.Option.{none-some, same_Some, slice_get-map, slice_get-get_or, slice_get_within}
-use Rattle.language.specs.Tree.{Expression, skip, assign, assert, assume, goto, leave, call, leave_with, call_for, done, one, choose, loop}
+use Rattle.language.specs.Tree.{Expression, goto, call, call_for, done, one}
 use Rattle.language.specs.Tree.{Procedure}
 use Rattle.language.specs.Value.{Place, values_of}
 use Rattle.language.specs.Rest.{Code, rest_from, called_by, target_of}
@@ -50,9 +50,8 @@ all_do_at (f ∷ fs) (x ∷ ns) w (suc i) n a e = all_do_at fs ns w i n a.1 e
 
 all_do_length : {A : Type 0} (fs : List (Flow A)) (ns : List Node) (w : Widths) → AllDo fs ns w → length fs ≡ length ns
 all_do_length [] [] w a = refl
-all_do_length [] (n ∷ ns) w a = absurd a
-all_do_length (f ∷ fs) [] w a = absurd a
 all_do_length (f ∷ fs) (n ∷ ns) w a = ap suc (all_do_length fs ns w a.1)
+all_do_length _ _ w a = absurd a
 
 -- a member has a place
 member_place : {A : Type 0} (x : A) (xs : List A) → Member x xs → (i : ℕ) × (slice_get xs i ≡ Some x)
@@ -86,18 +85,10 @@ module _ (routine : Routine) (v : Valuation) (s n : ℕ) (args : List Bool) wher
   asks_shape : (r : Code) → NodeCalls (node_of routine r) v s args n →
       (es : List (Expression Place)) × (called_by r ≡ Some (s, es)) × (args ≡ values_of v.globals v.places es)
       × (n ≡ point_at (after_first r))
-  asks_shape done h = absurd h
-  asks_shape (one m skip t) h = absurd h
-  asks_shape (one m (assign xs rs) t) h = absurd h
-  asks_shape (one m (assert c) t) h = absurd h
-  asks_shape (one m (assume c) t) h = absurd h
   asks_shape (one m (goto x) t) h = absurd (no_jump (rest_from x routine.body done) h)
-  asks_shape (one m leave t) h = absurd h
   asks_shape (one m (call p es) t) (same, are, to) = (es, ap (λ k. Some (k, es)) (sym same), are, to)
-  asks_shape (one m (leave_with e) t) h = absurd h
   asks_shape (one m (call_for x p es) t) (same, are, to) = (es, ap (λ k. Some (k, es)) (sym same), are, to)
-  asks_shape (choose m c a b t) h = absurd h
-  asks_shape (loop m c a t) h = absurd h
+  asks_shape _ h = absurd h
 
   called : (p : ℕ) (us es : List (Expression Place)) (k : ℕ) → ◌≡◌ {A = ℕ × List (Expression Place)} (p, us) (s, es) →
       args ≡ values_of v.globals v.places es → n ≡ k → (s ≡ p) × (args ≡ values_of v.globals v.places us) × (n ≡ k)
@@ -109,18 +100,9 @@ module _ (routine : Routine) (v : Valuation) (s n : ℕ) (args : List Bool) wher
 
   calls_shape : (r : Code) (es : List (Expression Place)) → called_by r ≡ Some (s, es) → args ≡ values_of v.globals v.places es →
       n ≡ point_at (after_first r) → NodeCalls (node_of routine r) v s args n
-  calls_shape done es e are to = absurd (none-some (s, es) e)
-  calls_shape (one m skip t) es e are to = absurd (none-some (s, es) e)
-  calls_shape (one m (assign xs rs) t) es e are to = absurd (none-some (s, es) e)
-  calls_shape (one m (assert c) t) es e are to = absurd (none-some (s, es) e)
-  calls_shape (one m (assume c) t) es e are to = absurd (none-some (s, es) e)
-  calls_shape (one m (goto x) t) es e are to = absurd (none-some (s, es) e)
-  calls_shape (one m leave t) es e are to = absurd (none-some (s, es) e)
   calls_shape (one m (call p us) t) es e are to = called p us es (point_at t) (same_Some (p, us) (s, es) e) are to
-  calls_shape (one m (leave_with u) t) es e are to = absurd (none-some (s, es) e)
   calls_shape (one m (call_for x p us) t) es e are to = called p us es (point_at t) (same_Some (p, us) (s, es) e) are to
-  calls_shape (choose m c a b t) es e are to = absurd (none-some (s, es) e)
-  calls_shape (loop m c a t) es e are to = absurd (none-some (s, es) e)
+  calls_shape _ es e are to = absurd (none-some (s, es) e)
 
 -- the variable that a node calls for is the one that the statement calls for
 module _ (routine : Routine) where
@@ -129,18 +111,8 @@ module _ (routine : Routine) where
   jumps_for_none (Some r) = refl
 
   called_for : (r : Code) → target_in (node_of routine r) ≡ target_of r
-  called_for done = refl
-  called_for (one m skip t) = refl
-  called_for (one m (assign xs rs) t) = refl
-  called_for (one m (assert c) t) = refl
-  called_for (one m (assume c) t) = refl
   called_for (one m (goto x) t) = jumps_for_none (rest_from x routine.body done)
-  called_for (one m leave t) = refl
-  called_for (one m (call p es) t) = refl
-  called_for (one m (leave_with e) t) = refl
-  called_for (one m (call_for x p es) t) = refl
-  called_for (choose m c a b t) = refl
-  called_for (loop m c a t) = refl
+  called_for _ = refl
 
 -- the widths of a procedure of the program
 abbrev widths_in : Program → Routine → Widths

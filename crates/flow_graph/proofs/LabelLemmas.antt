@@ -32,8 +32,7 @@ of_three : (a b c : Option Code) →
     option_map point_at (first_of_two a (first_of_two b c)) ≡ first_of_two
     (option_map point_at (first_of_two a (first_of_two b None))) (option_map point_at c)
 of_three None None c = refl
-of_three None (Some r) c = refl
-of_three (Some r) b c = refl
+of_three _ _ c = refl
 
 of_two : (a c : Option Code) →
     option_map point_at (first_of_two a c) ≡ first_of_two (option_map point_at (first_of_two a None))

@@ -21,8 +21,7 @@ use Rattle.flow_graph.proofs.NumberedCodeLemmas.{resolved_statements, behind_sim
 -- a first statement begins at its number
 begins_led : (n : ℕ) (s : Scope) (m : Mark tree.Name) (d : Deed) (t : Names) (k : Code) → n ≡ point_at (join (led n s m d t) k)
 begins_led n s m (simple c) t k = refl
-begins_led n s m (branch r a b) t k = refl
-begins_led n s m (repeat r a) t k = refl
+begins_led n s m _ t k = refl
 
 pub begins : {A : Type 0} (l : List (Stmt A)) (n : ℕ) (s : Scope) (k : Code) → 0 < length l →
     n ≡ point_at (join (numbered n (resolve_block s (block_of l))) k)
@@ -80,9 +79,8 @@ nodes_split routine n j s x l k e =
 all_do : {A : Type 0} (fs gs : List (Flow A)) (ns ms : List Node) (w : Widths) → AllDo fs ns w → AllDo gs ms w →
     AllDo (fs ++ gs) (ns ++ ms) w
 all_do [] gs [] ms w a b = b
-all_do [] gs (n ∷ ns) ms w a b = absurd a
-all_do (f ∷ fs) gs [] ms w a b = absurd a
 all_do (f ∷ fs) gs (n ∷ ns) ms w a b = (a.0, all_do fs gs ns ms w a.1 b)
+all_do _ gs _ ms w a b = absurd a
 
 pub lowered_then : {A : Type 0} (old mid new : List (Flow A)) (ns ms : List Node) (w : Widths) → Lowered old mid ns w →
     Lowered mid new ms w → Lowered old new (ns ++ ms) w

@@ -49,14 +49,12 @@ module _ (p : Program) (q : ℕ) (routine : Routine) (there : slice_get p.routin
 
   pub flow_leads : (v v' : Valuation) (r r' : Code) → Flow p q v r v' r' → Leads (node_of routine r) v (point_at r') v'
   flow_leads v v' done r' h = absurd (no_flow_from_exit p q v v' r' h)
-  flow_leads v v' (one m skip t) r' h = ([], tt, sym (ap (λ s. point_at (rest_in s)) h), sym (ap values_in h))
   flow_leads v v' (one m (assign xs rs) t) r' (vs, are, h) = (vs, are, sym (ap (λ s. point_at (rest_in s)) h), sym (ap values_in h))
   flow_leads v v' (one m (assert r) t) r' (is, h) = (is, sym (ap (λ s. point_at (rest_in s)) h), sym (ap values_in h))
   flow_leads v v' (one m (assume r) t) r' (is, h) = (is, sym (ap (λ s. point_at (rest_in s)) h), sym (ap values_in h))
   flow_leads v v' (one m (goto x) t) r' h =
       jump_leads (rest_from x routine.body done) v v' r'
       (subst (λ o. AtRest (rest_from x (body_of o) done) (λ rest. alone v rest ≡ alone v' r')) there h)
-  flow_leads v v' (one m leave t) r' h = ([], tt, sym (ap (λ s. point_at (rest_in s)) h), sym (ap values_in h))
   flow_leads v v' (one m (call n es) t) r' h = absurd (no_flow_from_call p q n v v' es (one m (call n es) t) r' refl h)
   flow_leads v v' (one m (leave_with e) t) r' h =
       let b = value_of v.globals v.places e in
@@ -66,6 +64,7 @@ module _ (p : Program) (q : ℕ) (routine : Routine) (there : slice_get p.routin
   flow_leads v v' (choose m r a b t) r' (false, is, h) = (false, is, sym (ap (λ s. point_at (rest_in s)) h), sym (ap values_in h))
   flow_leads v v' (loop m r a t) r' (true, is, h) = (true, is, sym (ap (λ s. point_at (rest_in s)) h), sym (ap values_in h))
   flow_leads v v' (loop m r a t) r' (false, is, h) = (false, is, sym (ap (λ s. point_at (rest_in s)) h), sym (ap values_in h))
+  flow_leads v v' _ r' h = ([], tt, sym (ap (λ s. point_at (rest_in s)) h), sym (ap values_in h))
 
   -- a node that continues with unchanged values follows a step that does
   went : (v v' : Valuation) (r : Code) (n : ℕ) → n ≡ point_at r → v' ≡ v →
@@ -78,7 +77,6 @@ module _ (p : Program) (q : ℕ) (routine : Routine) (there : slice_get p.routin
   jumps (Some r) v v' n (vs, are, to, same) = went v v' r n to same
 
   pub lead_flows : (v v' : Valuation) (r : Code) (n : ℕ) → Leads (node_of routine r) v n v' → FlowsOn p q v r n v'
-  lead_flows v v' done n h = absurd h
   lead_flows v v' (one m skip t) n (vs, are, to, same) = went v v' t n to same
   lead_flows v v' (one m (assign xs rs) t) n (vs, are, is, same) =
       (t, (vs, are, ap (λ u. alone u t) (sym same)), is)
@@ -88,7 +86,6 @@ module _ (p : Program) (q : ℕ) (routine : Routine) (there : slice_get p.routin
       let (r', at, to) = jumps (rest_from x routine.body done) v v' n h in
       (r', subst (λ o. AtRest (rest_from x (body_of o) done) (λ rest. alone v rest ≡ alone v' r')) (sym there) at, to)
   lead_flows v v' (one m leave t) n (vs, are, to, same) = went v v' done n to same
-  lead_flows v v' (one m (call k es) t) n h = absurd h
   lead_flows v v' (one m (leave_with e) t) n (vs, are, to, same) =
       let xs : List Place = local routine.places ∷ [] in
       let written : List Bool → Valuation =
@@ -97,9 +94,9 @@ module _ (p : Program) (q : ℕ) (routine : Routine) (there : slice_get p.routin
       ap (λ o. given o v (value_of v.globals v.places e)) there ∙ ap written (sym (only_value v.globals v.places e vs are))
       ∙ sym same in
       (done, ap (λ u. alone u done) after, to)
-  lead_flows v v' (one m (call_for x k es) t) n h = absurd h
   lead_flows v v' (choose m r a b t) n (true, is, to, same) = let (r', e, f) = went v v' (join a t) n to same in (r', (true, is, e), f)
   lead_flows v v' (choose m r a b t) n (false, is, to, same) = let (r', e, f) = went v v' (join b t) n to same in (r', (false, is, e), f)
   lead_flows v v' (loop m r a t) n (true, is, to, same) = let (r', e, f) = went v v' (join a (loop m r a t)) n to same in
       (r', (true, is, e), f)
   lead_flows v v' (loop m r a t) n (false, is, to, same) = let (r', e, f) = went v v' t n to same in (r', (false, is, e), f)
+  lead_flows v v' _ n h = absurd h

@@ -12,12 +12,11 @@ use Rattle.flow_graph.proofs.Stacks.{coded_small}
 -- a number determines its values, if it is known how many there are
 pub coded_tells : (xs ys : List Bool) → length xs ≡ length ys → coded xs ≡ coded ys → xs ≡ ys
 coded_tells [] [] h e = refl
-coded_tells [] (y ∷ ys) h e = absurd (omega (arith, h))
-coded_tells (x ∷ xs) [] h e = absurd (omega (arith, h))
 coded_tells (true ∷ xs) (true ∷ ys) h e = ap (λ l. true ∷ l) (coded_tells xs ys (omega (arith, h)) (omega (arith, e)))
 coded_tells (true ∷ xs) (false ∷ ys) h e = absurd (omega (arith, e))
 coded_tells (false ∷ xs) (true ∷ ys) h e = absurd (omega (arith, e))
 coded_tells (false ∷ xs) (false ∷ ys) h e = ap (λ l. false ∷ l) (coded_tells xs ys (omega (arith, h)) (omega (arith, e)))
+coded_tells _ _ h e = absurd (omega (arith, h))
 
 -- the values of one list count from where those of the other end
 pub coded_append : (xs ys : List Bool) → coded (xs ++ ys) ≡ coded ys * 2 ^ length xs + coded xs
@@ -31,18 +30,16 @@ coded_append (x ∷ xs) ys =
 -- two lists of as many values as two others, one after the other, are those two
 split_front : (xs xs' ys ys' : List Bool) → length xs ≡ length xs' → xs ++ ys ≡ xs' ++ ys' → xs ≡ xs'
 split_front [] [] ys ys' h e = refl
-split_front [] (x' ∷ xs') ys ys' h e = absurd (omega (arith, h))
-split_front (x ∷ xs) [] ys ys' h e = absurd (omega (arith, h))
 split_front (x ∷ xs) (x' ∷ xs') ys ys' h e =
     ap₂ (λ y l. y ∷ l) (ap (λ l. elim l as (λ z. Bool) [ [] ↦ x | y ∷ more ↦ y ]) e)
     (split_front xs xs' ys ys' (omega (arith, h)) (ap (λ l. elim l as (λ z. List Bool) [ [] ↦ [] | y ∷ more ↦ more ]) e))
+split_front _ _ ys ys' h e = absurd (omega (arith, h))
 
 split_back : (xs xs' ys ys' : List Bool) → length xs ≡ length xs' → xs ++ ys ≡ xs' ++ ys' → ys ≡ ys'
 split_back [] [] ys ys' h e = e
-split_back [] (x' ∷ xs') ys ys' h e = absurd (omega (arith, h))
-split_back (x ∷ xs) [] ys ys' h e = absurd (omega (arith, h))
 split_back (x ∷ xs) (x' ∷ xs') ys ys' h e =
     split_back xs xs' ys ys' (omega (arith, h)) (ap (λ l. elim l as (λ z. List Bool) [ [] ↦ [] | y ∷ more ↦ more ]) e)
+split_back _ _ ys ys' h e = absurd (omega (arith, h))
 
 -- a number determines its valuation, if it is known how many globals and places there are
 pub code_tells : (v w : Valuation) → length v.globals ≡ length w.globals → length v.places ≡ length w.places → code v ≡ code w → v ≡ w

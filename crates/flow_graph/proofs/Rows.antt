@@ -1,12 +1,11 @@
 -- Outputs of truth tables, bit by bit.
 use Rattle.std.proofs.Common.{◌≡◌, ◌<◌, ◌≤◌, ℕ, zero, suc, ◌+◌, ◌-◌, ◌*◌, ◌/◌, ◌%◌, ◌^◌, min, max}
-use Rattle.std.proofs.Common.{◌==◌, cond, not, ◌&&◌, ◌||◌, Bool, true, false, Some, None, List, [], ◌∷◌, ◌++◌, length}
+use Rattle.std.proofs.Common.{◌==◌, cond, not, ◌&&◌, ◌||◌, Bool, true, false, List, [], ◌∷◌, ◌++◌, length}
 use Rattle.std.proofs.Common.{get_or}
-use Rattle.std.proofs.Common.{map, take, set, w64, refl, sym, ◌∙◌, ap, subst, arith, append-nil, append_assoc}
+use Rattle.std.proofs.Common.{map, take, set, w64, refl, sym, ◌∙◌, ap, subst, arith, append_assoc}
 use Rattle.std.specs.Int.{bit_at}
 use Rattle.std.specs.Int.RustNames.{bit_and, bit_or, bit_xor}
 use Rattle.std.proofs.lemmas.Bool.{eqb-true, eqb-false, false≢true}
-use Rattle.std.proofs.lemmas.Option.{same_Some, none-some}
 use Rattle.std.proofs.lemmas.Nat.Bits.{bit_at_lowest, bit_at-suc, bit_at-lt, bit_at_and, bit_at_or, bit_at_xor, bit_at_not}
 use Rattle.language.specs.Tree.{Operator, xor, Expression, negation, two}
 use Rattle.language.specs.Value.{operate}
@@ -16,7 +15,7 @@ use Rattle.std.proofs.lemmas.List.{length-map, get_or-take, get_or-set_same, get
 use Rattle.flow_graph.proofs.Stacks.{worth_small, coded_small}
 use Rattle.flow_graph.specs.Bits.{bit_of, worth_of, coded}
 use Rattle.flow_graph.specs.Located.{worth}
-use Rattle.flow_graph.specs.Tables.{slot, is_input, known_bit, output, HaveRow, ReadsBit, Tabulates, AreBits, Widens}
+use Rattle.flow_graph.specs.Tables.{slot, is_input, output, HaveRow, ReadsBit, Tabulates, AreBits, Widens}
 use Rattle.flow_graph.specs.Tables.{most_inputs, most_rows, word_rows}
 use Rattle.resolved.specs.Limits.{most_places}
 
@@ -113,10 +112,9 @@ same true b = b
 same false b = not b
 
 same_is : (a b : Bool) → same a b ≡ true → a ≡ b
-same_is true true h = refl
 same_is true false h = absurd (false≢true h)
 same_is false true h = absurd (false≢true h)
-same_is false false h = refl
+same_is _ _ h = refl
 
 pub rows_of_slot : (words : List ℕ) (s : ℕ) → all_below most_rows (λ j. same (output words j) (bit_of j s)) ≡ true
     → (j : ℕ) →

@@ -1,6 +1,6 @@
 -- A stack of values as the bits of a number.
 use mir.Val.{bool_byte}
-use Rattle.std.proofs.Common.{◌≡◌, ◌<◌, ◌≤◌, ℕ, zero, suc, ◌+◌, ◌*◌, ◌%◌, ◌^◌, ◌==◌, Bool}
+use Rattle.std.proofs.Common.{◌≡◌, ◌<◌, ◌≤◌, ℕ, suc, ◌+◌, ◌*◌, ◌%◌, ◌^◌, ◌==◌, Bool}
 use Rattle.std.proofs.Common.{true, false, List, [], ◌∷◌, length, refl}
 use Rattle.std.proofs.Common.{◌∙◌, ap, arith, pow-suc}
 use Rattle.std.proofs.Math.Pow.{pow_mono}
@@ -32,9 +32,8 @@ pub bit_worth : (n i : ℕ) → bit_at n i ≡ worth_of (bit_of n i)
 bit_worth n i = go (bit_at n i) (bit_at-lt n i)
   where
     go : (k : ℕ) → k < 2 → k ≡ worth_of (k == 1)
-    go zero h = refl
-    go (suc zero) h = refl
     go (suc (suc k)) h = absurd (omega (arith, h))
+    go _ h = refl
 
 pub read_worth : (n i : ℕ) → i < word_bits → bit_at n (i % word_bits) ≡ worth_of (bit_of n i)
 read_worth n i h = let same : i % word_bits ≡ i = omega (arith, h) in ap (bit_at n) same ∙ bit_worth n i

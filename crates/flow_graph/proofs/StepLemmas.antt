@@ -104,9 +104,7 @@ called_valuation p fit q v r s e wide rest calls =
 -- no rest of a block that is numbered from a number above 0 on begins at point 0
 no_rest_at_0 : (n : ℕ) (b k r : Code) → Member r (rests (numbered (suc n) b) k) → point_at r ≡ 0 → ⊥
 no_rest_at_0 n done k r f e = f
-no_rest_at_0 n (one m s t) k r (inl same) e = let z : suc n ≡ 0 = sym (ap point_at same) ∙ e in omega (arith, z)
 no_rest_at_0 n (one m s t) k r (inr f) e = no_rest_at_0 (suc n) t k r f e
-no_rest_at_0 n (choose m c a b t) k r (inl same) e = let z : suc n ≡ 0 = sym (ap point_at same) ∙ e in omega (arith, z)
 no_rest_at_0 n (choose m c a b t) k r (inr f) e =
     let i : ℕ = suc n + statements a in
     let j : ℕ = suc n + (statements a + statements b) in
@@ -121,7 +119,6 @@ no_rest_at_0 n (choose m c a b t) k r (inr f) e =
         | inr h ↦ no_rest_at_0 j t k r (subst (λ z. Member r (rests (numbered z t) k)) sj h) e
       ]
     ]
-no_rest_at_0 n (loop m c a t) k r (inl same) e = let z : suc n ≡ 0 = sym (ap point_at same) ∙ e in omega (arith, z)
 no_rest_at_0 n (loop m c a t) k r (inr f) e =
     let i : ℕ = suc n + statements a in
     let si : suc (suc n) + statements a ≡ suc i = omega arith in
@@ -131,6 +128,7 @@ no_rest_at_0 n (loop m c a t) k r (inr f) e =
       | inl g ↦ no_rest_at_0 (suc n) a (loop (marked (suc n) m) c a' (join t' k)) r g e
       | inr h ↦ no_rest_at_0 i t k r (subst (λ z. Member r (rests (numbered z t) k)) si h) e
     ]
+no_rest_at_0 n _ k r (inl same) e = let z : suc n ≡ 0 = sym (ap point_at same) ∙ e in omega (arith, z)
 
 -- only nothing is left at point 0
 rest_at_exit : (b r : Code) → IsRestOf (numbered 1 b) r → point_at r ≡ 0 → r ≡ done
@@ -140,9 +138,7 @@ rest_at_exit b r (inr f) e = absurd (no_rest_at_0 0 b done r f e)
 -- a rest has a point, or is nothing
 pointed : (r : Code) → (r ≡ done) ⊎ (point_of r ≡ Some (point_at r))
 pointed done = inl refl
-pointed (one m s t) = inr refl
-pointed (choose m c a b t) = inr refl
-pointed (loop m c a t) = inr refl
+pointed _ = inr refl
 
 -- the number of a point determines what is left to run
 pub rest_told : (b r r' : Code) → IsRestOf (numbered 1 b) r → IsRestOf (numbered 1 b) r' → point_at r ≡ point_at r' → r ≡ r'

@@ -1,6 +1,6 @@
 //! Postfix code for expressions.
 
-ghost use Rattle.std.specs.Prelude.{◌≡◌, ◌∷◌, [], IfOk};
+ghost use Rattle.std.specs.Prelude.{◌≡◌, ◌==◌, ◌+◌, ◌∷◌, [], IfOk, cond, max, min};
 ghost use Rattle.language.specs.Tree.{var};
 ghost use Rattle.trees.specs.Trees.{name_of};
 ghost use Rattle.flow_graph.specs.Bits.{bit_of};
@@ -73,6 +73,17 @@ impl<A: Allocator> Postfix<A> {
     }
 }
 
+/// How many values a stack holds at most while two operands are evaluated that need these.
+fn joint_need(left: u32, right: u32) -> u32
+    ensures { result ≡ cond (left == right) (min (left + 1) 4294967295) (max left right) }
+{
+    if left == right {
+        left.saturating_add(1)
+    } else {
+        left.max(right)
+    }
+}
+
 impl<'a, N: Allocator> Scope<'a, N> {
     /// How many values a stack holds at most while an expression is evaluated, the operand that needs more first.
     fn need(&self, e: &Expr<N>) -> u32
@@ -82,15 +93,7 @@ impl<'a, N: Allocator> Scope<'a, N> {
             Expr::Const(_) => 1,
             Expr::Var(_) => 1,
             Expr::Not(a) => self.need(a),
-            Expr::Two(_, a, b) => {
-                let left = self.need(a);
-                let right = self.need(b);
-                if left == right {
-                    left.saturating_add(1)
-                } else {
-                    left.max(right)
-                }
-            }
+            Expr::Two(_, a, b) => joint_need(self.need(a), self.need(b)),
         }
     }
 

@@ -12,18 +12,7 @@ overflow_shl-result g c =
     let p = c.args.proc.now in
     let gives = sym (ap (λ l. gives_value (block_of l)) c.deref.ensures.value) ∙ sym c.give_value.ensures ∙ c.if-give_value.true in
     let one = ap {B = ℕ} (λ b. cond b 1 0) gives in
-    omega (
-      arith,
-      c.requires.0,
-      width_counted t p,
-      one,
-      c.len.ensures,
-      c.len-then-give_value.ensures,
-      c.len-then-give_value-2.ensures,
-      t.globals.ok.0,
-      p.formals.ok.0,
-      p.locals.ok.0,
-    )
+    omega (arith, width_counted t p, one)
 
 pub returns-then-give_value : goal.returns-then-give_value
 returns-then-give_value g c =
@@ -32,34 +21,13 @@ returns-then-give_value g c =
     let gives = sym (ap (λ l. gives_value (block_of l)) c.deref.ensures.value) ∙ sym c.give_value.ensures ∙ c.if-give_value.true in
     let bit = length (names_of t.globals.items) + length (names_of p.formals.items ++ names_of p.locals.items) in
     let same : c.len-then-give_value-2.result + (c.len.result + c.len-then-give_value.result) ≡ bit =
-    omega (
-      arith,
-      places_counted t.globals.items p.formals.items p.locals.items,
-      c.len.ensures,
-      c.len-then-give_value.ensures,
-      c.len-then-give_value-2.ensures,
-      t.globals.ok.0,
-      p.formals.ok.0,
-      p.locals.ok.0,
-    ) in
+    omega (arith, places_counted t.globals.items p.formals.items p.locals.items) in
     one_bit _ (omega (arith, overflow_shl-result g c)) ∙ ap {B = ℕ} (λ n. 2 ^ n) same
     ∙ ap {B = ℕ} (λ b. cond b (2 ^ bit) 0) (sym gives)
 
 pub overflow_add-result : goal.overflow_add-result
 overflow_add-result g c =
-    let t = c.args.program.now in
-    let p = c.args.proc.now in
-    omega (
-      arith,
-      c.requires.0,
-      width_counted t p,
-      c.len.ensures,
-      c.len-then-give_value.ensures,
-      c.len-then-give_value-2.ensures,
-      t.globals.ok.0,
-      p.formals.ok.0,
-      p.locals.ok.0,
-    )
+    omega (arith, width_counted c.args.program.now c.args.proc.now)
 
 pub returns-else-give_value : goal.returns-else-give_value
 returns-else-give_value g c =

@@ -1,11 +1,11 @@
 -- What an expression needs, from what its operands need.
-use Rattle.std.proofs.Common.{sym, ◌∙◌, ap}
-use Rattle.trees.specs.Trees.{operator_of, name_of, expr_of}
+use Rattle.std.proofs.Common.{◌==◌, ◌+◌, min, max, cond, sym, ◌∙◌, ap}
+use Rattle.trees.specs.Trees.{name_of, expr_of}
 use Rattle.trees.proofs.Folds.{expr_of-Const, expr_of-Var, expr_of-Not, expr_of-Two}
 use Rattle.flow_graph.specs.Located.{located, bit_of_name}
 use Rattle.flow_graph.specs.Postfix.{need}
 use Rattle.flow_graph.specs.Views.{scope_seen}
-use Rattle.flow_graph.proofs.Codes.{need_read, need_same, need_other}
+use Rattle.flow_graph.proofs.Codes.{need_read}
 use Rattle.flow_graph.proofs.scope.Scope.+need.Goals as goal
 
 pub returns-in-Const : goal.returns-in-Const
@@ -26,20 +26,11 @@ returns-in-Not g t c =
     ∙ ap (λ e. need (located s (expr_of e))) c.deref.ensures
     ∙ ap (λ e. need (located s e)) (sym (ap expr_of c.in-Not.is ∙ expr_of-Not c.in-Not.a))
 
-pub returns-then-left-right : goal.returns-then-left-right
-returns-then-left-right g t c =
+pub returns-in-Two : goal.returns-in-Two
+returns-in-Two g t c =
     let s = scope_seen c.args.self.now in
-    let left = c.need-left.ensures ∙ ap (λ e. need (located s (expr_of e))) c.deref-in-Two.ensures in
-    let right = c.need-right.ensures ∙ ap (λ e. need (located s (expr_of e))) c.deref-in-Two-2.ensures in
-    need_same (operator_of c.in-Two.field-0) (located s (expr_of c.in-Two.a.value)) (located s (expr_of c.in-Two.b.value)) _ _ _
-    left right c.if-left-right.true c.saturating_add.ensures
-    ∙ ap (λ e. need (located s e)) (sym (ap expr_of c.in-Two.is ∙ expr_of-Two c.in-Two.field-0 c.in-Two.a c.in-Two.b))
-
-pub returns-else-left-right : goal.returns-else-left-right
-returns-else-left-right g t c =
-    let s = scope_seen c.args.self.now in
-    let left = c.need-left.ensures ∙ ap (λ e. need (located s (expr_of e))) c.deref-in-Two.ensures in
-    let right = c.need-right.ensures ∙ ap (λ e. need (located s (expr_of e))) c.deref-in-Two-2.ensures in
-    need_other (operator_of c.in-Two.field-0) (located s (expr_of c.in-Two.a.value)) (located s (expr_of c.in-Two.b.value)) _ _ _
-    left right c.if-left-right.false c.max.ensures
+    let left = c.need-in-Two.ensures ∙ ap (λ e. need (located s (expr_of e))) c.deref-in-Two.ensures in
+    let right = c.need-in-Two-2.ensures ∙ ap (λ e. need (located s (expr_of e))) c.deref-in-Two-2.ensures in
+    c.joint_need.ensures
+    ∙ (λ i. cond (left i == right i) (min (left i + 1) 4294967295) (max (left i) (right i)))
     ∙ ap (λ e. need (located s e)) (sym (ap expr_of c.in-Two.is ∙ expr_of-Two c.in-Two.field-0 c.in-Two.a c.in-Two.b))

@@ -53,9 +53,6 @@ returns-in_ok-put-in-Two-2 g t c =
     let less : need (located s (expr_of c.in-Two.a.value)) < need (located s (expr_of c.in-Two.b.value)) =
     omega (
       arith,
-      c.need.ensures,
-      c.need-in-Two.ensures,
-      c.if-need.true,
       ap (λ e. need (located s (expr_of e))) c.deref-in-Two.ensures,
       ap (λ e. need (located s (expr_of e))) c.deref-in-Two-2.ensures,
     ) in
@@ -76,9 +73,6 @@ returns-in_ok-put-in-Two-4 g t c =
     let more : need (located s (expr_of c.in-Two.b.value)) ≤ need (located s (expr_of c.in-Two.a.value)) =
     omega (
       arith,
-      c.need.ensures,
-      c.need-in-Two.ensures,
-      c.if-need.false,
       ap (λ e. need (located s (expr_of e))) c.deref-in-Two.ensures,
       ap (λ e. need (located s (expr_of e))) c.deref-in-Two-2.ensures,
     ) in
