@@ -6,7 +6,7 @@ use Rattle.std.proofs.Common.{◌∙◌, ap, subst}
 use Rattle.std.proofs.Common.{arith, pow-suc, append_assoc, append-nil}
 use Rattle.std.specs.List.{AllByRecursion, IsDistinct, list_any}
 use Rattle.std.specs.Int.RustNames.{bit_or}
-use Rattle.std.proofs.lemmas.Bool.{false≢true, true≢false, eqb-true, eqb-false, ltb-true, ltb-false}
+use Rattle.std.proofs.lemmas.Bool.{false≢true, true≢false, ne_eqb, eqb-true, eqb-false, ltb-true, ltb-false}
 use Rattle.std.proofs.lemmas.List.{length-append, length-drop, length-map, get_or-set_same, get_or-set_other, set-append_left}
 use Rattle.std.proofs.lemmas.List.{set-append_right, set_past, length-set, drop_more, append-nil}
 use Rattle.std.proofs.Math.Pow.{pow_mono}
@@ -17,6 +17,7 @@ use Rattle.language.specs.Tree.{Name, RightSide, any, value}
 use Rattle.language.specs.Value.{Place, global, local, bit, with_bit, value_of, AreValues, written_globals, written_locals}
 use Rattle.language.specs.Resolve.{Scope, is_declared, number_of, place_of, resolve_expression, resolve_side}
 use Rattle.language.proofs.Names.{number_less, place_declared, place_other}
+use Rattle.language.proofs.TestLemmas.{at_test}
 use Rattle.trees.specs.Trees.{name_of, names_of, rhs_of, rhss_of}
 use Rattle.trees.specs.declared.tree.Name as syntax
 use Rattle.trees.specs.declared.tree.Rhs.{Rhs}
@@ -39,11 +40,10 @@ use Rattle.resolved.specs.Limits.{most_places}
 -- ---- one bit
 
 pow_bit : (b k : ℕ) → bit_of (2 ^ b) k ≡ (b == k)
-pow_bit b k = go (b == k) refl
-  where
-    go : (c : Bool) → (b == k) ≡ c → bit_of (2 ^ b) k ≡ c
-    go true e = subst (λ j. bit_of (2 ^ b) j ≡ true) (eqb-true b k e) (ap (λ n. n == 1) (bit_at-pow_same b))
-    go false e = ap (λ n. n == 1) (bit_at-pow_other b k (λ same. eqb-false b k e (sym same)))
+pow_bit b k =
+    at_test (λ c. bit_of (2 ^ b) k ≡ c) (b == k)
+    (λ e. subst (λ j. bit_of (2 ^ b) j ≡ true) (eqb-true b k e) (ap (λ n. n == 1) (bit_at-pow_same b)))
+    (λ e. ap (λ n. n == 1) (bit_at-pow_other b k (λ same. eqb-false b k e (sym same))))
 
 pub or_one : (x e : Bool) → (x || e) ≡ cond e true x
 or_one true true = refl
@@ -67,18 +67,14 @@ masked_bit m b k false =
     ∙ or_then_xor (bit_of m k) (b == k)
 
 masked_here : (m b : ℕ) (v : Bool) → bit_of (masked m (2 ^ b) v) b ≡ v
-masked_here m b v = masked_bit m b b v ∙ go (b == b) refl
-  where
-    go : (c : Bool) → (b == b) ≡ c → cond c v (bit_of m b) ≡ v
-    go true e = refl
-    go false e = absurd (eqb-false b b e refl)
+masked_here m b v =
+    masked_bit m b b v
+    ∙ at_test (λ c. cond c v (bit_of m b) ≡ v) (b == b) (λ e. refl) (λ e. absurd (eqb-false b b e refl))
 
 masked_elsewhere : (m b k : ℕ) (v : Bool) → (b ≡ k → ⊥) → bit_of (masked m (2 ^ b) v) k ≡ bit_of m k
-masked_elsewhere m b k v other = masked_bit m b k v ∙ go (b == k) refl
-  where
-    go : (c : Bool) → (b == k) ≡ c → cond c v (bit_of m k) ≡ bit_of m k
-    go true e = absurd (other (eqb-true b k e))
-    go false e = refl
+masked_elsewhere m b k v other =
+    masked_bit m b k v
+    ∙ at_test (λ c. cond c v (bit_of m k) ≡ bit_of m k) (b == k) (λ e. absurd (other (eqb-true b k e))) (λ e. refl)
 
 -- ---- the writes that are kept, as bits and right sides
 
@@ -157,11 +153,8 @@ not_it : (b k : ℕ) (ts : List (Option ℕ)) → is_among b ts ≡ true → is_
 not_it b k ts h free same = true≢false (sym h ∙ ap (λ j. is_among j ts) same ∙ free)
 
 still : (b k : ℕ) (ts : List (Option ℕ)) → (b ≡ k → ⊥) → is_among k ts ≡ false → is_among k (Some b ∷ ts) ≡ false
-still b k ts other free = go (b == k) refl
-  where
-    go : (c : Bool) → (b == k) ≡ c → cond c true (is_among k ts) ≡ false
-    go true e = absurd (other (eqb-true b k e))
-    go false e = free
+still b k ts other free =
+    at_test (λ c. cond c true (is_among k ts) ≡ false) (b == k) (λ e. absurd (other (eqb-true b k e))) (λ e. free)
 
 agree_dropped : (b : ℕ) (v : Bool) (ts : List (Option ℕ)) (m : ℕ) (bs : List Bool) → is_among b ts ≡ true
     → Agree (Some b ∷ ts) m bs
@@ -379,13 +372,6 @@ anys_most : (ks : List (ℕ × RightSide Name)) → anys_in ks ≤ length (map (
 anys_most [] = omega arith
 anys_most (k ∷ ks) = omega (arith, few_any k.1, anys_most ks)
 
-not_eqb : (b c : ℕ) → (c ≡ b → ⊥) → eqb b c ≡ false
-not_eqb b c h = go (eqb b c) refl
-  where
-    go : (x : Bool) → eqb b c ≡ x → x ≡ false
-    go true e = absurd (h (sym (eqb-true b c e)))
-    go false e = refl
-
 module _ {R : Type 0} where
   abbrev bits_of : List (ℕ × R) → List ℕ
   bits_of ks = map (λ (k : ℕ × R). k.0) ks
@@ -400,7 +386,7 @@ module _ {R : Type 0} where
           → AllByRecursion (λ c. eqb b c ≡ false) (bits_of (kept_one (cond y None (Some c)) r (kept ts rs)))
       go true e g y rest = absurd (true≢false g)
       go false e g true rest = rest g
-      go false e g false rest = (not_eqb b c (eqb-false c b e), rest g)
+      go false e g false rest = (ne_eqb b c (λ same. eqb-false c b e (sym same)), rest g)
   others_differ _ _ b h = tt
 
   distinct : (ts : List (Option ℕ)) (rs : List R) → IsDistinct eqb (bits_of (kept ts rs))

@@ -1,9 +1,9 @@
 -- Postfix code put together.
 use Rattle.std.proofs.Common.{◌≡◌, ◌<◌, ◌≤◌, ℕ, suc, ◌+◌, ◌-◌, ◌^◌, min, max, ◌==◌, nat_lt, cond, Bool, true, false, List, []}
 use Rattle.std.proofs.Common.{◌∷◌, ◌++◌, length, length-append, refl, sym, ◌∙◌, ap, subst, arith, append_assoc, append-nil, pow-suc}
-use Rattle.std.proofs.Common.{Option, Some, None}
+use Rattle.std.proofs.Common.{Option, Some, None, inl, inr}
 use Rattle.std.proofs.Math.Pow.{pow_mono}
-use Rattle.std.proofs.lemmas.Bool.{eqb-true, eqb-false, ltb-true, ltb-false}
+use Rattle.std.proofs.lemmas.Bool.{eqb-true, eqb-false, ltb-true, ltb-false, cases_lt}
 use Rattle.language.specs.Tree.{Expression, const, var, negation, two}
 use Rattle.trees.specs.Trees.{operator_of}
 use Rattle.trees.specs.declared.tree.Op.{Op}
@@ -125,11 +125,10 @@ shallow_alone e old new p none short =
     omega (arith, huge, p.2.long, short, ap length (p.1 ∙ ap (λ l. l ++ p.0) none)))) tt)
   where
     few : (n : ℕ) → (64 < n → ⊥) → 0 + n ≤ 64
-    few n h = go (nat_lt 64 n) refl
-      where
-        go : (b : Bool) → nat_lt 64 n ≡ b → 0 + n ≤ 64
-        go true is = absurd (h (ltb-true 64 n is))
-        go false is = let least = ltb-false 64 n is in omega (arith, least)
+    few n h = elim (cases_lt 64 n) [
+      | inl more ↦ absurd (h more)
+      | inr least ↦ omega (arith, least)
+    ]
 
 pub worth_alone : (f : ℕ → Bool) (e : Expression ℕ) (old new : List Instruction) → PutsSteps old new e → old ≡ []
     → top (after_steps f new []) ≡ worth f e

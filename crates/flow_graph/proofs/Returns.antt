@@ -9,6 +9,7 @@ use Rattle.std.proofs.lemmas.Nat.Bits.{and_pow}
 use Rattle.language.specs.Value.{Place, global, local, bit, with_bit, written_globals, written_locals}
 use Rattle.language.specs.Step.{Routine, frame_size, result_of}
 use Rattle.language.specs.Sequential.{Valuation, Exit, resumed_with}
+use Rattle.language.proofs.TestLemmas.{at_test}
 use Rattle.flow_graph.specs.Assignments.{masked}
 use Rattle.flow_graph.specs.Bits.{bit_of, has_any, worth_of, coded}
 use Rattle.flow_graph.specs.Calls.{resumed}
@@ -72,11 +73,10 @@ resumed_code g (Some x) v e wide count has =
 
 -- some bit of a mask of one bit is 1 if that bit is
 has_bit : (n b : ℕ) → has_any n (2 ^ b) ≡ bit_of n b
-has_bit n b = ap (λ k. not (k == 0)) (and_pow n b ∙ ap (λ k. k * 2 ^ b) (bit_worth n b)) ∙ whole (bit_of n b)
-  where
-    whole : (c : Bool) → not (worth_of c * 2 ^ b == 0) ≡ c
-    whole true = ap not (ne_eqb (1 * 2 ^ b) 0 (λ e. omega (arith, e, pow_pos b)))
-    whole false = ap (λ k. not (k == 0)) (let e : 0 * 2 ^ b ≡ 0 = omega arith in e)
+has_bit n b = ap (λ k. not (k == 0)) (and_pow n b ∙ ap (λ k. k * 2 ^ b) (bit_worth n b))
+    ∙ at_test (λ c. not (worth_of c * 2 ^ b == 0) ≡ c) (bit_of n b)
+    (λ _. ap not (ne_eqb (1 * 2 ^ b) 0 (λ e. omega (arith, e, pow_pos b))))
+    (λ _. ap (λ k. not (k == 0)) (let e : 0 * 2 ^ b ≡ 0 = omega arith in e))
 
 -- the bit of the result has the result
 pub result_code : (r : Routine) (g : ℕ) (v : Valuation) → length v.globals ≡ g →

@@ -2,13 +2,14 @@
 use Rattle.std.proofs.Common.{◌≡◌, ◌<◌, ◌≤◌, ℕ, zero, suc, ◌+◌, ◌-◌, ◌*◌, ◌/◌, ◌%◌, ◌^◌, min, max}
 use Rattle.std.proofs.Common.{◌==◌, cond, not, ◌&&◌, ◌||◌, Bool, true, false, List, [], ◌∷◌, ◌++◌, length}
 use Rattle.std.proofs.Common.{get_or}
-use Rattle.std.proofs.Common.{map, take, set, w64, refl, sym, ◌∙◌, ap, subst, arith, append_assoc}
+use Rattle.std.proofs.Common.{map, take, set, w64, inl, inr, refl, sym, ◌∙◌, ap, subst, arith, append_assoc}
 use Rattle.std.specs.Int.{bit_at}
 use Rattle.std.specs.Int.RustNames.{bit_and, bit_or, bit_xor}
-use Rattle.std.proofs.lemmas.Bool.{eqb-true, eqb-false, false≢true}
+use Rattle.std.proofs.lemmas.Bool.{eqb-true, eqb-false, cases_eq, false≢true}
 use Rattle.std.proofs.lemmas.Nat.Bits.{bit_at_lowest, bit_at-suc, bit_at-lt, bit_at_and, bit_at_or, bit_at_xor, bit_at_not}
 use Rattle.language.specs.Tree.{Operator, xor, Expression, negation, two}
 use Rattle.language.specs.Value.{operate}
+use Rattle.language.proofs.TestLemmas.{at_test}
 use Rattle.std.proofs.Math.Nat.{mul_assoc, mul-add}
 use Rattle.std.proofs.Math.Pow.{pow_mono}
 use Rattle.std.proofs.lemmas.List.{length-map, get_or-take, get_or-set_same, get_or-set_other}
@@ -67,18 +68,14 @@ pub combined_next : (o : Operator) (left right words : List ℕ) (n w : ℕ) →
     → AreCombined o left right words n →
     ((j : ℕ) → j < word_rows → bit_of w j ≡ operate o (bit_of (get_or left n 0) j) (bit_of (get_or right n 0) j))
     → AreCombined o left right (set words n w) (n + 1)
-combined_next o left right words n w inside so_far here k less j row = go (k == n) refl
-  where
-    go : (b : Bool) → (k == n) ≡ b → bit_of (get_or (set words n w) k 0) j ≡ operate o (bit_of (get_or left k 0) j)
-        (bit_of (get_or right k 0) j)
-    go true e =
-        let same = eqb-true k n e in
-        ap (λ i. bit_of (get_or (set words n w) i 0) j) same ∙ ap (λ v. bit_of v j)
-        (get_or-set_same words n w 0 inside) ∙ here j row
-        ∙ ap (λ i. operate o (bit_of (get_or left i 0) j) (bit_of (get_or right i 0) j)) (sym same)
-    go false e =
-        let apart = eqb-false k n e in
-        ap (λ v. bit_of v j) (get_or-set_other words n k w 0 apart) ∙ so_far k (omega (arith, less, apart)) j row
+combined_next o left right words n w inside so_far here k less j row = elim (cases_eq k n) [
+  | inl same ↦
+      ap (λ i. bit_of (get_or (set words n w) i 0) j) same ∙ ap (λ v. bit_of v j)
+      (get_or-set_same words n w 0 inside) ∙ here j row
+      ∙ ap (λ i. operate o (bit_of (get_or left i 0) j) (bit_of (get_or right i 0) j)) (sym same)
+  | inr apart ↦
+      ap (λ v. bit_of v j) (get_or-set_other words n k w 0 apart) ∙ so_far k (omega (arith, less, apart)) j row
+]
 
 pub combined_rows : (o : Operator) (left right words : List ℕ) → AreCombined o left right words 16 → (j : ℕ)
     → j < most_rows →
@@ -94,17 +91,13 @@ all_below (suc n) test = cond (test n) (all_below n test) false
 
 below : (n : ℕ) (test : ℕ → Bool) → all_below n test ≡ true → (j : ℕ) → j < n → test j ≡ true
 below zero test h j less = absurd (omega (arith, less))
-below (suc n) test h j less = go (test n) refl h (λ k inside. below n test k j inside)
-  where
-    last : (b : Bool) → (j == n) ≡ b → test n ≡ true → (j < n → test j ≡ true) → test j ≡ true
-    last true e is rest = ap test (eqb-true j n e) ∙ is
-    last false e is rest = let apart = eqb-false j n e in rest (omega (arith, less, apart))
-
-    go : (b : Bool) → test n ≡ b → cond b (all_below n test) false ≡ true
-        → (all_below n test ≡ true → j < n → test j ≡ true)
-        → test j ≡ true
-    go true is k rest = last (j == n) refl is (rest k)
-    go false is k rest = absurd (false≢true k)
+below (suc n) test h j less =
+    at_test (λ b. cond b (all_below n test) false ≡ true → test j ≡ true) (test n)
+    (λ is rest. elim (cases_eq j n) [
+      | inl e ↦ ap test e ∙ is
+      | inr apart ↦ below n test rest j (omega (arith, less, apart))
+    ])
+    (λ is none. absurd (false≢true none)) h
 
 -- the same value
 abbrev pub same : Bool → Bool → Bool
@@ -126,55 +119,40 @@ rows_of_slot words s h j less = same_is (output words j) (bit_of j s)
 
 pub slot_most : (b : ℕ) (xs : List ℕ) → slot b xs ≤ length xs
 slot_most b [] = omega arith
-slot_most b (x ∷ xs) = go (b == x) (slot_most b xs)
-  where
-    go : (c : Bool) → slot b xs ≤ length xs → cond c 0 (suc (slot b xs)) ≤ suc (length xs)
-    go true h = omega arith
-    go false h = omega (arith, h)
+slot_most b (x ∷ xs) =
+    at_test (λ c. cond c 0 (suc (slot b xs)) ≤ suc (length xs)) (b == x) (λ e. omega arith)
+    (λ e. let h = slot_most b xs in omega (arith, h))
 
 pub slot_inside : (b : ℕ) (xs : List ℕ) → slot b xs < length xs → is_input b xs ≡ true
 slot_inside b [] h = absurd (omega (arith, h))
-slot_inside b (x ∷ xs) h = go (b == x) h (slot_inside b xs)
-  where
-    go : (c : Bool) → cond c 0 (suc (slot b xs)) < suc (length xs) → (slot b xs < length xs → is_input b xs ≡ true)
-        → cond c true (is_input b xs) ≡ true
-    go true k rest = refl
-    go false k rest = rest (omega (arith, k))
+slot_inside b (x ∷ xs) h =
+    at_test (λ c. cond c 0 (suc (slot b xs)) < suc (length xs) → cond c true (is_input b xs) ≡ true) (b == x) (λ e k. refl)
+    (λ e k. slot_inside b xs (omega (arith, k))) h
 
 pub slot_outside : (b : ℕ) (xs : List ℕ) → length xs ≤ slot b xs → is_input b xs ≡ false
 slot_outside b [] h = refl
-slot_outside b (x ∷ xs) h = go (b == x) h (slot_outside b xs)
-  where
-    go : (c : Bool) → suc (length xs) ≤ cond c 0 (suc (slot b xs)) → (length xs ≤ slot b xs → is_input b xs ≡ false)
-        → cond c true (is_input b xs) ≡ false
-    go true k rest = absurd (omega (arith, k))
-    go false k rest = rest (omega (arith, k))
+slot_outside b (x ∷ xs) h =
+    at_test (λ c. suc (length xs) ≤ cond c 0 (suc (slot b xs)) → cond c true (is_input b xs) ≡ false) (b == x)
+    (λ e k. absurd (omega (arith, k))) (λ e k. slot_outside b xs (omega (arith, k))) h
 
 -- inputs after others change no slot of these
 pub slot_kept : (b : ℕ) (xs ys : List ℕ) → is_input b xs ≡ true
     → (slot b (xs ++ ys) ≡ slot b xs) × (is_input b (xs ++ ys) ≡ true)
 slot_kept b [] ys h = absurd (false≢true h)
-slot_kept b (x ∷ xs) ys h = go (b == x) h (slot_kept b xs ys)
-  where
-    go : (c : Bool) → cond c true (is_input b xs) ≡ true
-        → (is_input b xs ≡ true → (slot b (xs ++ ys) ≡ slot b xs) × (is_input b (xs ++ ys) ≡ true))
-        → (cond c 0 (suc (slot b (xs ++ ys))) ≡ cond c 0 (suc (slot b xs))) × (cond c true (is_input b (xs ++ ys)) ≡ true)
-    go true k rest = (refl, refl)
-    go false k rest = let r = rest k in (ap suc r.0, r.1)
+slot_kept b (x ∷ xs) ys h =
+    at_test
+    (λ c. cond c true (is_input b xs) ≡ true
+    → (cond c 0 (suc (slot b (xs ++ ys))) ≡ cond c 0 (suc (slot b xs))) × (cond c true (is_input b (xs ++ ys)) ≡ true))
+    (b == x) (λ e k. (refl, refl)) (λ e k. let r = slot_kept b xs ys k in (ap suc r.0, r.1)) h
 
 pub slot_last : (b : ℕ) (xs : List ℕ) → (slot b (xs ++ (b ∷ [])) ≡ slot b xs) × (is_input b (xs ++ (b ∷ [])) ≡ true)
-slot_last b [] = go (b == b) refl
-  where
-    go : (c : Bool) → (b == b) ≡ c → (◌≡◌ {A = ℕ} (cond c 0 1) 0) × (cond c true false ≡ true)
-    go true e = (refl, refl)
-    go false e = absurd (eqb-false b b e refl)
-slot_last b (x ∷ xs) = go (b == x) (slot_last b xs)
-  where
-    go : (c : Bool) → (slot b (xs ++ (b ∷ [])) ≡ slot b xs) × (is_input b (xs ++ (b ∷ [])) ≡ true)
-        → (cond c 0 (suc (slot b (xs ++ (b ∷ [])))) ≡ cond c 0 (suc (slot b xs)))
-        × (cond c true (is_input b (xs ++ (b ∷ []))) ≡ true)
-    go true r = (refl, refl)
-    go false r = (ap suc r.0, r.1)
+slot_last b [] =
+    at_test (λ c. (◌≡◌ {A = ℕ} (cond c 0 1) 0) × (cond c true false ≡ true)) (b == b) (λ e. (refl, refl))
+    (λ e. absurd (eqb-false b b e refl))
+slot_last b (x ∷ xs) =
+    at_test
+    (λ c. (cond c 0 (suc (slot b (xs ++ (b ∷ [])))) ≡ cond c 0 (suc (slot b xs))) × (cond c true (is_input b (xs ++ (b ∷ []))) ≡ true))
+    (b == x) (λ e. (refl, refl)) (λ e. let r = slot_last b xs in (ap suc r.0, r.1))
 
 -- a read of the bit in this slot
 pub reads_slot : (b s : ℕ) (words : List ℕ) (xs : List ℕ) → slot b xs ≡ s → is_input b xs ≡ true →
@@ -220,11 +198,8 @@ module _ (known : List ℕ) (row : ℕ) where
       ((j : ℕ) → j < most_rows → output v j ≡ operate xor (output w j) (output ones j)) → Tabulates known row xs w e
       → Tabulates known row xs v (negation e)
   complemented xs w ones v e one turns t f j less k h =
-      turns j less ∙ ap (operate xor (output w j)) (one j less) ∙ turn (output w j) ∙ ap not (t f j less k h)
-    where
-      turn : (b : Bool) → operate xor b true ≡ not b
-      turn true = refl
-      turn false = refl
+      turns j less ∙ ap (operate xor (output w j)) (one j less)
+      ∙ at_test (λ b. operate xor b true ≡ not b) (output w j) (λ e. refl) (λ e. refl) ∙ ap not (t f j less k h)
 
   pub operated : (xs ys l r w : List ℕ) (o : Operator) (a b : Expression ℕ) → Widens xs ys → Tabulates known row xs l a
       → Tabulates known row ys r b
@@ -247,11 +222,8 @@ module _ (known : List ℕ) (row : ℕ) where
 pub first_bit : (b : Bool) (n : ℕ) → bit_of (worth_of b + 2 * n) 0 ≡ b
 first_bit b n =
     ap (λ k. k == 1) (bit_at_lowest (worth_of b + 2 * n)
-    ∙ (let z : (worth_of b + 2 * n) % 2 ≡ worth_of b = omega (arith, worth_small b) in z)) ∙ one b
-  where
-    one : (c : Bool) → (worth_of c == 1) ≡ c
-    one true = refl
-    one false = refl
+    ∙ (let z : (worth_of b + 2 * n) % 2 ≡ worth_of b = omega (arith, worth_small b) in z))
+    ∙ at_test (λ c. (worth_of c == 1) ≡ c) b (λ e. refl) (λ e. refl)
 
 pub later_bit : (b : Bool) (n i : ℕ) → bit_of (worth_of b + 2 * n) (suc i) ≡ bit_of n i
 later_bit b n i =
@@ -260,13 +232,11 @@ later_bit b n i =
 
 row_bit : (f : ℕ → Bool) (xs : List ℕ) (b : ℕ) → is_input b xs ≡ true → bit_of (coded (map f xs)) (slot b xs) ≡ f b
 row_bit f [] b h = absurd (false≢true h)
-row_bit f (x ∷ xs) b h = go (b == x) refl h (row_bit f xs b)
-  where
-    go : (c : Bool) → (b == x) ≡ c → cond c true (is_input b xs) ≡ true
-        → (is_input b xs ≡ true → bit_of (coded (map f xs)) (slot b xs) ≡ f b)
-        → bit_of (worth_of (f x) + 2 * coded (map f xs)) (cond c 0 (suc (slot b xs))) ≡ f b
-    go true e k rest = first_bit (f x) (coded (map f xs)) ∙ ap f (sym (eqb-true b x e))
-    go false e k rest = later_bit (f x) (coded (map f xs)) (slot b xs) ∙ rest k
+row_bit f (x ∷ xs) b h =
+    at_test
+    (λ c. cond c true (is_input b xs) ≡ true → bit_of (worth_of (f x) + 2 * coded (map f xs)) (cond c 0 (suc (slot b xs))) ≡ f b) (b == x)
+    (λ e k. first_bit (f x) (coded (map f xs)) ∙ ap f (sym (eqb-true b x e)))
+    (λ e k. later_bit (f x) (coded (map f xs)) (slot b xs) ∙ row_bit f xs b k) h
 
 -- the first words hold the outputs of the rows that they have
 output_taken : (n j : ℕ) (words : List ℕ) → j < word_rows * n → output (take n words) j ≡ output words j

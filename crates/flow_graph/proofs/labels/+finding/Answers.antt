@@ -1,10 +1,10 @@
 -- The label stands at a statement, inside of it, or after it.
-use Rattle.std.proofs.Common.{◌≡◌, ◌<◌, ◌+◌, ◌*◌, [], ◌∷◌, drop, refl, ◌∙◌, ap, sym, arith}
+use Rattle.std.proofs.Common.{◌≡◌, ◌+◌, [], ◌∷◌, drop, refl, ◌∙◌, ap, sym, arith}
 use Rattle.language.specs.Resolve.{resolve_block}
 use Rattle.language.specs.Rest.{join, first_of_two}
 use Rattle.language.specs.Sequential.{statements, numbered}
-use Rattle.trees.specs.Trees.{deed_of, block_of}
-use Rattle.trees.proofs.Held.{held, smaller}
+use Rattle.trees.specs.Trees.{block_of}
+use Rattle.trees.proofs.Held.{smaller}
 use Rattle.flow_graph.proofs.CountLemmas.{alone_counts, next_counts}
 use Rattle.flow_graph.proofs.LabelLemmas.{place, place_next, place_nowhere, found_first, found_second}
 use Rattle.flow_graph.proofs.labels.+finding.Goals as goal
@@ -12,8 +12,7 @@ use Rattle.flow_graph.proofs.labels.+finding.Goals as goal
 pub find-find_at-requires : goal.find-find_at-requires
 find-find_at-requires g t c κs within =
     let part = smaller c.args.stmts.now c.loop-stmt.stmt-index c.stmt-item.result c.loop-stmt-test.true c.stmt-item.is in
-    let less : 2 * held (deed_of c.stmt-item.result.core) + 2 < 2 * statements (block_of c.args.stmts.now) + 1 = omega (arith, part) in
-    (rw (← c.requires.1.0) less, within)
+    (rw (← c.requires.1.0) (omega (arith, part)), within)
 
 pub find-returns-in-Some : goal.find-returns-in-Some
 find-returns-in-Some g t c s k most =
@@ -81,12 +80,8 @@ find_at-returns-in-None g t c =
 
 pub find_at-find-requires : goal.find_at-find-requires
 find_at-find-requires g t c κs within =
-    let less : 2 * statements (block_of c.inside.result.0.now) + 1 < 2 * held (deed_of c.args.stmt.now.core) + 2 = omega
-    (arith, ap statements c.inside.ensures.first) in
-    (rw (← c.requires.1.0) less, within)
+    (rw (← c.requires.1.0) (omega (arith, ap statements c.inside.ensures.first)), within)
 
 pub find_at-find-requires-in-None : goal.find_at-find-requires-in-None
 find_at-find-requires-in-None g t c κs within =
-    let less : 2 * statements (block_of c.inside.result.1.now) + 1 < 2 * held (deed_of c.args.stmt.now.core) + 2 = omega
-    (arith, ap statements c.inside.ensures.second) in
-    (rw (← c.requires.1.0) less, within)
+    (rw (← c.requires.1.0) (omega (arith, ap statements c.inside.ensures.second)), within)

@@ -1,5 +1,5 @@
 -- Statements are lowered one after the other, and those inside of each after it.
-use Rattle.std.proofs.Common.{◌≡◌, ◌<◌, ◌+◌, ◌*◌, length, map, refl, sym, ◌∙◌, ap, subst, arith}
+use Rattle.std.proofs.Common.{◌≡◌, length, map, refl, sym, ◌∙◌, ap, subst, arith}
 use Rattle.std.proofs.lemmas.List.{nil_from_length}
 use Rattle.std.proofs.lemmas.Result.{IfOk-weaker}
 use Rattle.language.specs.Resolve.{resolve_block}
@@ -27,9 +27,7 @@ block-statement-requires g t c κs within =
     let more = c.in-Some.more.now in
     let whole = ap (λ l. statements (block_of l)) c.in-Some.ensures.cases.0 in
     let first = first_counts stmt more in
-    let less : 2 * held (deed_of stmt.core) + 2 < 2 * statements (block_of c.args.stmts.now) + 1 =
-    omega (arith, c.loop-stmt.invariant.0, whole, first) in
-    (rw (← c.decreases) less, (within.0, (within.1, c.requires)))
+    (rw (← c.decreases) (omega (arith, c.loop-stmt.invariant.0, whole, first)), (within.0, (within.1, c.requires)))
 
 pub block-loop-stmt-smaller : goal.block-loop-stmt-smaller
 block-loop-stmt-smaller g t c = omega (arith, ap length c.in-Some.ensures.cases.0)
@@ -117,22 +115,16 @@ pub statement-block-requires : goal.statement-block-requires
 statement-block-requires g t c κs within =
     let parts = ap held (ap deed_of c.in-If.is ∙ deed_of-If _ _ _) in
     let inside = ap (λ l. statements (block_of l)) c.deref.ensures.value in
-    let less : 2 * statements (block_of c.deref.result.now) + 1 < 2 * held (deed_of c.args.stmt.now.core) + 2 = omega
-    (arith, parts, inside) in
-    (rw (← c.decreases) less, (within.0, (within.1, c.requires)))
+    (rw (← c.decreases) (omega (arith, parts, inside)), (within.0, (within.1, c.requires)))
 
 pub statement-block-requires-in-If : goal.statement-block-requires-in-If
 statement-block-requires-in-If g t c κs within =
     let parts = ap held (ap deed_of c.in-If.is ∙ deed_of-If _ _ _) in
     let inside = ap (λ l. statements (block_of l)) c.deref-in-If.ensures.value in
-    let less : 2 * statements (block_of c.deref-in-If.result.now) + 1 < 2 * held (deed_of c.args.stmt.now.core) + 2 = omega
-    (arith, parts, inside) in
-    (rw (← c.decreases) less, (within.0, (within.1, c.requires)))
+    (rw (← c.decreases) (omega (arith, parts, inside)), (within.0, (within.1, c.requires)))
 
 pub statement-block-requires-in-While : goal.statement-block-requires-in-While
 statement-block-requires-in-While g t c κs within =
     let parts = ap held (ap deed_of c.in-While.is ∙ deed_of-While _ _) in
     let inside = ap (λ l. statements (block_of l)) c.deref-in-While.ensures.value in
-    let less : 2 * statements (block_of c.deref-in-While.result.now) + 1 < 2 * held (deed_of c.args.stmt.now.core) + 2 = omega
-    (arith, parts, inside) in
-    (rw (← c.decreases) less, (within.0, (within.1, c.requires)))
+    (rw (← c.decreases) (omega (arith, parts, inside)), (within.0, (within.1, c.requires)))
