@@ -1,37 +1,20 @@
 -- The rewritten assignment: draw, spread over the copies, write.
-use Rattle.std.proofs.Common.{◌≡◌, ℕ, zero, suc, ◌+◌, ◌*◌, ◌<◌, ◌≤◌, Bool, false, not, ◌&&◌, ◌||◌, List}
+use Rattle.std.proofs.Common.{◌≡◌, eqb, ℕ, zero, suc, ◌+◌, ◌*◌, ◌<◌, ◌≤◌, Bool, false, not, ◌&&◌, ◌||◌, List}
 use Rattle.std.proofs.Common.{[], ◌∷◌, ◌++◌, length, map, refl, sym, ◌∙◌, ap, subst, ap₂, arith, inl, inr}
-use Rattle.std.proofs.lemmas.Bool.{cases_eq}
-use Rattle.std.proofs.lemmas.List.{get_or-set_same, get_or-set_other, length-set, set-append_left}
+use Rattle.std.proofs.lemmas.Bool.{cases_eq, eq-eqb, ne_eqb}
+use Rattle.std.proofs.lemmas.List.{get_or-set_same, get_or-set_other, length-set, set-append_left, set-set}
+use Rattle.std.proofs.Math.Bool.{or-false}
 use Rattle.language.specs.Tree.{Expression, var, RightSide, any, value}
 use Rattle.language.specs.Value.{Place, global, local, bit, with_bit, look_up, value_of, IsValue, AreValues, written_globals}
 use Rattle.language.specs.Value.{written_locals}
 use Rattle.round_rewrite.specs.Table.{numbers, in_round, expression_form, copy_value, targets, sides, draws, each}
 use Rattle.round_rewrite.specs.Places.{places, is_global}
 use Rattle.resolved.specs.Scoped.{PlaceInScope, PlacesInScope, SideInScope, SidesInScope}
-use Rattle.round_rewrite.proofs.LayoutLemmas.{row, with_row, row_bit, row_with, with_own, with_right, length-with_row, long-with_row}
+use Rattle.round_rewrite.proofs.LayoutLemmas.{row, with_row, row_bit, row_with, with_own, with_right, long-with_row}
 use Rattle.round_rewrite.proofs.LayoutLemmas.{bit_right}
-use Rattle.round_rewrite.proofs.RoundBitLemmas.{same, same_refl, same_false}
 use Rattle.round_rewrite.proofs.LayoutLemmas.{bits_of, lay, Moment, globals_at}
-use Rattle.round_rewrite.proofs.Translate.{at_is, expression_is, or_false}
+use Rattle.round_rewrite.proofs.Translate.{at_is, expression_is}
 use Rattle.round_rewrite.specs.Limits.{most_rounds}
-
-pub row-with_same : (C : List (List Bool)) (k : ℕ) (v : List Bool) → k < length C → row (with_row C k v) k ≡ v
-row-with_same [] k v h = absurd (omega arith)
-row-with_same (r ∷ C) zero v h = refl
-row-with_same (r ∷ C) (suc k) v h = row-with_same C k v (omega arith)
-
-pub row-with_other : (C : List (List Bool)) (k j : ℕ) (v : List Bool) → (k ≡ j → ⊥) → row (with_row C k v) j ≡ row C j
-row-with_other [] k j v h = refl
-row-with_other (r ∷ C) zero zero v h = absurd (h refl)
-row-with_other (r ∷ C) zero (suc j) v h = refl
-row-with_other (r ∷ C) (suc k) zero v h = refl
-row-with_other (r ∷ C) (suc k) (suc j) v h = row-with_other C k j v (λ e. h (ap suc e))
-
-pub with-with_row : (C : List (List Bool)) (k : ℕ) (v u : List Bool) → with_row (with_row C k v) k u ≡ with_row C k u
-with-with_row [] k v u = refl
-with-with_row (r ∷ C) zero v u = refl
-with-with_row (r ∷ C) (suc k) v u = ap (λ z. r ∷ z) (with-with_row C k v u)
 
 some_values : (g l : List Bool) (rs : List (RightSide Place)) → (vs : List Bool) × AreValues g l rs vs
 some_values g l [] = ([], tt)
@@ -45,21 +28,18 @@ drawn_to (suc d) j [] tmp = tmp
 drawn_to (suc d) j (t ∷ ts) tmp = drawn_to d (suc j) ts (with_bit tmp j t)
 
 pub length-drawn : (d j : ℕ) (ts tmp : List Bool) → length (drawn_to d j ts tmp) ≡ length tmp
-length-drawn zero j ts tmp = refl
-length-drawn (suc d) j [] tmp = refl
 length-drawn (suc d) j (t ∷ ts) tmp = length-drawn d (suc j) ts (with_bit tmp j t) ∙ length-set tmp j t
+length-drawn _ j _ tmp = refl
 
 bit-drawn : (d j : ℕ) (ts tmp : List Bool) (i : ℕ) → i < j → bit (drawn_to d j ts tmp) i ≡ bit tmp i
-bit-drawn zero j ts tmp i h = refl
-bit-drawn (suc d) j [] tmp i h = refl
 bit-drawn (suc d) j (t ∷ ts) tmp i h = bit-drawn d (suc j) ts (with_bit tmp j t) i (omega arith)
     ∙ get_or-set_other tmp j i t false (omega arith)
+bit-drawn _ j _ tmp i h = refl
 
 pub bit-undrawn : (d j : ℕ) (ts tmp : List Bool) (i : ℕ) → j + d ≤ i → bit (drawn_to d j ts tmp) i ≡ bit tmp i
-bit-undrawn zero j ts tmp i h = refl
-bit-undrawn (suc d) j [] tmp i h = refl
 bit-undrawn (suc d) j (t ∷ ts) tmp i h = bit-undrawn d (suc j) ts (with_bit tmp j t) i (omega arith)
     ∙ get_or-set_other tmp j i t false (omega arith)
+bit-undrawn _ j _ tmp i h = refl
 
 -- the values of the `?` with a global target
 pub picks : List Place → List (RightSide Place) → List Bool → List Bool
@@ -112,24 +92,22 @@ any_are X L g l j (local i ∷ xs) (value e ∷ rs) (v ∷ vs) a = any_are X L g
 pub drawn_writes : (X l tmp : List Bool) (own d j : ℕ) (ts : List Bool) → length l ≡ own
     → (written_globals (map (λ k. local (own + k)) (numbers j d)) ts X ≡ X)
     × (written_locals (map (λ k. local (own + k)) (numbers j d)) ts (l ++ tmp) ≡ l ++ drawn_to d j ts tmp)
-drawn_writes X l tmp own zero j ts e = (refl, refl)
-drawn_writes X l tmp own (suc d) j [] e = (refl, refl)
 drawn_writes X l tmp own (suc d) j (t ∷ ts) e =
     let ih = drawn_writes X l (with_bit tmp j t) own d (suc j) ts e in (
       ih.0,
       ap (written_locals (map (λ k. local (own + k)) (numbers (suc j) d)) ts) (with_right l tmp (own + j) j t (ap (λ z. z + j) (sym e)))
           ∙ ih.1,
     )
+drawn_writes X l tmp own _ j _ e = (refl, refl)
 
 -- writes to a frame's own places leave what comes after them
 pub writes_more : (n own : ℕ) (xs : List Place) (vs l more : List Bool) → PlacesInScope n own xs → length l ≡ own
     → written_locals xs vs (l ++ more) ≡ written_locals xs vs l ++ more
-writes_more n own [] vs l more h e = refl
-writes_more n own (x ∷ xs) [] l more h e = refl
 writes_more n own (global i ∷ xs) (v ∷ vs) l more h e = writes_more n own xs vs l more h.1 e
 writes_more n own (local i ∷ xs) (v ∷ vs) l more h e =
     ap (written_locals xs vs) (set-append_left l more i v (let z : i < own = h.0 in omega arith))
     ∙ writes_more n own xs vs (with_bit l i v) more h.1 (length-set l i v ∙ e)
+writes_more n own _ _ l more h e = refl
 
 module _ {n last : ℕ} (small : last < most_rounds) (now : Moment n last) (own : ℕ) (l more tmp : List Bool)
     (el : length l ≡ own) where
@@ -140,13 +118,13 @@ module _ {n last : ℕ} (small : last < most_rounds) (now : Moment n last) (own 
 
   -- what the copy of global i for round k gets if it gets v
   spread : ℕ → Bool → ℕ → Bool
-  spread i v k = (same k q && v) || (not (same k q) && bit (row C k) i)
+  spread i v k = (eqb k q && v) || (not (eqb k q) && bit (row C k) i)
 
   written_is : (d : Expression Place) (v : Bool) (i k : ℕ) → i < n → k ≤ last → value_of X (l ++ tmp) d ≡ v → (u : Bool)
       → IsValue X (l ++ tmp) (copy_value (places n last own) last d (global i) k) u ≡ (u ≡ spread i v k)
   unfolding spread
   written_is d v i k hi hk ed u =
-      let e : value_of (lay C S (bits_of last q false b)) (l ++ tmp) (in_round (places n last own) last k) ≡ same k q =
+      let e : value_of (lay C S (bits_of last q false b)) (l ++ tmp) (in_round (places n last own) last k) ≡ eqb k q =
       at_is small now own (l ++ tmp) k hk in
       let c : bit (lay C S (bits_of last q false b)) (k * n + i) ≡ bit (row C k) i =
       row_bit n C _ k i shape.copies (let z : length C ≡ suc last = shape.rounds in omega arith) hi in
@@ -192,22 +170,22 @@ module _ {n last : ℕ} (small : last < most_rounds) (now : Moment n last) (own 
   spread_one h i v k eh hi hk =
       let D : List (List Bool) = with_row C q h in
       let lc : length C ≡ suc last = shape.rounds in
-      let ld : length D ≡ length C = length-with_row C q h in
+      let ld : length D ≡ length C = length-set C q h in
       let write : (u : Bool) → with_bit (lay D S (bits_of last q false b)) (k * n + i) u ≡ lay (with_row D k (with_bit (row D k) i u)) S
       (bits_of last q false b) =
       λ u. row_with n D _ k i u (long-with_row n C q h shape.copies eh) (omega arith) hi in (
         (λ e.
             let w1 : with_row D k (with_bit (row D k) i v) ≡ with_row C q (with_bit h i v) =
             subst (λ j. with_row D j (with_bit (row D j) i v) ≡ with_row C q (with_bit h i v)) (sym e)
-            (ap (λ z. with_row D q (with_bit z i v)) (row-with_same C q h (omega arith)) ∙ with-with_row C q h (with_bit h i v)) in
-            let new : ((same k q && v) || (not (same k q) && bit (row C k) i)) ≡ v =
-            ap (λ t. (t && v) || (not t && bit (row C k) i)) (ap (λ j. same j q) e ∙ same_refl q) ∙ or_false v in
+            (ap (λ z. with_row D q (with_bit z i v)) (get_or-set_same C q h [] (omega arith)) ∙ set-set C q h (with_bit h i v)) in
+            let new : ((eqb k q && v) || (not (eqb k q) && bit (row C k) i)) ≡ v =
+            ap (λ t. (t && v) || (not t && bit (row C k) i)) (ap (λ j. eqb j q) e ∙ eq-eqb q q refl) ∙ or-false v in
             ap (with_bit (lay D S (bits_of last q false b)) (k * n + i)) new
             ∙ (write v ∙ ap (λ z. lay z S (bits_of last q false b)) w1)),
         (λ ne.
-            let old : ((same k q && v) || (not (same k q) && bit (row C k) i)) ≡ bit (row D k) i =
-            ap (λ t. (t && v) || (not t && bit (row C k) i)) (same_false k q ne)
-            ∙ ap (λ z. bit z i) (sym (row-with_other C q k h (λ e. ne (sym e)))) in
+            let old : ((eqb k q && v) || (not (eqb k q) && bit (row C k) i)) ≡ bit (row D k) i =
+            ap (λ t. (t && v) || (not t && bit (row C k) i)) (ne_eqb k q ne)
+            ∙ ap (λ z. bit z i) (sym (get_or-set_other C q k h [] ne)) in
             ap (with_bit (lay D S (bits_of last q false b)) (k * n + i)) old
             ∙ (write (bit (row D k) i) ∙ ap (λ z. lay z S (bits_of last q false b)) (with_own D k i))),
       )
@@ -270,8 +248,6 @@ module _ {n last : ℕ} (small : last < most_rounds) (now : Moment n last) (own 
       → Picked j xs rs vs tmp → PlacesInScope n own xs → SidesInScope n own rs
       → AreValues X (l ++ tmp) (sides (places n last own) last j xs rs) (spread_all xs rs vs)
   unfolding spread_all
-  sides_are j [] rs vs a p hx hr = tt
-  sides_are j (x ∷ xs) [] vs a p hx hr = tt
   sides_are j (x ∷ xs) (r ∷ rs) [] a p hx hr = absurd a
   sides_are j (global i ∷ xs) (any ∷ rs) (v ∷ vs) a p hx hr =
       spread_are (var (local (own + j))) v i hx.0 (drawn_is j ∙ p.0) (numbers 0 (suc last)) all_below _ _
@@ -281,15 +257,14 @@ module _ {n last : ℕ} (small : last < most_rounds) (now : Moment n last) (own 
       (sides_are j xs rs vs a.1 p hx.1 hr.1)
   sides_are j (local i ∷ xs) (any ∷ rs) (v ∷ vs) a p hx hr = (tt, sides_are j xs rs vs a.1 p hx.1 hr.1)
   sides_are j (local i ∷ xs) (value e ∷ rs) (v ∷ vs) a p hx hr = (a.0 ∙ sym (expr_is e hr.0), sides_are j xs rs vs a.1 p hx.1 hr.1)
+  sides_are j _ _ vs a p hx hr = tt
 
   pub sides_back : (j : ℕ) (xs : List Place) (rs : List (RightSide Place)) (ws : List Bool) → PlacesInScope n own xs
       → SidesInScope n own rs → AreValues X (l ++ tmp) (sides (places n last own) last j xs rs) ws
       → (vs : List Bool) × AreValues (row C q) (l ++ more) rs vs × Picked j xs rs vs tmp × (ws ≡ spread_all xs rs vs)
   unfolding spread_all
   sides_back j [] rs [] hx hr a = let (vs, h) = some_values (row C q) (l ++ more) rs in (vs, h, tt, refl)
-  sides_back j [] rs (w ∷ ws) hx hr a = absurd a
   sides_back j (x ∷ xs) [] [] hx hr a = ([], tt, tt, refl)
-  sides_back j (x ∷ xs) [] (w ∷ ws) hx hr a = absurd a
   sides_back j (global i ∷ xs) (any ∷ rs) ws hx hr a =
       let (us, e, h) = spread_back (var (local (own + j))) (bit tmp j) i hx.0 (drawn_is j) (numbers 0 (suc last)) all_below _ ws a in
       let (vs, hv, pv, ev) = sides_back (suc j) xs rs us hx.1 hr.1 h in
@@ -304,14 +279,13 @@ module _ {n last : ℕ} (small : last < most_rounds) (now : Moment n last) (own 
         pv,
         e1 ∙ ap (λ z. map (spread i (value_of (row C q) (l ++ more) e)) (numbers 0 (suc last)) ++ z) ev,
       )
-  sides_back j (local i ∷ xs) (any ∷ rs) [] hx hr a = absurd a
   sides_back j (local i ∷ xs) (any ∷ rs) (w ∷ ws) hx hr a =
       let (vs, hv, pv, ev) = sides_back j xs rs ws hx.1 hr.1 a.1 in
       (w ∷ vs, (tt, hv), pv, ap (λ z. w ∷ z) ev)
-  sides_back j (local i ∷ xs) (value e ∷ rs) [] hx hr a = absurd a
   sides_back j (local i ∷ xs) (value e ∷ rs) (w ∷ ws) hx hr a =
       let (vs, hv, pv, ev) = sides_back j xs rs ws hx.1 hr.1 a.1 in
       (w ∷ vs, (a.0 ∙ expr_is e hr.0, hv), pv, ap (λ z. w ∷ z) ev)
+  sides_back j _ _ _ hx hr a = absurd a
 
   pub writes : (xs : List Place) (rs : List (RightSide Place)) (vs h : List Bool) → AreValues (row C q) (l ++ more) rs vs
       → PlacesInScope n own xs
@@ -319,8 +293,6 @@ module _ {n last : ℕ} (small : last < most_rounds) (now : Moment n last) (own 
       → written_globals (targets (places n last own) last xs rs) (spread_all xs rs vs) (lay (with_row C q h) S (bits_of last q false b))
       ≡ lay (with_row C q (written_globals xs vs h)) S (bits_of last q false b)
   unfolding spread_all copies_of
-  writes [] rs vs h a hx eh = refl
-  writes (x ∷ xs) [] [] h a hx eh = refl
   writes (x ∷ xs) [] (v ∷ vs) h a hx eh = absurd a
   writes (x ∷ xs) (r ∷ rs) [] h a hx eh = absurd a
   writes (global i ∷ xs) (r ∷ rs) (v ∷ vs) h a hx eh =
@@ -328,13 +300,12 @@ module _ {n last : ℕ} (small : last < most_rounds) (now : Moment n last) (own 
       (omega arith)
       ∙ writes xs rs vs (with_bit h i v) a.1 hx.1 (length-set h i v ∙ eh)
   writes (local i ∷ xs) (r ∷ rs) (v ∷ vs) h a hx eh = writes xs rs vs h a.1 hx.1 eh
+  writes _ _ _ h a hx eh = refl
 
   pub writes_locals : (xs : List Place) (rs : List (RightSide Place)) (vs l' : List Bool) → AreValues (row C q) (l ++ more) rs vs
       → PlacesInScope n own xs → length l' ≡ own
       → written_locals (targets (places n last own) last xs rs) (spread_all xs rs vs) (l' ++ tmp) ≡ written_locals xs vs l' ++ tmp
   unfolding spread_all copies_of
-  writes_locals [] rs vs l' a hx eh = refl
-  writes_locals (x ∷ xs) [] [] l' a hx eh = refl
   writes_locals (x ∷ xs) [] (v ∷ vs) l' a hx eh = absurd a
   writes_locals (x ∷ xs) (r ∷ rs) [] l' a hx eh = absurd a
   writes_locals (global i ∷ xs) (r ∷ rs) (v ∷ vs) l' a hx eh =
@@ -344,3 +315,4 @@ module _ {n last : ℕ} (small : last < most_rounds) (now : Moment n last) (own 
       ap (written_locals (targets (places n last own) last xs rs) (spread_all xs rs vs)) (set-append_left l' tmp i v
       (let z : length l' ≡ own = eh in let z' : i < own = hx.0 in omega arith))
       ∙ writes_locals xs rs vs (with_bit l' i v) a.1 hx.1 (length-set l' i v ∙ eh)
+  writes_locals _ _ _ l' a hx eh = refl

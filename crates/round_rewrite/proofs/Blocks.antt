@@ -1,6 +1,6 @@
 -- How the rewriting goes with joining, with leaving out labels and numbers, and with jumps.
 use Rattle.std.proofs.Common.{◌≡◌, ℕ, zero, suc, Bool, true, false, cond, Option, Some, None, option_map, refl, sym, ◌∙◌, ap, ap₂, map}
-use Rattle.language.specs.Tree.{Simple, skip, assign, assert, assume, goto, leave, call, leave_with, call_for, Mark, Block, done, one}
+use Rattle.language.specs.Tree.{Simple, assign, call_for, Mark, Block, done, one}
 use Rattle.language.specs.Tree.{choose, loop, RightSide}
 use Rattle.language.specs.Value.{Place}
 use Rattle.language.specs.Rest.{Label, Code, join, rest_from, first_of_two, has_label}
@@ -60,18 +60,12 @@ module _ {V W P Q L : Type 0} (w : Naming V W P Q) (last : ℕ) where
   drawing-join (suc n) t b = refl
 
   pub statement-join : (s : Simple V P L) (t b : Block W Q L) → join (statement w last s t) b ≡ statement w last s (join t b)
-  statement-join skip t b = refl
   statement-join (assign xs rs) t b = drawing-join (draws w.is_shared xs rs) _ b
-  statement-join (assert r) t b = refl
-  statement-join (assume r) t b = refl
-  statement-join (goto l) t b = refl
-  statement-join leave t b = refl
-  statement-join (call p es) t b = refl
-  statement-join (leave_with e) t b = refl
   statement-join (call_for x p es) t b =
       ap
       (λ z. one no_mark (call_for (receiver w last x) (w.called p) (map (expression_form w last) es)) (stop_test w last z))
       (cond_join (w.is_shared x) (received w last x t) t b)
+  statement-join _ t b = refl
 
 module _ (w : Naming Place Place ℕ ℕ) (last : ℕ) where
   pub bare-drawing : (n : ℕ) (t : Code) → bare (drawing w last n t) ≡ drawing w last n (bare t)
@@ -79,33 +73,21 @@ module _ (w : Naming Place Place ℕ ℕ) (last : ℕ) where
   bare-drawing (suc n) t = refl
 
   pub bare-statement : (s : Simple Place ℕ Label) (t : Code) → bare (statement w last s t) ≡ statement w last s (bare t)
-  bare-statement skip t = refl
   bare-statement (assign xs rs) t = bare-drawing (draws w.is_shared xs rs) _
-  bare-statement (assert r) t = refl
-  bare-statement (assume r) t = refl
-  bare-statement (goto l) t = refl
-  bare-statement leave t = refl
-  bare-statement (call p es) t = refl
-  bare-statement (leave_with e) t = refl
   bare-statement (call_for x p es) t =
       ap
       (λ z. one no_mark (call_for (receiver w last x) (w.called p) (map (expression_form w last) es)) (stop_test w last z))
       (bare-cond (w.is_shared x) (received w last x t) t)
+  bare-statement _ t = refl
 
   rest-drawing : (x : Label) (n : ℕ) (t k : Code) → rest_from x (drawing w last n t) k ≡ rest_from x t k
   rest-drawing x zero t k = refl
   rest-drawing x (suc n) t k = refl
 
   rest-statement : (x : Label) (s : Simple Place ℕ Label) (t k : Code) → rest_from x (statement w last s t) k ≡ rest_from x t k
-  rest-statement x skip t k = refl
   rest-statement x (assign xs rs) t k = rest-drawing x (draws w.is_shared xs rs) _ k
-  rest-statement x (assert r) t k = refl
-  rest-statement x (assume r) t k = refl
-  rest-statement x (goto l) t k = refl
-  rest-statement x leave t k = refl
-  rest-statement x (call p es) t k = refl
-  rest-statement x (leave_with e) t k = refl
   rest-statement x (call_for y p es) t k = rest-same x (w.is_shared y) (received w last y t) t k refl
+  rest-statement x _ t k = refl
 
   -- the rewritten block without labels and numbers
   abbrev pub put : Code → Code

@@ -73,12 +73,10 @@ module _ (w : World) (n last : ℕ) (g : List Bool) (eg : length g ≡ n) (bits 
         → Leads w (main_at (lay (g ∷ (a ++ u)) (a ++ u) bits) t) Q
         → Leads w (main_at (Open a d e) (guesses (places n last 0) last (all_globals n) (numbers (suc k) m) t)) Q
     guesses_lead Q zero k a [] [] [] f lu eu h = h
-    guesses_lead Q zero k a [] [] (x ∷ u) f lu eu h = absurd (omega arith)
     guesses_lead Q zero k a [] (x ∷ e) u f lu eu h = absurd (let z : suc (length e) ≡ zero = f.e_length in omega arith)
     guesses_lead Q zero k a (x ∷ d) e u f lu eu h = absurd (let z : suc (length d) ≡ zero = f.d_length in omega arith)
     guesses_lead Q (suc m) k a [] e u f lu eu h = absurd (let z : zero ≡ suc m = f.d_length in omega arith)
     guesses_lead Q (suc m) k a (x ∷ d) [] u f lu eu h = absurd (let z : zero ≡ suc m = f.e_length in omega arith)
-    guesses_lead Q (suc m) k a (x ∷ d) (y ∷ e) [] f lu eu h = absurd (omega arith)
     guesses_lead Q (suc m) k a (x ∷ d) (y ∷ e) (v ∷ u) f lu eu h =
         guess_leads w last (guesses (places n last 0) last (all_globals n) (numbers (suc (suc k)) m) t) n (g ∷ (a ++ x ∷ d))
         (a ++ y ∷ e) bits k
@@ -87,6 +85,7 @@ module _ (w : World) (n last : ℕ) (g : List Bool) (eg : length g ≡ n) (bits 
         (sym (guessed_is k m a d e x y v f))
         (guesses_lead Q m (suc k) (a ++ v ∷ []) d e u (fill_next k m a d e x y v f lu.0) lu.1 (omega arith)
         (subst (λ z. Leads w (main_at (lay (g ∷ z) z bits) t) Q) (sym (append_assoc a (v ∷ []) u)) h)))
+    guesses_lead Q _ k a _ _ _ f lu eu h = absurd (omega arith)
 
     pub guesses_back : (m k : ℕ) (a d e : List (List Bool)) → Fill k m a d e → (N : ℕ)
         → PlainAfter w N (main_at (Open a d e) (guesses (places n last 0) last (all_globals n) (numbers (suc k) m) t)) (Bad n last)
@@ -124,12 +123,9 @@ true_same false false e = refl
 -- rows of one length with the same bits are the same
 same_bits : (n : ℕ) (a b : List Bool) → length a ≡ n → length b ≡ n → ((i : ℕ) → i < n → bit a i ≡ bit b i) → a ≡ b
 same_bits zero [] [] ea eb h = refl
-same_bits zero [] (x ∷ b) ea eb h = absurd (omega arith)
-same_bits zero (x ∷ a) b ea eb h = absurd (omega arith)
-same_bits (suc n) [] b ea eb h = absurd (omega arith)
-same_bits (suc n) (x ∷ a) [] ea eb h = absurd (omega arith)
 same_bits (suc n) (x ∷ a) (y ∷ b) ea eb h =
     ap₂ (λ p q. p ∷ q) (h 0 (omega arith)) (same_bits n a b (omega arith) (omega arith) (λ i lt. h (suc i) (omega arith)))
+same_bits _ _ _ ea eb h = absurd (omega arith)
 
 module _ (w : World) (n last : ℕ) (C S : List (List Bool)) (bits : List Bool) (shape : Shape n last C S) where
   abbrev X : List Bool
@@ -216,14 +212,12 @@ module _ (w : World) (n last : ℕ) (C S : List (List Bool)) (bits : List Bool) 
 pub linked_rows : (S : List (List Bool)) (y : List Bool) (G : List (List Bool)) → length S ≡ length G
     → ((k : ℕ) → k < length S → row S k ≡ row (y ∷ G) k) → Linked y S G
 linked_rows [] y [] e h = tt
-linked_rows [] y (z ∷ G) e h = absurd (omega arith)
-linked_rows (x ∷ S) y [] e h = absurd (omega arith)
 linked_rows (x ∷ S) y (z ∷ G) e h = (h 0 (omega arith), linked_rows S z G (omega arith) (λ k lt. h (suc k) (omega arith)))
+linked_rows _ y _ e h = absurd (omega arith)
 
 pub rows_linked : (S : List (List Bool)) (y : List Bool) (G : List (List Bool)) → Linked y S G → (k : ℕ) → k < length S
     → row S k ≡ row (y ∷ G) k
 rows_linked [] y [] h k lt = absurd (omega arith)
-rows_linked [] y (z ∷ G) h k lt = absurd h
-rows_linked (x ∷ S) y [] h k lt = absurd h
 rows_linked (x ∷ S) y (z ∷ G) h zero lt = h.0
 rows_linked (x ∷ S) y (z ∷ G) h (suc k) lt = rows_linked S z G h.1 k (omega arith)
+rows_linked _ y _ h k lt = absurd h

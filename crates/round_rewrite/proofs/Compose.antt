@@ -1,7 +1,7 @@
 -- Rounds of all threads, one after the other, and turns of one thread after the other over rows, are the same.
 use Rattle.std.proofs.Common.{◌≡◌, ℕ, zero, suc, ◌+◌, ◌<◌, ◌≤◌, Bool, true, false, cond, List, [], ◌∷◌, length}
 use Rattle.std.proofs.Common.{Option, Some, None, slice_get, refl, sym, ◌∙◌, ap, subst, arith, ◌⊎◌, inl, inr}
-use Rattle.language.specs.Tree.{skip, assign, assert, assume, goto, leave, call, leave_with, call_for, done, one, choose, loop}
+use Rattle.language.specs.Tree.{assign, assert, assume, goto, call, call_for, done, one, choose, loop}
 use Rattle.language.specs.Value.{values_of}
 use Rattle.language.specs.Rest.{Code, rest_from}
 use Rattle.language.specs.Step.{Routine, Program, Frame, frame, waiting, State, state, fresh, frame_size, result_of, given_back, AtRoutine}
@@ -26,31 +26,28 @@ routine_keeps None F n P e h = absurd h
 routine_keeps (Some c) F n P e h = (F c, h, e c)
 
 given_keeps : (v : Bool) (g : List Bool) (fs : List Frame) → how_many (given_back v g fs) ≡ length g
-given_keeps v g [] = refl
-given_keeps v g (frame c l t ∷ fs) = refl
 given_keeps v g (waiting c l x t ∷ fs) = length_globals (x ∷ []) (v ∷ []) g
+given_keeps v g _ = refl
 
 step_keeps : (p : Program) (s : State) (P : State → Type 0) → StepsTo p s P → (u : State) × P u × (how_many u ≡ how_many s)
 step_keeps p (state g []) P h = absurd h
 step_keeps p (state g (waiting c l x t ∷ fs)) P h = absurd h
 step_keeps p (state g (frame c l done ∷ fs)) P h = (_, h, given_keeps (result_of (slice_get p.routines c) l) g fs)
-step_keeps p (state g (frame c l (one m skip t) ∷ fs)) P h = (_, h, refl)
 step_keeps p (state g (frame c l (one m (assign xs rs) t) ∷ fs)) P h = (_, h.2, length_globals xs h.0 g)
 step_keeps p (state g (frame c l (one m (assert r) t) ∷ fs)) P h = (_, h.1, refl)
 step_keeps p (state g (frame c l (one m (assume r) t) ∷ fs)) P h = (_, h.1, refl)
 step_keeps p (state g (frame c l (one m (goto x) t) ∷ fs)) P h =
     rest_keeps (rest_from x (body_of (slice_get p.routines c)) done) (λ u. state g (frame c l u ∷ fs)) (length g) P (λ u. refl) h
-step_keeps p (state g (frame c l (one m leave t) ∷ fs)) P h = (_, h, refl)
 step_keeps p (state g (frame c l (one m (call q es) t) ∷ fs)) P h =
     routine_keeps (slice_get p.routines q) (λ r. state g (frame q (fresh (frame_size r) (values_of g l es)) r.body ∷ frame c l t ∷ fs))
     (length g) P (λ u. refl) h
-step_keeps p (state g (frame c l (one m (leave_with e) t) ∷ fs)) P h = (_, h, refl)
 step_keeps p (state g (frame c l (one m (call_for x q es) t) ∷ fs)) P h =
     routine_keeps (slice_get p.routines q)
     (λ r. state g (frame q (fresh (frame_size r) (values_of g l es)) r.body ∷ waiting c l x t ∷ fs))
     (length g) P (λ u. refl) h
 step_keeps p (state g (frame c l (choose m r a b t) ∷ fs)) P h = (_, h.2, refl)
 step_keeps p (state g (frame c l (loop m r a t) ∷ fs)) P h = (_, h.2, refl)
+step_keeps p _ P h = (_, h, refl)
 
 steps_keep : (p : Program) (n : ℕ) (s u : State) → AfterSteps p n s (λ v. v ≡ u) → how_many u ≡ how_many s
 steps_keep p zero s u e = ap how_many (sym e)
@@ -83,10 +80,9 @@ FailThreads p G (s ∷ ss) G' =
 -- turns that fail are turns
 pub fail_is_turns : (p : Program) (G : List (List Bool)) (s : List Frame) (G' : List (List Bool)) → FailTurns p G s G'
     → (s' : List Frame) × Turns p G s G' s'
-fail_is_turns p [] s G' h = absurd h
-fail_is_turns p (g ∷ G) s [] h = absurd h
 fail_is_turns p (g ∷ G) s (g' ∷ G') (inl (mid, run, f, e)) = (mid, (mid, run, subst (λ z. Turns p G mid z mid) (sym e) (idle p G mid)))
 fail_is_turns p (g ∷ G) s (g' ∷ G') (inr (mid, run, more)) = let (s', ts) = fail_is_turns p G mid G' more in (s', (mid, run, ts))
+fail_is_turns p _ s _ h = absurd h
 
 idle_threads : (p : Program) (G : List (List Bool)) (ss : List (List Frame)) → Threads p G ss G ss
 idle_threads p G [] = refl
@@ -97,12 +93,11 @@ row_split : (p : Program) (g : List Bool) (G : List (List Bool)) (ss : List (Lis
     (ss' : List (List Frame)) → Threads p (g ∷ G) ss (g' ∷ G') ss'
     → (mid : List (List Frame)) × Round p g ss g' mid × Threads p G mid G' ss'
 row_split p g G [] g' G' [] e = let a : g' ≡ g = cc in let b : G' ≡ G = cc in ([], (a, refl), b)
-row_split p g G [] g' G' (s' ∷ ss') h = absurd h
-row_split p g G (s ∷ ss) g' G' [] h = absurd h
 row_split p g G (s ∷ ss) g' G' (s' ∷ ss') ([], ts, more) = absurd ts
 row_split p g G (s ∷ ss) g' G' (s' ∷ ss') (h ∷ H, (m, run, ts), more) =
     let (mid, round, threads) = row_split p h H ss g' G' ss' more in
     (m ∷ mid, (h, run, round), (H, ts, threads))
+row_split p g G _ g' G' _ h = absurd h
 
 fail_split : (p : Program) (g : List Bool) (G : List (List Bool)) (ss : List (List Frame)) (g' : List Bool) (G' : List (List Bool))
     → FailThreads p (g ∷ G) ss (g' ∷ G')
@@ -122,13 +117,12 @@ fail_split p g G (s ∷ ss) g' G' (inr (h ∷ H, s', (m, run, ts), more)) =
 
 row_join : (p : Program) (g : List Bool) (G : List (List Bool)) (ss mid : List (List Frame)) (g' : List Bool) (G' : List (List Bool))
     (ss' : List (List Frame)) → Round p g ss g' mid → Threads p G mid G' ss' → Threads p (g ∷ G) ss (g' ∷ G') ss'
-row_join p g G [] [] g' G' [] (e, em) h = cc
 row_join p g G [] [] g' G' (x ∷ ss') (e, em) h = absurd h
-row_join p g G [] (x ∷ mid) g' G' ss' (e, em) h = cc
 row_join p g G (s ∷ ss) [] g' G' ss' r h = absurd r
 row_join p g G (s ∷ ss) (m ∷ mid) g' G' [] r h = absurd h
 row_join p g G (s ∷ ss) (m ∷ mid) g' G' (s' ∷ ss') (k, run, round) (H, ts, more) =
     (k ∷ H, (m, run, ts), row_join p k H ss mid g' G' ss' round more)
+row_join p g G [] _ g' G' _ (e, em) h = cc
 
 fail_join : (p : Program) (g : List Bool) (G : List (List Bool)) (ss mid : List (List Frame)) (g' : List Bool) (G' : List (List Bool))
     → Round p g ss g' mid → FailThreads p G mid G' → FailThreads p (g ∷ G) ss (g' ∷ G')

@@ -17,15 +17,9 @@ use Rattle.round_rewrite.proofs.InTurn.{keep}
 
 -- the statement does not call the first procedure
 abbrev Elsewhere : Simple Place ℕ Label → Type 0
-Elsewhere skip = Unit {0}
-Elsewhere (assign xs rs) = Unit {0}
-Elsewhere (assert r) = Unit {0}
-Elsewhere (assume r) = Unit {0}
-Elsewhere (goto x) = Unit {0}
-Elsewhere leave = Unit {0}
 Elsewhere (call q es) = (k : ℕ) × (q ≡ suc k)
-Elsewhere (leave_with e) = Unit {0}
 Elsewhere (call_for x q es) = (k : ℕ) × (q ≡ suc k)
+Elsewhere _ = Unit {0}
 
 abbrev Any : RightSide Place → Type 0
 Any r = Unit {0}
@@ -74,21 +68,17 @@ module _ (n last own : ℕ) where
   away-cond false a b ha hb = hb
 
   away-statement : (s : Simple Place ℕ Label) (t : Code) → Away t → Away (statement w last s t)
-  away-statement skip t h = (tt, h)
   away-statement (assign xs rs) t h =
       away-drawing (draws w.is_shared xs rs)
       (one no_mark
       (assign (Rattle.round_rewrite.specs.Table.targets w last xs rs) (Rattle.round_rewrite.specs.Table.sides w last 0 xs rs)) t) (tt, h)
   away-statement (assert r) t h = (tt, (tt, tt), (tt, (tt, tt)), h)
-  away-statement (assume r) t h = (tt, h)
-  away-statement (goto x) t h = (tt, h)
-  away-statement leave t h = (tt, h)
   away-statement (call q es) t h = ((q, refl), (tt, (tt, tt), (tt, tt), h))
-  away-statement (leave_with e) t h = (tt, h)
   away-statement (call_for x q es) t h = (
     (q, refl),
     (tt, (tt, tt), (tt, tt), away-cond (w.is_shared x) (received w last x t) t (away-received x t h) h),
   )
+  away-statement _ t h = (tt, h)
 
   away-rewritten : (b : Code) → Away (rewritten w last b)
   away-rewritten done = tt
@@ -166,8 +156,6 @@ module _ (p : Program) (bodies : (c : ℕ) → RoutineAway (slice_get p.routines
   given_away v g (waiting c l x t ∷ fs) h = h
 
   step_away : (s : State) (P : State → Type 0) → StateAway s → StepsTo p s P → (u : State) × P u × StateAway u
-  step_away (state g []) P h a = absurd a
-  step_away (state g (waiting c l x t ∷ fs)) P h a = absurd a
   step_away (state g (frame c l done ∷ fs)) P h a =
       (_, a, given_away (result_of (slice_get p.routines c) l) g fs h.1)
   step_away (state g (frame c l (one m skip t) ∷ fs)) P h a = (_, a, (h.0.1, h.1))
@@ -190,6 +178,7 @@ module _ (p : Program) (bodies : (c : ℕ) → RoutineAway (slice_get p.routines
       (bodies q) (λ r hr. (hr, (h.0.1, h.1))) a
   step_away (state g (frame c l (choose m r x y t) ∷ fs)) P h (v, is, a) = (_, a, (away-branch v x y t h.0.1 h.0.2 h.0.3, h.1))
   step_away (state g (frame c l (loop m r x t) ∷ fs)) P h (v, is, a) = (_, a, (away-again v m r x t h.0.1 h.0.2, h.1))
+  step_away _ P h a = absurd a
 
   run_away : (n : ℕ) (s u : State) → StateAway s → AfterSteps p n s (λ v. v ≡ u) → StateAway u
   run_away zero s u h e = subst StateAway e h
@@ -213,15 +202,6 @@ never_asked last p c a (g, l, rest, fs, (n, run), calls) =
     bodies h (suc k) = away_routines p.globals last p.routines k
 
     no_call : (g l : List Bool) (rest : Code) → Away rest → Calls (in_text_order (rewritten_program last p)) g l rest 0 a → ⊥
-    no_call g l done h k = k
-    no_call g l (one m skip t) h k = k
-    no_call g l (one m (assign xs rs) t) h k = k
-    no_call g l (one m (assert r) t) h k = k
-    no_call g l (one m (assume r) t) h k = k
-    no_call g l (one m (goto x) t) h k = k
-    no_call g l (one m leave t) h k = k
     no_call g l (one m (call q es) t) h k = let e : suc h.0.0 ≡ 0 = sym h.0.1 ∙ k.0 in cc
-    no_call g l (one m (leave_with e) t) h k = k
     no_call g l (one m (call_for x q es) t) h k = let e : suc h.0.0 ≡ 0 = sym h.0.1 ∙ k.0 in cc
-    no_call g l (choose m r x y t) h k = k
-    no_call g l (loop m r x t) h k = k
+    no_call g l _ h k = k

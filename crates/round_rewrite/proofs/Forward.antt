@@ -202,72 +202,45 @@ module _ (setting : Setting) (now : Moment setting.p.globals setting.last) (m : 
         jump_leads a rest x (Some found) h e at =
             same_globals next (both a found ∷ bs) (refl, jump_good p last a rest x found fits h e, good) at
 
-        -- if the step is a call, whose caller is then `d`
+        -- what the source does in a procedure that it has entered by a call, whose caller is then `d`
+        abbrev Entered : Both → ℕ → List (Expression Place) → Option Routine → Type 0
+        Entered d q' es o =
+            let vs = values_of (row C q) (source_values d.activation) es in
+            AtRoutine o (λ r. R (state (row C q) (frame q' (fresh (frame_size r) vs) r.body ∷ source d ∷ map source bs)))
+
+        -- the same in the rewritten program
+        abbrev EnteredThere : Both → ℕ → List (Expression Place) → ℕ → Option Routine → Type 0
+        EnteredThere d q' es n o =
+            let vs = values_of X (put_values d.activation) (map (expression_form (naming d.own) last) es) in
+            AtRoutine o
+            (λ r. PlainAfter w n (state X (frame (suc q') (fresh (frame_size r) vs) r.body ∷ callers p last (d ∷ bs) m)) Q)
+
+        -- if the step is a call
         call_leads : (d : Both) (q' : ℕ) (es : List (Expression Place)) (o : Option Routine)
             → slice_get p.routines q' ≡ o → Good p last d → AreInScope p.globals d.own es
-            → AtRoutine o (λ r. length es ≤ r.places)
-            → AtRoutine o
-            (λ r.
-            R
-            (state (row C q)
-            (frame q' (fresh (frame_size r) (values_of (row C q) (source_values d.activation) es)) r.body ∷ source d ∷ map source bs)))
-            → (n : ℕ)
-            × AtRoutine (option_map (put_routine p last) o)
-            (λ r.
-            PlainAfter w n
-            (state X
-            (frame (suc q')
-            (fresh (frame_size r) (values_of X (put_values d.activation) (map (expression_form (naming d.own) last) es))) r.body
-            ∷ callers p last (d ∷ bs) m)) Q)
+            → AtRoutine o (λ r. length es ≤ r.places) → Entered d q' es o
+            → (n : ℕ) × EnteredThere d q' es n (option_map (put_routine p last) o)
         call_leads d q' es None e h scope short at = absurd at
         call_leads d q' es (Some r) e h scope short at =
             let vs : List Bool = values_of (row C q) (source_values d.activation) es in
-            let lv : length vs ≤ r.places =
-            subst (λ k. k ≤ r.places) (sym (length_values (row C q) (source_values d.activation) es)) short in
-            let ev : values_of X (put_values d.activation) (map (expression_form (naming d.own) last) es) ≡ vs =
-            expressions_are small now d.own (put_values d.activation) d.l d.tmp d.more refl h.long es scope in
+            let lv = subst (λ k. k ≤ r.places) (sym (length_values (row C q) (source_values d.activation) es)) short in
+            let ev = expressions_are small now d.own (put_values d.activation) d.l d.tmp d.more refl h.long es scope in
             let k =
-            same_globals next (entered q' r vs ∷ d ∷ bs)
-            (refl, call_good p last q' r vs fits e lv, (h, good))
+            same_globals next (entered q' r vs ∷ d ∷ bs) (refl, call_good p last q' r vs fits e lv, (h, good))
             (subst (λ z. R (state (row C q) (frame q' z r.body ∷ source d ∷ map source bs))) (source_fresh r vs lv) at) in (
               k.0,
               subst
-                  (λ z.
-                  PlainAfter w k.0
-                  (state X (frame (suc q') z (put_rest p last r.places r.body) ∷ callers p last (d ∷ bs) m)) Q)
+                  (λ z. PlainAfter w k.0 (state X (frame (suc q') z (put_rest p last r.places r.body) ∷ callers p last (d ∷ bs) m)) Q)
                   (sym (ap (fresh (frame_size (put_routine p last r))) ev ∙ put_fresh p last r vs lv)) k.1,
             )
 
         -- a call, as the rewritten program makes it
         call_made : (d : Both) (q' : ℕ) (es : List (Expression Place)) → Good p last d → AreInScope p.globals d.own es
-            → AtRoutine (slice_get p.routines q') (λ r. length es ≤ r.places)
-            → AtRoutine (slice_get p.routines q')
-            (λ r.
-            R
-            (state (row C q)
-            (frame q' (fresh (frame_size r) (values_of (row C q) (source_values d.activation) es)) r.body ∷ source d ∷ map source bs)))
-            → (n : ℕ)
-            × AtRoutine (w.enters (suc q'))
-            (λ r.
-            PlainAfter w n
-            (state X
-            (frame (suc q')
-            (fresh (frame_size r) (values_of X (put_values d.activation) (map (expression_form (naming d.own) last) es))) r.body
-            ∷ callers p last (d ∷ bs) m)) Q)
+            → AtRoutine (slice_get p.routines q') (λ r. length es ≤ r.places) → Entered d q' es (slice_get p.routines q')
+            → (n : ℕ) × EnteredThere d q' es n (w.enters (suc q'))
         call_made d q' es h scope short s =
-            let z = call_leads d q' es (slice_get p.routines q') refl h scope short s in (
-              z.0,
-              subst
-                  (λ o.
-                  AtRoutine o
-                  (λ r.
-                  PlainAfter w z.0
-                  (state X
-                  (frame (suc q')
-                  (fresh (frame_size r) (values_of X (put_values d.activation) (map (expression_form (naming d.own) last) es)))
-                  r.body
-                  ∷ callers p last (d ∷ bs) m)) Q)) (sym (isw.enters_is q')) z.1,
-            )
+            let z = call_leads d q' es (slice_get p.routines q') refl h scope short s in
+            (z.0, subst (EnteredThere d q' es z.0) (sym (isw.enters_is q')) z.1)
 
         -- a step of the top frame, after its prologue
         pub step_leads : (a : Activation) (rest : Code) → Good p last (both a rest)
@@ -276,9 +249,7 @@ module _ (setting : Setting) (now : Moment setting.p.globals setting.last) (m : 
             → Leads w (state X (top p last a (inner p last a.own rest) bs m)) Q
         step_leads a done h starts s = cc
         step_leads a (one k skip t) h starts s =
-            let r =
-            same_globals next (both a t ∷ bs)
-            (refl, good_rest p last a (one k skip t) t h h.fits.1, good) s in
+            let r = same_globals next (both a t ∷ bs) (refl, good_rest p last a (one k skip t) t h h.fits.1, good) s in
             (suc r.0, r.1)
         step_leads a (one k (assign xs rs) t) h starts s =
             let scope = h.fits.0.0 in
@@ -355,13 +326,10 @@ module _ (setting : Setting) (now : Moment setting.p.globals setting.last) (m : 
             (good_awaiting p last a (one k (call_for x q' es) t) x t h scope.targets.0 room h.fits.1) scope.arguments scope.callee s in
             (suc z.0, z.1)
         step_leads a (choose k r x y t) h starts (v, is, s) =
-            let S' : (z : Code) → Fits p.routines p.globals a.own (temporaries is_global h.routine.body) z → Good p last (both a z) =
-            λ z f. good_rest p last a (choose k r x y t) z h f in
-            let branch : Leads w
-            (state X (top p last a (put_rest p last a.own (cond v (join x t) (join y t))) bs m)) Q =
+            let branch =
             same_globals next (both a (cond v (join x t) (join y t)) ∷ bs) (
               refl,
-              S' (cond v (join x t) (join y t))
+              good_rest p last a (choose k r x y t) (cond v (join x t) (join y t)) h
                   (branch_fits p a.own (temporaries is_global h.routine.body) v x y t h.fits.1 h.fits.2 h.fits.3),
               good,
             ) s in (
@@ -374,8 +342,7 @@ module _ (setting : Setting) (now : Moment setting.p.globals setting.last) (m : 
               ),
             )
         step_leads a (loop k r x t) h starts (v, is, s) =
-            let branch : Leads w
-            (state X (top p last a (put_rest p last a.own (cond v (join x (loop k r x t)) t)) bs m)) Q =
+            let branch =
             same_globals next (both a (cond v (join x (loop k r x t)) t) ∷ bs) (
               refl,
               good_rest p last a (loop k r x t) (cond v (join x (loop k r x t)) t) h

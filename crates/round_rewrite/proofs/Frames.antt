@@ -328,10 +328,9 @@ module _ (p : Program) (last : ℕ) where
       → length a.l ≡ a.own → Waits n a.own d o
       → given_back v g (caller_frame a.c (source_values a) o t ∷ fs)
       ≡ state (given_globals v o g) (frame a.c (source_values (given v o a)) t ∷ fs)
-  source_given v g a None n d t fs e h = refl
   source_given v g a (Some (local i)) n d t fs e h =
       ap (λ z. state g (frame a.c z t ∷ fs)) (set-append_left a.l a.more i v (let k : i < a.own = h.0 in omega arith))
-  source_given v g a (Some (global i)) n d t fs e h = refl
+  source_given v g a _ n d t fs e h = refl
 
   -- the same in the rewritten program, whose globals stay as they are
   pub put_given : (v : Bool) (g : List Bool) (a : Activation) (o : Option Place) (n d : ℕ) (t : Code) (fs : List Frame)
@@ -376,20 +375,17 @@ module _ (p : Program) (last : ℕ) where
   }
     where
       length-given : (v : Bool) (o : Option Place) (l : List Bool) → length (given_places v o l) ≡ length l
-      length-given v None l = refl
       length-given v (Some (local i)) l = length-set l i v
-      length-given v (Some (global i)) l = refl
+      length-given v _ l = refl
 
       length-temporaries : (v : Bool) (o : Option Place) (tmp : List Bool) → length (given_temporaries v o tmp) ≡ length tmp
-      length-temporaries v None tmp = refl
-      length-temporaries v (Some (local i)) tmp = refl
       length-temporaries v (Some (global i)) tmp = length-set tmp 0 v
+      length-temporaries v _ tmp = refl
 
       kept : (v : Bool) (o : Option Place) (tmp : List Bool) (d : ℕ) → Waits p.globals b.own d o
           → bit (given_temporaries v o tmp) d ≡ bit tmp d
-      kept v None tmp d w = refl
-      kept v (Some (local i)) tmp d w = refl
       kept v (Some (global i)) tmp d w = get_or-set_other tmp 0 d v false (let k : 1 ≤ d = w.1 in omega arith)
+      kept v _ tmp d w = refl
 
 -- the rewritten machine and the source's results
 module _ (setting : Setting) where

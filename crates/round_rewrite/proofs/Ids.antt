@@ -40,17 +40,8 @@ two_lows a s begins front back = record {
 }
 
 word_digit : (d : ℕ) → d < 10 → is_word_byte (48 + d) ≡ true
-word_digit zero h = refl
-word_digit (suc zero) h = refl
-word_digit (suc (suc zero)) h = refl
-word_digit (suc (suc (suc zero))) h = refl
-word_digit (suc (suc (suc (suc zero)))) h = refl
-word_digit (suc (suc (suc (suc (suc zero))))) h = refl
-word_digit (suc (suc (suc (suc (suc (suc zero)))))) h = refl
-word_digit (suc (suc (suc (suc (suc (suc (suc zero))))))) h = refl
-word_digit (suc (suc (suc (suc (suc (suc (suc (suc zero)))))))) h = refl
-word_digit (suc (suc (suc (suc (suc (suc (suc (suc (suc zero))))))))) h = refl
 word_digit (suc (suc (suc (suc (suc (suc (suc (suc (suc (suc d)))))))))) h = absurd (omega arith)
+word_digit _ h = refl
 
 words_digits : (ds : List ℕ) → AllDigits 10 ds → AreWordBytes ds
 words_digits [] h = tt

@@ -1,21 +1,18 @@
 -- How the globals of the rewritten program lie: copies round by round, saved guesses, the round's bits, stop, bad.
-use Rattle.std.proofs.Common.{◌≡◌, ℕ, zero, suc, ◌+◌, ◌*◌, ◌<◌, ◌≤◌, Bool, true, false, List, [], ◌∷◌}
-use Rattle.std.proofs.Common.{◌++◌, length, reverse, refl, sym, ◌∙◌, ap, arith, append_assoc, length-append, zero-add}
-use Rattle.std.proofs.lemmas.List.{get_or_append_left, set-append_left, set-get_or}
+use Rattle.std.proofs.Common.{◌≡◌, ℕ, zero, suc, ◌+◌, ◌-◌, ◌*◌, ◌<◌, ◌≤◌, get_or, set, Bool, true, false, List, [], ◌∷◌}
+use Rattle.std.proofs.Common.{◌++◌, length, reverse, refl, sym, ◌∙◌, ap, arith, append_assoc, length-append}
+use Rattle.std.proofs.lemmas.List.{get_or_append_left, get_or-append-add, set-append_left, set-append_right, set-get_or}
 use Rattle.language.specs.Value.{bit, with_bit, written_globals}
 use Rattle.round_rewrite.specs.Limits.{round_bits}
 use Rattle.round_rewrite.specs.Places.{bits_at, bits_from, stop_at, bad_at}
 use Rattle.round_rewrite.proofs.RoundBitLemmas.{in_bits, low_first, HasBits, bit_past, with_past, written}
 
 pub bit_right : (a b : List Bool) (i j : ℕ) → i ≡ length a + j → bit (a ++ b) i ≡ bit b j
-bit_right [] b i j e = ap (bit b) (e ∙ zero-add j)
-bit_right (x ∷ a) b zero j e = absurd (omega arith)
-bit_right (x ∷ a) b (suc i) j e = bit_right a b i j (omega arith)
+bit_right a b i j e = ap (bit (a ++ b)) e ∙ get_or-append-add a b j false
 
 pub with_right : (a b : List Bool) (i j : ℕ) (v : Bool) → i ≡ length a + j → with_bit (a ++ b) i v ≡ a ++ with_bit b j v
-with_right [] b i j v e = ap (λ k. with_bit b k v) (e ∙ zero-add j)
-with_right (x ∷ a) b zero j v e = absurd (omega arith)
-with_right (x ∷ a) b (suc i) j v e = ap (λ z. x ∷ z) (with_right a b i j v (omega arith))
+with_right a b i j v e =
+    set-append_right a b (length a) i v refl (omega arith) ∙ ap (λ k. a ++ with_bit b k v) (let z : i - length a ≡ j = omega arith in z)
 
 -- rows
 abbrev pub flat : List (List Bool) → List Bool
@@ -31,14 +28,10 @@ abbrev pub AreRows : ℕ → ℕ → List (List Bool) → Type 0
 AreRows n count G = Long n G × (length G ≡ count)
 
 abbrev pub row : List (List Bool) → ℕ → List Bool
-row [] k = []
-row (r ∷ rs) zero = r
-row (r ∷ rs) (suc k) = row rs k
+row rows k = get_or rows k []
 
 abbrev pub with_row : List (List Bool) → ℕ → List Bool → List (List Bool)
-with_row [] k v = []
-with_row (r ∷ rs) zero v = v ∷ rs
-with_row (r ∷ rs) (suc k) v = r ∷ with_row rs k v
+with_row = set
 
 pub length-flat : (n : ℕ) (C : List (List Bool)) → Long n C → length (flat C) ≡ length C * n
 length-flat n [] h = omega arith
@@ -76,29 +69,13 @@ row_with n (r ∷ C) X (suc k) i v long h h' =
     ∙ (ap (λ z. r ++ z) (row_with n C X k i v long.1 (omega arith) h')
     ∙ sym (append_assoc r (flat (with_row C k (with_bit (row C k) i v))) X)))
 
-pub row_middle : (pre : List (List Bool)) (g : List Bool) (post : List (List Bool)) → row (pre ++ g ∷ post) (length pre) ≡ g
-row_middle [] g post = refl
-row_middle (r ∷ pre) g post = row_middle pre g post
-
 pub with_middle : (pre : List (List Bool)) (g h : List Bool) (post : List (List Bool))
     → with_row (pre ++ g ∷ post) (length pre) h ≡ pre ++ h ∷ post
 with_middle [] g h post = refl
 with_middle (r ∷ pre) g h post = ap (λ z. r ∷ z) (with_middle pre g h post)
 
 pub with_own : (C : List (List Bool)) (k i : ℕ) → with_row C k (with_bit (row C k) i (bit (row C k) i)) ≡ C
-with_own [] k i = refl
-with_own (r ∷ C) zero i = ap (λ z. z ∷ C) (set-get_or r i false)
-with_own (r ∷ C) (suc k) i = ap (λ z. r ∷ z) (with_own C k i)
-
-pub with-own_row : (C : List (List Bool)) (k : ℕ) → with_row C k (row C k) ≡ C
-with-own_row [] k = refl
-with-own_row (r ∷ C) zero = refl
-with-own_row (r ∷ C) (suc k) = ap (λ z. r ∷ z) (with-own_row C k)
-
-pub length-with_row : (C : List (List Bool)) (k : ℕ) (v : List Bool) → length (with_row C k v) ≡ length C
-length-with_row [] k v = refl
-length-with_row (r ∷ C) zero v = refl
-length-with_row (r ∷ C) (suc k) v = ap suc (length-with_row C k v)
+with_own C k i = ap (with_row C k) (set-get_or (row C k) i false) ∙ set-get_or C k []
 
 pub long-with_row : (n : ℕ) (C : List (List Bool)) (k : ℕ) (v : List Bool) → Long n C → length v ≡ n → Long n (with_row C k v)
 long-with_row n [] k v long e = tt
@@ -145,7 +122,7 @@ abbrev pub turned : {n last : ℕ} (now : Moment n last) → List Bool → List 
 turned {n} {last} now h = lay (with_row now.C now.q h) now.S (bits_of last now.q false now.b)
 
 pub unturned : {n last : ℕ} (now : Moment n last) → turned now (row now.C now.q) ≡ globals_at now
-unturned {n} {last} now = ap (λ z. lay z now.S (bits_of last now.q false now.b)) (with-own_row now.C now.q)
+unturned {n} {last} now = ap (λ z. lay z now.S (bits_of last now.q false now.b)) (set-get_or now.C now.q [])
 
 pub row_long : {n last : ℕ} (now : Moment n last) → length (row now.C now.q) ≡ n
 row_long {n} now =

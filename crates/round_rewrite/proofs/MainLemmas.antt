@@ -98,38 +98,33 @@ module _ (t : Tree) (gs ps : List Name) (last : ℕ) (gs_free : AreFree gs) (dis
   copies_match : (xs : List Name) (ys : List Place) → Matches xs ys → (k : ℕ) → k ≤ last
       → map (place_of sm') (map (copy_name k) xs) ≡ map (copy_at n k) ys
   copies_match [] [] m k le = refl
-  copies_match [] (y ∷ ys) m k le = absurd m
-  copies_match (x ∷ xs) [] m k le = absurd m
   copies_match (x ∷ xs) (y ∷ ys) m k le = ap₂ (λ a b. a ∷ b) (m.0 k le) (copies_match xs ys m.2 k le)
+  copies_match _ _ m k le = absurd m
 
   saves_match : (xs : List Name) (ys : List Place) → Matches xs ys → (k : ℕ) → k < last
       → map (place_of sm') (map (save_name (suc k)) xs) ≡ map (save_at n last (suc k)) ys
   saves_match [] [] m k le = refl
-  saves_match [] (y ∷ ys) m k le = absurd m
-  saves_match (x ∷ xs) [] m k le = absurd m
   saves_match (x ∷ xs) (y ∷ ys) m k le = ap₂ (λ a b. a ∷ b) (m.1 k le) (saves_match xs ys m.2 k le)
+  saves_match _ _ m k le = absurd m
 
   reads_match : (xs : List Name) (ys : List Place) → Matches xs ys → (k : ℕ) → k ≤ last
       → map (resolve_side sm') (map (λ y. value (var (copy_name k y))) xs) ≡ map (λ y. value (var (copy_at n k y))) ys
   reads_match [] [] m k le = refl
-  reads_match [] (y ∷ ys) m k le = absurd m
-  reads_match (x ∷ xs) [] m k le = absurd m
   reads_match (x ∷ xs) (y ∷ ys) m k le = ap₂ (λ a b. value (var a) ∷ b) (m.0 k le) (reads_match xs ys m.2 k le)
+  reads_match _ _ m k le = absurd m
 
   any_match : (xs : List Name) (ys : List Place) → Matches xs ys → map (resolve_side sm') (each any xs) ≡ each any ys
   any_match [] [] m = refl
-  any_match [] (y ∷ ys) m = absurd m
-  any_match (x ∷ xs) [] m = absurd m
   any_match (x ∷ xs) (y ∷ ys) m = ap (λ b. any ∷ b) (any_match xs ys m.2)
+  any_match _ _ m = absurd m
 
   guess_match : (xs : List Name) (ys : List Place) → Matches xs ys → (k : ℕ) → k < last → (b : Block Name Name Name) (b' : Code)
       → resolve_block sm' b ≡ b' → resolve_block sm' (guess N last xs (suc k) b) ≡ guess P last ys (suc k) b'
   guess_match [] [] m k lt b b' e = e
-  guess_match [] (y ∷ ys) m k lt b b' e = absurd m
-  guess_match (x ∷ xs) [] m k lt b b' e = absurd m
   guess_match (x ∷ xs) (y ∷ ys) m k lt b b' e =
       λ i. one no_mark (assign (copies_match (x ∷ xs) (y ∷ ys) m (suc k) (omega arith) i) (any_match (x ∷ xs) (y ∷ ys) m i))
       (one no_mark (assign (saves_match (x ∷ xs) (y ∷ ys) m k lt i) (reads_match (x ∷ xs) (y ∷ ys) m (suc k) (omega arith) i)) (e i))
+  guess_match _ _ m k lt b b' e = absurd m
 
   guesses_match : (xs : List Name) (ys : List Place) → Matches xs ys → (k m : ℕ) → k + m ≤ last
       → (b : Block Name Name Name) (b' : Code)
@@ -143,10 +138,9 @@ module _ (t : Tree) (gs ps : List Name) (last : ℕ) (gs_free : AreFree gs) (dis
   check_match : (xs : List Name) (ys : List Place) → Matches xs ys → (k : ℕ) → k < last → (b : Block Name Name Name) (b' : Code)
       → resolve_block sm' b ≡ b' → resolve_block sm' (check N last xs k b) ≡ check P last ys k b'
   check_match [] [] m k lt b b' e = e
-  check_match [] (y ∷ ys) m k lt b b' e = absurd m
-  check_match (x ∷ xs) [] m k lt b b' e = absurd m
   check_match (x ∷ xs) (y ∷ ys) m k lt b b' e =
       λ i. one no_mark (assume (value (two equal (var (m.1 k lt i)) (var (m.0 k (omega arith) i))))) (check_match xs ys m.2 k lt b b' e i)
+  check_match _ _ m k lt b b' e = absurd m
 
   checks_match : (xs : List Name) (ys : List Place) → Matches xs ys → (k m : ℕ) → k + m ≤ last
       → (b : Block Name Name Name) (b' : Code)

@@ -29,7 +29,8 @@ use Rattle.round_rewrite.specs.Law.{KeepsFailures, KeepsTree}
 use Rattle.round_rewrite.proofs.SpellingLemmas.{free_differs}
 use Rattle.round_rewrite.proofs.NumberingLemmas.{free_name}
 use Rattle.round_rewrite.proofs.PlaceLemmas.{Vocabulary, wider, bad_place, length-numbers, length-globals}
-use Rattle.round_rewrite.proofs.ResolutionLemmas.{by_test, temporaries_resolved, block_resolved}
+use Rattle.language.proofs.TestLemmas.{at_test}
+use Rattle.round_rewrite.proofs.ResolutionLemmas.{temporaries_resolved, block_resolved}
 use Rattle.round_rewrite.proofs.MainLemmas.{main_resolved, same_text_other}
 use Rattle.round_rewrite.proofs.ResultLemmas.{gives_rewritten, gives_main}
 use Rattle.round_rewrite.proofs.Theorem.{keeps}
@@ -163,13 +164,9 @@ module _ (t : Tree) (last : ℕ) (ok : IsRewritable t) (small : last < most_roun
     s = record { globals = gs; locals = own; procedures = ps }
 
     place_fits : (x : Name) → Declared s x → PlaceInScope (length gs) (length own) (place_of s x)
-    place_fits x h = by_test (is_declared x.text own)
-        (λ e.
-        subst (PlaceInScope (length gs) (length own))
-        (sym (ap (λ c. cond c (local (number_of x.text own)) (global (number_of x.text gs))) e)) (number_less x.text own e))
-        (λ e.
-        subst (PlaceInScope (length gs) (length own))
-        (sym (ap (λ c. cond c (local (number_of x.text own)) (global (number_of x.text gs))) e)) (number_less x.text gs (h e)))
+    place_fits x h =
+        at_test (λ c. PlaceInScope (length gs) (length own) (cond c (local (number_of x.text own)) (global (number_of x.text gs))))
+        (is_declared x.text own) (number_less x.text own) (λ e. number_less x.text gs (h e))
 
     places_fit : (xs : List Name) → AllDeclared s xs → PlacesInScope (length gs) (length own) (map (place_of s) xs)
     places_fit [] h = tt

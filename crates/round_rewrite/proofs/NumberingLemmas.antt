@@ -1,11 +1,12 @@
 -- Where the printed names are among the rewritten program's globals, formals, locals and temporaries.
-use Rattle.std.proofs.Common.{◌≡◌, ℕ, zero, suc, ◌+◌, ◌*◌, ◌<◌, ◌≤◌, Bool, true, false, cond, List, [], ◌∷◌}
+use Rattle.std.proofs.Common.{◌≡◌, ℕ, zero, suc, ◌+◌, ◌*◌, ◌<◌, ◌≤◌, true, false, cond, List, [], ◌∷◌}
 use Rattle.std.proofs.Common.{◌++◌, length, map, refl, ◌∙◌, ap, ap₂, arith, length-append}
 use Rattle.language.specs.Tree.{Name}
 use Rattle.language.specs.Rest.{same_text}
 use Rattle.language.specs.Resolve.{number_of, is_declared}
 use Rattle.round_rewrite.specs.Table.{Naming, numbers, copied}
 use Rattle.checked.specs.Rewritable.{has_double, AreFree}
+use Rattle.language.proofs.TestLemmas.{at_test}
 use Rattle.language.proofs.Names.{declared_first, declared_second, number_first, number_second}
 use Rattle.round_rewrite.proofs.SpellingLemmas.{same_text_true, free_differs}
 use Rattle.round_rewrite.specs.Limits.{most_rounds}
@@ -27,14 +28,9 @@ not_free a s (x ∷ xs) h = ap (λ c. cond c true (is_declared (a ++ 95 ∷ 95 �
 -- a declared name is one of the names
 pub free_name : (t : List ℕ) (xs : List Name) → AreFree xs → is_declared t xs ≡ true → has_double t ≡ false
 free_name t [] h d = cc
-free_name t (x ∷ xs) h d = go (same_text t x.text) refl d
-    (λ k. free_name t xs h.1 k)
-  where
-    go : (c : Bool) → same_text t x.text ≡ c → cond c true (is_declared t xs) ≡ true
-        → (is_declared t xs ≡ true → has_double t ≡ false)
-        → has_double t ≡ false
-    go true e k rec = ap has_double (same_text_true t x.text e) ∙ h.0
-    go false e k rec = rec k
+free_name t (x ∷ xs) h d =
+    at_test (λ c. cond c true (is_declared t xs) ≡ true → has_double t ≡ false) (same_text t x.text)
+    (λ e k. ap has_double (same_text_true t x.text e) ∙ h.0) (λ e k. free_name t xs h.1 k) d
 
 -- names written with a round: copies, or guesses
 pub record Spelled (f : ℕ → Name → Name) : Type 0 where

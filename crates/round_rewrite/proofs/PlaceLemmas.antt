@@ -9,26 +9,20 @@ use Rattle.language.specs.Rest.{same_text}
 use Rattle.language.specs.Resolve.{number_of, is_declared, Scope, place_of}
 use Rattle.round_rewrite.specs.Table.{numbers, copied, globals}
 use Rattle.round_rewrite.specs.Places.{copy_at, save_at, bits_at, bits_from, stop_at, bad_at, global_count}
-use Rattle.round_rewrite.specs.Names.{fresh_name, bit_name, bit_names, copy_name, save_name, drawn_name, by_names}
+use Rattle.round_rewrite.specs.Names.{fresh_name, bit_name, bit_names, numbered_name, copy_name, save_name, drawn_name, by_names}
 use Rattle.checked.specs.Rewritable.{has_double, AreFree}
-use Rattle.round_rewrite.proofs.SpellingLemmas.{same_text_refl, same_text_false, same_text-append, copies_differ, saves_differ}
-use Rattle.round_rewrite.proofs.SpellingLemmas.{save_no_copy, low_no_copy, low_no_save, drawn_differ, no_drawn, digit_is}
+use Rattle.round_rewrite.proofs.SpellingLemmas.{same_text_refl, same_text_false, same_text-append, numbered_differ}
+use Rattle.round_rewrite.proofs.SpellingLemmas.{save_no_copy, low_no_numbered, drawn_differ, no_drawn, digit_is}
 use Rattle.round_rewrite.proofs.NumberingLemmas.{number_right, number_left, not_free, free_name, Spelled, length-rows, none_in_rows}
 use Rattle.round_rewrite.proofs.NumberingLemmas.{in_rows}
 use Rattle.resolved.specs.Limits.{most_places}
 use Rattle.round_rewrite.specs.Limits.{most_rounds, round_bits}
 use Rattle.round_rewrite.proofs.RoundBitLemmas.{bits_few}
 
-pub copies_spelled : Spelled copy_name
-copies_spelled = record {
-  alike = λ k x y. same_text-append x.text y.text (95 ∷ 95 ∷ decimal (suc k));
-  unlike = λ k j x y hk hj ne. copies_differ x.text y.text k j hk hj ne;
-}
-
-pub saves_spelled : Spelled save_name
-saves_spelled = record {
-  alike = λ k x y. same_text-append x.text y.text (95 ∷ 95 ∷ 115 ∷ decimal (suc k));
-  unlike = λ k j x y hk hj ne. saves_differ x.text y.text k j hk hj ne;
+pub numbered_spelled : (mark : List ℕ) → Spelled (numbered_name mark)
+numbered_spelled mark = record {
+  alike = λ k x y. same_text-append x.text y.text (mark ++ decimal (suc k));
+  unlike = λ k j x y hk hj ne. numbered_differ mark x.text y.text k j hk hj ne;
 }
 
 -- among temporaries
@@ -89,25 +83,19 @@ length-globals last xs =
 -- on.
 number_bit : (m j i : ℕ) → 2 ≤ m → m ≤ 3 → suc (j + i) ≡ m
     → number_of (bit_name j).text (reverse (bit_names m) ++ last_names) ≡ i
-number_bit zero j i h h' e = absurd (omega arith)
-number_bit (suc zero) j i h h' e = absurd (omega arith)
 number_bit (suc (suc zero)) zero i h h' e = let z : 1 ≡ i = omega arith in z
 number_bit (suc (suc zero)) (suc zero) i h h' e = let z : 0 ≡ i = omega arith in z
-number_bit (suc (suc zero)) (suc (suc j)) i h h' e = absurd (omega arith)
 number_bit (suc (suc (suc zero))) zero i h h' e = let z : 2 ≡ i = omega arith in z
 number_bit (suc (suc (suc zero))) (suc zero) i h h' e = let z : 1 ≡ i = omega arith in z
 number_bit (suc (suc (suc zero))) (suc (suc zero)) i h h' e = let z : 0 ≡ i = omega arith in z
-number_bit (suc (suc (suc zero))) (suc (suc (suc j))) i h h' e = absurd (omega arith)
-number_bit (suc (suc (suc (suc m)))) j i h h' e = absurd (omega arith)
+number_bit _ _ i h h' e = absurd (omega arith)
 
 number_last : (m : ℕ) → 2 ≤ m → m ≤ 3 →
     (number_of (codes "stop__") (reverse (bit_names m) ++ last_names) ≡ m) ×
     (number_of (codes "bad__") (reverse (bit_names m) ++ last_names) ≡ m + 1)
-number_last zero h h' = absurd (omega arith)
-number_last (suc zero) h h' = absurd (omega arith)
 number_last (suc (suc zero)) h h' = (refl, refl)
 number_last (suc (suc (suc zero))) h h' = (refl, refl)
-number_last (suc (suc (suc (suc m)))) h h' = absurd (omega arith)
+number_last _ h h' = absurd (omega arith)
 
 -- the names of a program and of one of its procedures, with how many temporaries that needs, and the last round
 pub record Vocabulary : Type 0 where
@@ -176,7 +164,7 @@ module _ (vocabulary : Vocabulary) where
       let out : is_declared t (own ++ temps) ≡ false =
       outside x.text (decimal (suc k))
       (λ i. same_text_false t (drawn_name i).text (digit_not_t k (omega arith) [] (decimal (suc i)) x.text free)) in
-      let r = in_rows (by_names []) last copy_name gs copies_spelled x there k 0 (suc last) (omega arith) (omega arith) in
+      let r = in_rows (by_names []) last copy_name gs (numbered_spelled (codes "__")) x there k 0 (suc last) (omega arith) (omega arith) in
       let z : 0 + k ≡ k = omega arith in
       let inA : is_declared t A ≡ true = ap (λ y. is_declared (copy_name y x).text A) (sym z) ∙ r.0 in
       let atA : number_of t A ≡ k * length gs + number_of x.text gs = ap (λ y. number_of (copy_name y x).text A) (sym z) ∙ r.1 in
@@ -196,7 +184,7 @@ module _ (vocabulary : Vocabulary) where
       outside x.text (115 ∷ decimal (suc (suc k)))
       (λ i.
       same_text_false t (drawn_name i).text (no_drawn x.text 115 (decimal (suc (suc k))) (decimal (suc i)) free (λ z. omega arith))) in
-      let r = in_rows (by_names []) last save_name gs saves_spelled x there k 1 last lt (omega arith) in
+      let r = in_rows (by_names []) last save_name gs (numbered_spelled (codes "__s")) x there k 1 last lt (omega arith) in
       let z : 1 + k ≡ suc k = omega arith in
       let inB : is_declared t B ≡ true = ap (λ y. is_declared (save_name y x).text B) (sym z) ∙ r.0 in
       let atB : number_of t B ≡ k * length gs + number_of x.text gs = ap (λ y. number_of (save_name y x).text B) (sym z) ∙ r.1 in
@@ -237,10 +225,10 @@ module _ (vocabulary : Vocabulary) where
       let split : a ++ 95 ∷ 95 ∷ [] ≡ (a ++ 95 ∷ []) ++ 95 ∷ [] = sym (append_assoc a (95 ∷ []) (95 ∷ [])) in
       let noA : is_declared t A ≡ false =
       none_in_rows (by_names []) last copy_name gs t 0 (suc last)
-      (λ i y l. ap (λ z. same_text z (copy_name i y).text) split ∙ low_no_copy (a ++ 95 ∷ []) y.text i (omega arith)) in
+      (λ i y l. ap (λ z. same_text z (copy_name i y).text) split ∙ low_no_numbered (codes "__") (a ++ 95 ∷ []) y.text i (omega arith)) in
       let noB : is_declared t B ≡ false =
       none_in_rows (by_names []) last save_name gs t 1 last
-      (λ i y l. ap (λ z. same_text z (save_name i y).text) split ∙ low_no_save (a ++ 95 ∷ []) y.text i (omega arith)) in
+      (λ i y l. ap (λ z. same_text z (save_name i y).text) split ∙ low_no_numbered (codes "__s") (a ++ 95 ∷ []) y.text i (omega arith)) in
       let r1 = number_right t A B noA in
       let r2 = number_right t (A ++ B) (bits ++ last_names) (r1.1 ∙ noB) in
       let lAB : length (A ++ B) ≡ bits_at (length gs) last = length-append A B ∙ ap₂ (λ p q. p + q) length-A length-B in

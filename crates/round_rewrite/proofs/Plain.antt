@@ -109,19 +109,12 @@ bare_given v g (waiting c l x t ∷ fs) = refl
 -- a step is a step of the plain machine
 pub plain_step : (p : Program) (s : State) (Q : State → Type 0)
     → StepsTo p s (λ u. Q (bare_state u)) ≡ PlainSteps (world_of p) (bare_state s) Q
-plain_step p (state g []) Q = refl
-plain_step p (state g (waiting c l x t ∷ fs)) Q = refl
 plain_step p (state g (frame c l done ∷ fs)) Q =
     ap Q
     (bare_given (result_of (slice_get p.routines c) l) g fs
     ∙ ap (λ v. given_back v g (map bare_frame fs)) (result_bare (slice_get p.routines c) l))
-plain_step p (state g (frame c l (one m skip t) ∷ fs)) Q = refl
-plain_step p (state g (frame c l (one m (assign xs rs) t) ∷ fs)) Q = refl
-plain_step p (state g (frame c l (one m (assert r) t) ∷ fs)) Q = refl
-plain_step p (state g (frame c l (one m (assume r) t) ∷ fs)) Q = refl
 plain_step p (state g (frame c l (one m (goto x) t) ∷ fs)) Q =
     at_rest (rest_from x (body_of (slice_get p.routines c)) done) (λ rest. Q (state g (frame c l rest ∷ map bare_frame fs)))
-plain_step p (state g (frame c l (one m leave t) ∷ fs)) Q = refl
 plain_step p (state g (frame c l (one m (call q es) t) ∷ fs)) Q =
     at_routine (slice_get p.routines q)
     (λ r. Q (state g (frame q (fresh (frame_size r) (values_of g l es)) r.body ∷ frame c l (bare t) ∷ map bare_frame fs)))
@@ -134,6 +127,7 @@ plain_step p (state g (frame c l (choose m r a b t) ∷ fs)) Q =
     λ i. (v : Bool) × IsValue g l r v × Q (state g (frame c l (bare-branch v a b t i) ∷ map bare_frame fs))
 plain_step p (state g (frame c l (loop m r a t) ∷ fs)) Q =
     λ i. (v : Bool) × IsValue g l r v × Q (state g (frame c l (bare-again v m r a t i) ∷ map bare_frame fs))
+plain_step p _ Q = refl
 
 -- so are n steps
 pub plain_after : (p : Program) (n : ℕ) (s : State) (Q : State → Type 0)

@@ -1,14 +1,14 @@
 -- What the prologue, the test of stop, and frames that leave do, both ways.
-use Rattle.std.proofs.Common.{◌≡◌, ℕ, suc, ◌<◌, ◌≤◌, Bool, true, false, not, cond, List, [], ◌∷◌, reverse, refl, sym, ◌∙◌, ap, subst, ap₂}
+use Rattle.std.proofs.Common.{◌≡◌, eqb, ℕ, suc, ◌<◌, ◌≤◌, Bool, true, false, not, cond, List, [], ◌∷◌, reverse, refl, sym, ◌∙◌, ap, subst, ap₂}
 use Rattle.std.proofs.Common.{arith, inl, inr}
-use Rattle.std.proofs.lemmas.Bool.{cases_eq}
+use Rattle.std.proofs.lemmas.Bool.{cases_eq, eq-eqb, ne_eqb}
 use Rattle.language.specs.Tree.{const, RightSide, any, value, skip, assign, leave, done, one, choose}
 use Rattle.language.specs.Value.{Place, global, bit, with_bit, value_of, IsValue, AreValues, written_globals, written_locals}
 use Rattle.language.specs.Rest.{Code, join}
 use Rattle.language.specs.Step.{Frame, frame, State, state}
 use Rattle.round_rewrite.specs.Table.{no_mark, in_round, stop_test, rise, prologue}
 use Rattle.round_rewrite.specs.Places.{places, bits_at, bits_from, stop_at}
-use Rattle.round_rewrite.proofs.RoundBitLemmas.{low_first, outside_bits, frame_kept, raise_goes, raise_only, same, same_refl, same_false}
+use Rattle.round_rewrite.proofs.RoundBitLemmas.{low_first, outside_bits, frame_kept, raise_goes, raise_only}
 use Rattle.round_rewrite.proofs.LayoutLemmas.{bits_of, lay, Shape, Moment, has_bits, stop_bit, stop_with, bits_written}
 use Rattle.round_rewrite.proofs.Translate.{at_is}
 use Rattle.round_rewrite.proofs.Plain.{World, PlainAfter}
@@ -94,7 +94,7 @@ module _ (w : World) {n last : ℕ} (small : last < most_rounds) (site : Site n 
   prologue_rises q b t lt (m, h) =
       let X : List Bool = now q false b in
       let free : true ≡ not (value_of X L (in_round (places n last own) last last)) =
-      sym (ap not (at_is small (in_round_of q (omega arith) b) own L last (omega arith) ∙ same_false last q (omega arith))) in (
+      sym (ap not (at_is small (in_round_of q (omega arith) b) own L last (omega arith) ∙ ne_eqb last q (omega arith))) in (
         suc (suc (suc m)),
         (
           true,
@@ -187,11 +187,11 @@ module _ (w : World) {n last : ℕ} (small : last < most_rounds) (site : Site n 
       let (m1, e1, k1) = unstep w Q m _ _ fs never k.1 in
       let risen_is : k1.0 ≡ risen q =
       raise_only X L (bits_at n last) (round_bits last) q (false ∷ b ∷ []) (has_bits n last C S shape q false b) k1.0 k1.1 in
-      let free : same last q ≡ false =
+      let free : eqb last q ≡ false =
       sym (at_is small (in_round_of q within b) own L last (omega arith)) ∙
       not_true (value_of X L (in_round (places n last own) last last)) k.0 in
       let lt : q < last = elim (cases_eq q last) [
-        | inl eq ↦ absurd (let bad : true ≡ false = sym (ap (same last) eq ∙ same_refl last) ∙ free in cc)
+        | inl eq ↦ absurd (let bad : true ≡ false = sym (ap (eqb last) eq ∙ eq-eqb last last refl) ∙ free in cc)
         | inr ne ↦ omega arith
       ] in
       let k' : PlainAfter w m1 (state (written_globals rise_targets (risen q) X)

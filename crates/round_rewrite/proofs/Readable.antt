@@ -1,10 +1,10 @@
 -- The rewritten tree is one of the grammar if the source's tree is.
 use Rattle.std.proofs.Common.{◌≡◌, ℕ, zero, suc, ◌+◌, ◌<◌, ◌≤◌, true, false, cond, not, List, [], ◌∷◌, ◌++◌}
-use Rattle.std.proofs.Common.{length, map, reverse, codes, Some, refl, sym, ◌∙◌, subst, arith, length-append}
+use Rattle.std.proofs.Common.{length, map, reverse, codes, Some, refl, sym, subst, arith, length-append}
 use Rattle.std.proofs.lemmas.List.{length-map}
-use Rattle.std.specs.List.{AllByRecursion, AllByRecursion}
-use Rattle.language.specs.Tree.{Name, Expression, const, var, negation, two, RightSide, any, value, Simple, skip, assign, assert, assume}
-use Rattle.language.specs.Tree.{goto, leave, call, leave_with, call_for, Mark, Block, done, one, choose, loop, Procedure, ThreadLine, Tree}
+use Rattle.std.specs.List.{AllByRecursion}
+use Rattle.language.specs.Tree.{Name, Expression, const, var, negation, two, RightSide, any, value, Simple, assign, assert, assume}
+use Rattle.language.specs.Tree.{goto, call, leave_with, call_for, Mark, Block, done, one, choose, loop, Procedure, ThreadLine, Tree}
 use Rattle.language.specs.Rest.{join}
 use Rattle.language.specs.Resolve.{is_declared}
 use Rattle.grammar.specs.Grammar.{IsSome}
@@ -12,7 +12,7 @@ use Rattle.grammar.specs.InGrammar.{IsId, AreIds, ExpressionInGrammar, SideInGra
 use Rattle.grammar.specs.InGrammar.{ProcedureInGrammar, ThreadInGrammar, InGrammar}
 use Rattle.resolved.specs.Statements.{variables_of, variables_of_side, variables_of_sides, variables_of_all}
 use Rattle.resolved.proofs.Each.{each_left, each_right}
-use Rattle.round_rewrite.specs.Table.{numbers, no_mark, temporaries, in_round, expression_form, side, all_rounds, targets, sides, draws}
+use Rattle.round_rewrite.specs.Table.{Naming, numbers, no_mark, temporaries, in_round, expression_form, side, all_rounds, targets, sides, draws}
 use Rattle.round_rewrite.specs.Table.{drawing, stop_test, rise, prologue, statement, rewritten, guess, guesses, starts, check, checks}
 use Rattle.round_rewrite.specs.Table.{copied, globals, receiver_draws, received, raised, each, reset_targets}
 use Rattle.round_rewrite.specs.Names.{fresh_name, bit_name, bit_names, copy_name, save_name, drawn_name, by_names, rewritten_procedure}
@@ -22,7 +22,8 @@ use Rattle.round_rewrite.specs.Places.{global_count}
 use Rattle.round_rewrite.specs.Writing.{procedure_needs, AreFew}
 use Rattle.round_rewrite.proofs.RoundBitLemmas.{bits_few}
 use Rattle.round_rewrite.proofs.PlaceLemmas.{length-bit_names}
-use Rattle.round_rewrite.proofs.ResolutionLemmas.{by_test, rest_room}
+use Rattle.language.proofs.TestLemmas.{at_test}
+use Rattle.round_rewrite.proofs.ResolutionLemmas.{rest_room}
 use Rattle.round_rewrite.proofs.Widths.{narrow_procedures, few_needs}
 use Rattle.round_rewrite.proofs.Uses.{each_both, any_uses, written_each, numbered_each, each_reversed, rise_uses, rise_even, zeros_use}
 use Rattle.round_rewrite.proofs.Uses.{sides_even, Held, at_uses, arguments_use, side_uses}
@@ -110,11 +111,15 @@ join_in_grammar (loop m r x t) b h g = (h.0, h.1, h.2, h.3, join_in_grammar t b 
 
 some_joined : (a b : Block Name Name Name) → IsSome b → IsSome (join a b)
 some_joined done b h = h
-some_joined (one m c t) b h = tt
-some_joined (choose m r x y t) b h = tt
-some_joined (loop m r x t) b h = tt
+some_joined _ b h = tt
 
 module _ (own : List Name) (last d : ℕ) (small : last < most_rounds) (few : d ≤ most_places) where
+  abbrev N : Naming Name Name Name Name
+  N = by_names own
+
+  abbrev put : Block Name Name Name → Block Name Name Name
+  put = rewritten N last
+
   held : Held own last d IsId IsId
   held = record {
     bits = bit_ids (round_bits last);
@@ -125,19 +130,17 @@ module _ (own : List Name) (last d : ℕ) (small : last < most_rounds) (few : d 
     drawn = λ j lt. drawn_id j (omega arith);
   }
 
-  some_rewritten : (b : Block Name Name Name) → IsSome b → IsSome (rewritten (by_names own) last b)
+  some_rewritten : (b : Block Name Name Name) → IsSome b → IsSome (put b)
   some_rewritten done h = h
-  some_rewritten (one m c k) h = tt
-  some_rewritten (choose m r a b k) h = tt
-  some_rewritten (loop m r a k) h = tt
+  some_rewritten _ h = tt
 
-  stop_test_in_grammar : (k : Block Name Name Name) → BlockInGrammar k → BlockInGrammar (stop_test (by_names own) last k)
+  stop_test_in_grammar : (k : Block Name Name Name) → BlockInGrammar k → BlockInGrammar (stop_test N last k)
   stop_test_in_grammar k h = (tt, stop_id, tt, (tt, tt, tt), tt, (tt, tt, tt), h)
 
-  rise_in_grammar : BlockInGrammar (rise (by_names own) last)
+  rise_in_grammar : BlockInGrammar (rise N last)
   rise_in_grammar = (
     tt,
-    ids_used (in_round (by_names own) last last) (at_uses own last d IsId IsId held last),
+    ids_used (in_round N last last) (at_uses own last d IsId IsId held last),
     (
       tt,
       assign_in_grammar (reverse (bit_names (round_bits last))) (reverse (raised (bit_names (round_bits last))))
@@ -148,7 +151,7 @@ module _ (own : List Name) (last d : ℕ) (small : last < most_rounds) (few : d 
   )
 
   prologue_in_grammar : (m : Mark Name) (k : Block Name Name Name) → LabelInGrammar m.label → BlockInGrammar k
-      → BlockInGrammar (prologue (by_names own) last m k)
+      → BlockInGrammar (prologue N last m k)
   prologue_in_grammar m k l h = (
     l,
     tt,
@@ -166,42 +169,39 @@ module _ (own : List Name) (last d : ℕ) (small : last < most_rounds) (few : d 
   )
 
   drawing_in_grammar : (n : ℕ) (k : Block Name Name Name) → n ≤ d → BlockInGrammar k
-      → BlockInGrammar (drawing (by_names own) last n k)
+      → BlockInGrammar (drawing N last n k)
   drawing_in_grammar zero k le h = h
   drawing_in_grammar (suc n) k le h = (
     tt,
     assign_in_grammar (map drawn_name (numbers 0 (suc n))) (map (λ x. any) (numbers 0 (suc n))) (omega arith)
-        (length-map (numbers 0 (suc n)) drawn_name ∙ sym (length-map {B = RightSide Name} (numbers 0 (suc n)) (λ x. any)))
+        (simp length-map)
         (numbered_each IsId drawn_name d held.drawn 0 (suc n) (omega arith)) (any_uses IsId (numbers 0 (suc n))),
     h,
   )
 
-  some_target : (x : Name) (xs : List Name) (r : RightSide Name) (rs : List (RightSide Name))
-      → 0 < length (targets (by_names own) last (x ∷ xs) (r ∷ rs))
-  some_target x xs r rs =
-      let here : List Name = map (λ k. copy_name k x) (all_rounds (by_names own) last) in
-      by_test (is_declared x.text own)
-      (λ e.
-      subst (λ c. 0 < length (cond (not c) (here ++ targets (by_names own) last xs rs) (x ∷ targets (by_names own) last xs rs))) (sym e)
-      (omega arith))
-      (λ e.
-      subst (λ c. 0 < length (cond (not c) (here ++ targets (by_names own) last xs rs) (x ∷ targets (by_names own) last xs rs))) (sym e)
-      (omega arith))
+  side_in_grammar : (r : RightSide Name) → SideInGrammar r → SideInGrammar (side N last r)
+  side_in_grammar r h = side_ids_used (side N last r) (side_uses own last d IsId IsId held r (side_uses_ids r h))
+
+  arguments_in_grammar : (es : List (Expression Name)) → AllByRecursion ExpressionInGrammar es
+      → AllByRecursion ExpressionInGrammar (map (expression_form N last) es)
+  arguments_in_grammar es h =
+      arguments_ids_used (map (expression_form N last) es) (arguments_use own last d IsId IsId held es (arguments_use_ids es h))
 
   some_targets : (xs : List Name) (rs : List (RightSide Name)) → 0 < length xs → 0 < length rs
-      → 0 < length (targets (by_names own) last xs rs)
-  some_targets [] rs h g = absurd (omega arith)
-  some_targets (x ∷ xs) [] h g = absurd (omega arith)
-  some_targets (x ∷ xs) (r ∷ rs) h g = some_target x xs r rs
+      → 0 < length (targets N last xs rs)
+  some_targets (x ∷ xs) (r ∷ rs) h g =
+      let here : List Name = map (λ k. copy_name k x) (all_rounds N last) in
+      let others : List Name = targets N last xs rs in
+      at_test (λ c. 0 < length (cond (not c) (here ++ others) (x ∷ others))) (is_declared x.text own) (λ e. omega arith) (λ e. omega arith)
+  some_targets _ _ h g = absurd (omega arith)
 
   statement_in_grammar : (m : Mark Name) (c : Simple Name Name Name) (b k : Block Name Name Name) → SimpleInGrammar c
-      → temporaries (by_names own).is_shared (one m c b) ≤ d → BlockInGrammar k → BlockInGrammar (statement (by_names own) last c k)
-  statement_in_grammar m skip b k w room h = (tt, tt, h)
+      → temporaries N.is_shared (one m c b) ≤ d → BlockInGrammar k → BlockInGrammar (statement N last c k)
   statement_in_grammar m (assign xs rs) b k w room h =
-      drawing_in_grammar (draws (by_names own).is_shared xs rs)
-      (one no_mark (assign (targets (by_names own) last xs rs) (sides (by_names own) last 0 xs rs)) k) (omega arith) (
+      drawing_in_grammar (draws N.is_shared xs rs)
+      (one no_mark (assign (targets N last xs rs) (sides N last 0 xs rs)) k) (omega arith) (
         tt,
-        assign_in_grammar (targets (by_names own) last xs rs) (sides (by_names own) last 0 xs rs) (some_targets xs rs w.0 w.2)
+        assign_in_grammar (targets N last xs rs) (sides N last 0 xs rs) (some_targets xs rs w.0 w.2)
             (sides_even own last 0 xs rs)
             (targets_held own last d IsId IsId held xs rs (ids_each xs w.1))
             (sides_use own last d IsId IsId held 0 xs rs (ids_each xs w.1) (sides_use_ids rs w.3) (omega arith)),
@@ -209,7 +209,7 @@ module _ (own : List Name) (last d : ℕ) (small : last < most_rounds) (few : d 
       )
   statement_in_grammar m (assert r) b k w room h = (
     tt,
-    side_ids_used (side (by_names own) last r) (side_uses own last d IsId IsId held r (side_uses_ids r w)),
+    side_in_grammar r w,
     tt,
     (tt, tt, tt),
     tt,
@@ -222,48 +222,38 @@ module _ (own : List Name) (last d : ℕ) (small : last < most_rounds) (few : d 
     h,
   )
   statement_in_grammar m (assume r) b k w room h =
-      (tt, side_ids_used (side (by_names own) last r) (side_uses own last d IsId IsId held r (side_uses_ids r w)), h)
+      (tt, side_in_grammar r w, h)
   statement_in_grammar m (goto l) b k w room h = (tt, w, h)
-  statement_in_grammar m leave b k w room h = (tt, tt, h)
   statement_in_grammar m (leave_with e) b k w room h =
-      (tt, ids_used (expression_form (by_names own) last e) (expression_uses own last d IsId IsId held e (uses_ids e w)), h)
+      (tt, ids_used (expression_form N last e) (expression_uses own last d IsId IsId held e (uses_ids e w)), h)
   statement_in_grammar m (call_for x q es) b k w room h =
-      let taken : receiver_draws (by_names own).is_shared (Some x) ≤ d = omega arith in (
+      let taken : receiver_draws N.is_shared (Some x) ≤ d = omega arith in (
         tt,
-        (
-          receiver_held own last d IsId IsId held x w.0 taken,
-          w.1,
-          arguments_ids_used (map (expression_form (by_names own) last) es)
-              (arguments_use own last d IsId IsId held es (arguments_use_ids es w.2)),
-        ),
-        stop_test_in_grammar (cond ((by_names own).is_shared x) (received (by_names own) last x k) k)
+        (receiver_held own last d IsId IsId held x w.0 taken, w.1, arguments_in_grammar es w.2),
+        stop_test_in_grammar (cond (N.is_shared x) (received N last x k) k)
             (landing_has own last d IsId IsId held BlockInGrammar x k w.0 taken h
             (λ xs rs some even hx hr.
             prologue_in_grammar no_mark (one no_mark (assign xs rs) k) tt (tt, assign_in_grammar xs rs some even hx hr, h))),
       )
   statement_in_grammar m (call q es) b k w room h = (
     tt,
-    (
-      w.0,
-      arguments_ids_used (map (expression_form (by_names own) last) es)
-          (arguments_use own last d IsId IsId held es (arguments_use_ids es w.1)),
-    ),
+    (w.0, arguments_in_grammar es w.1),
     stop_test_in_grammar k h,
   )
+  statement_in_grammar m _ b k w room h = (tt, tt, h)
 
-  block_in_grammar : (b : Block Name Name Name) → BlockInGrammar b → temporaries (by_names own).is_shared b ≤ d
-      → BlockInGrammar (rewritten (by_names own) last b)
+  block_in_grammar : (b : Block Name Name Name) → BlockInGrammar b → temporaries N.is_shared b ≤ d
+      → BlockInGrammar (put b)
   block_in_grammar done h room = tt
   block_in_grammar (one m c k) h room =
-      prologue_in_grammar m (statement (by_names own) last c (rewritten (by_names own) last k)) h.0
-      (statement_in_grammar m c k (rewritten (by_names own) last k) h.1 room
-      (block_in_grammar k h.2 (rest_room (by_names own).is_shared d m c k room)))
+      prologue_in_grammar m (statement N last c (put k)) h.0
+      (statement_in_grammar m c k (put k) h.1 room
+      (block_in_grammar k h.2 (rest_room N.is_shared d m c k room)))
   block_in_grammar (choose m r a b k) h room =
       prologue_in_grammar m
-      (choose no_mark (side (by_names own) last r) (rewritten (by_names own) last a) (rewritten (by_names own) last b)
-      (rewritten (by_names own) last k)) h.0 (
+      (choose no_mark (side N last r) (put a) (put b) (put k)) h.0 (
         tt,
-        side_ids_used (side (by_names own) last r) (side_uses own last d IsId IsId held r (side_uses_ids r h.1)),
+        side_in_grammar r h.1,
         some_rewritten a h.2,
         block_in_grammar a h.3 (omega arith),
         some_rewritten b h.4,
@@ -272,12 +262,11 @@ module _ (own : List Name) (last d : ℕ) (small : last < most_rounds) (few : d 
       )
   block_in_grammar (loop m r a k) h room =
       prologue_in_grammar m
-      (loop no_mark (side (by_names own) last r) (join (rewritten (by_names own) last a) (prologue (by_names own) last no_mark done))
-      (rewritten (by_names own) last k)) h.0 (
+      (loop no_mark (side N last r) (join (put a) (prologue N last no_mark done)) (put k)) h.0 (
         tt,
-        side_ids_used (side (by_names own) last r) (side_uses own last d IsId IsId held r (side_uses_ids r h.1)),
-        some_joined (rewritten (by_names own) last a) (prologue (by_names own) last no_mark done) tt,
-        join_in_grammar (rewritten (by_names own) last a) (prologue (by_names own) last no_mark done) (block_in_grammar a h.3 (omega arith))
+        side_in_grammar r h.1,
+        some_joined (put a) (prologue N last no_mark done) tt,
+        join_in_grammar (put a) (prologue N last no_mark done) (block_in_grammar a h.3 (omega arith))
             (prologue_in_grammar no_mark done tt tt),
         block_in_grammar k h.4 (omega arith),
       )
@@ -337,12 +326,11 @@ module _ (last : ℕ) (small : last < most_rounds) where
       AllByRecursion IsId (map (write k) (x ∷ xs)) =
       λ write f. written_each IsId IsId (write k) (x ∷ xs) (λ y i. f k y lt i) h in (
         tt,
-        assign_in_grammar (map (copy_name k) (x ∷ xs)) (map (λ y. any) (x ∷ xs)) (omega arith) (length-map (x ∷ xs) (copy_name k)
-            ∙ sym (length-map {B = RightSide Name} (x ∷ xs) (λ y. any))) (written copy_name copy_id) (any_uses IsId (x ∷ xs)),
+        assign_in_grammar (map (copy_name k) (x ∷ xs)) (map (λ y. any) (x ∷ xs)) (omega arith) (simp length-map) (written copy_name copy_id) (any_uses IsId (x ∷ xs)),
         (
           tt,
           assign_in_grammar (map (save_name k) (x ∷ xs)) (map (λ y. value (var (copy_name k y))) (x ∷ xs)) (omega arith)
-              (length-map (x ∷ xs) (save_name k) ∙ sym (length-map (x ∷ xs) (λ y. value (var (copy_name k y)))))
+              (simp length-map)
               (written save_name save_id) (reads_ids k (x ∷ xs) lt h),
           g,
         ),
@@ -363,7 +351,7 @@ module _ (last : ℕ) (small : last < most_rounds) where
     tt,
     assign_in_grammar (reset_targets (by_names []) last) (each (value (const false)) (reset_targets (by_names []) last))
         (let sum = length-append (reverse (bit_names (round_bits last))) (fresh_name (codes "stop__") ∷ []) in omega (arith, sum))
-        (sym (length-map {B = RightSide Name} (reset_targets (by_names []) last) (λ x. value (const false))))
+        (simp length-map)
         (each_both IsId (reverse (bit_names (round_bits last))) (fresh_name (codes "stop__") ∷ [])
         (each_reversed IsId (bit_names (round_bits last)) (bit_ids (round_bits last))) (stop_id, tt))
         (zeros_use IsId (reset_targets (by_names []) last)),

@@ -1,13 +1,14 @@
 -- The rewritten block by names, resolved, is the rewritten block by places of the resolved block.
 use Rattle.std.proofs.Common.{◌≡◌, ℕ, zero, suc, ◌+◌, ◌/◌, ◌%◌, ◌<◌, ◌≤◌, max, Bool, true, false, cond, not, List, [], ◌∷◌, ◌++◌, Some}
-use Rattle.std.proofs.Common.{length, map, reverse, codes, refl, sym, ◌∙◌, ap, subst, ap₂, arith}
+use Rattle.std.proofs.Common.{length, map, reverse, codes, refl, ◌∙◌, ap, subst, ap₂, arith}
 use Rattle.std.proofs.lemmas.List.{map-append}
 use Rattle.language.specs.Tree.{Name, Expression, const, var, negation, two, or, and, xor, RightSide, any, value, Simple, skip, assign}
-use Rattle.language.specs.Tree.{assert, assume, goto, leave, call, leave_with, call_for, Mark, Block, done, one, choose, loop, Tree}
+use Rattle.language.specs.Tree.{assert, assume, leave, call, leave_with, call_for, Mark, Block, done, one, choose, loop, Tree}
 use Rattle.language.specs.Value.{Place, global, local}
 use Rattle.language.specs.Rest.{Label, join}
 use Rattle.language.specs.Resolve.{number_of, is_declared, Scope, place_of, resolve_expression, resolve_side, resolve_simple, resolve_mark}
 use Rattle.language.specs.Resolve.{resolve_block}
+use Rattle.language.proofs.TestLemmas.{at_test}
 use Rattle.round_rewrite.specs.Table.{Naming, numbers, no_mark, literal, has_value, added, raised, each, reset_targets, in_round}
 use Rattle.round_rewrite.specs.Table.{read_by_round, read, expression_form, side, copy_value, all_rounds, targets, sides, draws}
 use Rattle.round_rewrite.specs.Table.{receiver_draws, temporaries, drawing, stop_test, prologue, received, receiver, statement, rewritten}
@@ -20,11 +21,6 @@ use Rattle.round_rewrite.proofs.RoundBitLemmas.{map-reversed}
 use Rattle.round_rewrite.proofs.PlaceLemmas.{Vocabulary, scope, wider, copy_place, kept_place, drawn_place, bits_placed, stop_place}
 use Rattle.round_rewrite.proofs.PlaceLemmas.{bad_place}
 use Rattle.language.specs.Parts as parts
-
--- a test made once
-pub by_test : {A : Type 0} (c : Bool) → (c ≡ true → A) → (c ≡ false → A) → A
-by_test true f g = f refl
-by_test false f g = g refl
 
 -- what comes after a statement needs no more temporaries than both
 pub rest_room : {V P L : Type 0} (is_shared : V → Bool) (d : ℕ) (m : Mark L) (c : Simple V P L) (k : Block V P L)
@@ -92,12 +88,9 @@ module _ (t : Tree) (vocabulary : Vocabulary) (ps' : List Name)
   bd : place_of s' (fresh_name (codes "bad__")) ≡ global (bad_at (length gs) last)
   bd = bad_place vocabulary ps'
 
-  -- if a variable is hidden by no formal or local
-  shared_place : (x : Name) → is_declared x.text own ≡ false → place_of s x ≡ global (number_of x.text gs)
-  shared_place x h = ap (λ c. cond c (local (number_of x.text own)) (global (number_of x.text gs))) h
-
-  own_place : (x : Name) → is_declared x.text own ≡ true → place_of s x ≡ local (number_of x.text own)
-  own_place x h = ap (λ c. cond c (local (number_of x.text own)) (global (number_of x.text gs))) h
+  -- the place of a variable, by whether a formal or local has its name
+  abbrev place : Name → Bool → Place
+  place x c = cond c (local (number_of x.text own)) (global (number_of x.text gs))
 
   copied_place : (x : Name) → Declared s x → is_declared x.text own ≡ false → (k : ℕ) → k ≤ last
       → place_of s' (copy_name k x) ≡ copy_at (length gs) k (place_of s x)
@@ -124,13 +117,10 @@ module _ (t : Tree) (vocabulary : Vocabulary) (ps' : List Name)
       (two and (at_resolved (suc k) i) (var (copied_place x h hidden (suc k) le i)))
 
   read_resolved : (x : Name) → Declared s x → resolve_expression s' (read N last x) ≡ read P last (place_of s x)
-  read_resolved x h = by_test (is_declared x.text own)
-      (λ e. ap (λ c. resolve_expression s' (cond (not c) (read_by_round N last last x) (var x))) e
-      ∙ (ap var (kept_place vocabulary ps' x e ∙ own_place x e)
-      ∙ sym (ap (read P last) (own_place x e))))
-      (λ e. ap (λ c. resolve_expression s' (cond (not c) (read_by_round N last last x) (var x))) e
-      ∙ (joined_resolved x h e last (omega arith)
-      ∙ (ap (read_by_round P last last) (shared_place x e) ∙ sym (ap (read P last) (shared_place x e)))))
+  read_resolved x h =
+      at_test (λ c. resolve_expression s' (cond (not c) (read_by_round N last last x) (var x)) ≡ read P last (place x c))
+      (is_declared x.text own) (λ e. ap var (kept_place vocabulary ps' x e ∙ ap (place x) e))
+      (λ e. joined_resolved x h e last (omega arith) ∙ ap (λ c. read_by_round P last last (place x c)) e)
 
   expression_resolved : (e : Expression Name) → ExpressionDeclared s e
       → resolve_expression s' (expression_form N last e) ≡ expression_form P last (resolve_expression s e)
@@ -166,36 +156,41 @@ module _ (t : Tree) (vocabulary : Vocabulary) (ps' : List Name)
       λ i. copied_place x h hidden j (omega arith) i ∷ copies_resolved x h hidden (suc j) m (omega arith) i
 
   shared_is : (x : Name) → not (is_declared x.text own) ≡ is_global (place_of s x)
-  shared_is x =
-      by_test (is_declared x.text own) (λ e. ap not e ∙ sym (ap is_global (own_place x e)))
-      (λ e. ap not e ∙ sym (ap is_global (shared_place x e)))
+  shared_is x = at_test (λ c. not c ≡ is_global (place x c)) (is_declared x.text own) (λ e. refl) (λ e. refl)
 
   targets_resolved : (xs : List Name) (rs : List (RightSide Name)) → AllDeclared s xs
       → map (place_of s') (targets N last xs rs) ≡ targets P last (map (place_of s) xs) (map (resolve_side s) rs)
-  targets_resolved [] rs h = refl
-  targets_resolved (x ∷ xs) [] h = refl
   targets_resolved (x ∷ xs) (r ∷ rs) h =
-      let ih : map (place_of s') (targets N last xs rs) ≡ targets P last (map (place_of s) xs) (map (resolve_side s) rs) =
-      targets_resolved xs rs h.1 in
+      let ih = targets_resolved xs rs h.1 in
+      let more : List Name = targets N last xs rs in
+      let others : List Place = targets P last (map (place_of s) xs) (map (resolve_side s) rs) in
       let here : List Name = map (λ k. copy_name k x) (all_rounds N last) in
-      let there : Place → List Place =
-      λ y.
-      cond (is_global y)
-      (map (λ k. copy_at (length gs) k y) (all_rounds P last) ++ targets P last (map (place_of s) xs) (map (resolve_side s) rs))
-      (y ∷ targets P last (map (place_of s) xs) (map (resolve_side s) rs)) in
-      by_test (is_declared x.text own)
-      (λ e. ap (λ c. map (place_of s') (cond (not c) (here ++ targets N last xs rs) (x ∷ targets N last xs rs))) e
-      ∙ (ap₂ (λ a b. a ∷ b) (kept_place vocabulary ps' x e ∙ own_place x e) ih
-      ∙ sym (ap there (own_place x e))))
-      (λ e. ap (λ c. map (place_of s') (cond (not c) (here ++ targets N last xs rs) (x ∷ targets N last xs rs))) e
-      ∙ (map-append (place_of s') here (targets N last xs rs)
-      ∙ (ap₂ (λ a b. a ++ b)
-      (copies_resolved x h.0 e 0 (suc last) (omega arith)
-      ∙ ap (λ y. map (λ k. copy_at (length gs) k y) (all_rounds P last)) (shared_place x e)) ih
-      ∙ sym (ap there (shared_place x e)))))
+      let there : Bool → List Place = λ c. map (λ k. copy_at (length gs) k (place x c)) (all_rounds P last) in
+      at_test
+      (λ c. map (place_of s') (cond (not c) (here ++ more) (x ∷ more)) ≡ cond (is_global (place x c)) (there c ++ others) (place x c ∷ others))
+      (is_declared x.text own) (λ e. ap₂ (λ a b. a ∷ b) (kept_place vocabulary ps' x e ∙ ap (place x) e) ih)
+      (λ e. map-append (place_of s') here more ∙ ap₂ (λ a b. a ++ b) (copies_resolved x h.0 e 0 (suc last) (omega arith) ∙ ap there e) ih)
+  targets_resolved _ _ h = refl
 
   drawn_resolved : (j : ℕ) → j < d → resolve_expression s' (var (drawn_name j)) ≡ var (local (length own + j))
   drawn_resolved j lt = ap var (drawn_place vocabulary ps' j lt)
+
+  -- the right sides for a variable that gets the value of an expression, before others: one for each copy of a global
+  spread_resolved : (x : Name) → Declared s x → (e : Expression Name) (e' : Expression Place) (r : RightSide Name) (r' : RightSide Place)
+      (shared kept : List (RightSide Name)) (shared' kept' : List (RightSide Place))
+      → (is_declared x.text own ≡ false → (resolve_expression s' e ≡ e') × (map (resolve_side s') shared ≡ shared'))
+      → (is_declared x.text own ≡ true → map (resolve_side s') (r ∷ kept) ≡ r' ∷ kept')
+      → map (resolve_side s') (cond (N.is_shared x) (map (copy_value N last e x) (all_rounds N last) ++ shared) (r ∷ kept))
+      ≡ cond (is_global (place_of s x)) (map (copy_value P last e' (place_of s x)) (all_rounds P last) ++ shared') (r' ∷ kept')
+  spread_resolved x h e e' r r' shared kept shared' kept' over own_side =
+      let here : List (RightSide Name) = map (copy_value N last e x) (all_rounds N last) in
+      let there : Bool → List (RightSide Place) = λ c. map (copy_value P last e' (place x c)) (all_rounds P last) in
+      at_test
+      (λ c. map (resolve_side s') (cond (not c) (here ++ shared) (r ∷ kept)) ≡ cond (is_global (place x c)) (there c ++ shared') (r' ∷ kept'))
+      (is_declared x.text own) own_side
+      (λ hidden. map-append (resolve_side s') here shared
+      ∙ ap₂ (λ a b. a ++ b)
+      (written_resolved x h hidden e e' (over hidden).0 0 (suc last) (omega arith) ∙ ap there hidden) (over hidden).1)
 
   sides_resolved : (j : ℕ) (xs : List Name) (rs : List (RightSide Name)) → AllDeclared s xs → SidesDeclared s rs
       → j + draws N.is_shared xs rs ≤ d
@@ -203,68 +198,32 @@ module _ (t : Tree) (vocabulary : Vocabulary) (ps' : List Name)
   sides_resolved j [] rs h hr room = refl
   sides_resolved j (x ∷ xs) [] h hr room = refl
   sides_resolved j (x ∷ xs) (any ∷ rs) h hr room =
-      let Rest : ℕ → List (RightSide Place) = λ k. sides P last k (map (place_of s) xs) (map (resolve_side s) rs) in
-      let here : List (RightSide Name) = map (copy_value N last (var (drawn_name j)) x) (all_rounds N last) in
-      let there : Place → List (RightSide Place) =
-      λ y.
-      cond (is_global y) (map (copy_value P last (var (local (length own + j))) y) (all_rounds P last) ++ Rest (suc j))
-      (any ∷ Rest j) in
-      by_test (is_declared x.text own)
+      let drawn : ℕ = draws N.is_shared xs rs in
+      spread_resolved x h.0 (var (drawn_name j)) (var (local (length own + j))) any any (sides N last (suc j) xs rs) (sides N last j xs rs) _ _
       (λ e.
-      let less : j + draws N.is_shared xs rs ≤ d =
-      subst (λ c. j + cond (not c) (suc (draws N.is_shared xs rs)) (draws N.is_shared xs rs) ≤ d) e room in
-      ap (λ c. map (resolve_side s') (cond (not c) (here ++ sides N last (suc j) xs rs) (any ∷ sides N last j xs rs))) e
-      ∙ (ap (λ b. any ∷ b) (sides_resolved j xs rs h.1 hr.1 less) ∙ sym (ap there (own_place x e))))
+      let more : j + suc drawn ≤ d = subst (λ c. j + cond (not c) (suc drawn) drawn ≤ d) e room in
+      (drawn_resolved j (omega arith), sides_resolved (suc j) xs rs h.1 hr.1 (omega arith)))
       (λ e.
-      let more : j + suc (draws N.is_shared xs rs) ≤ d =
-      subst (λ c. j + cond (not c) (suc (draws N.is_shared xs rs)) (draws N.is_shared xs rs) ≤ d) e room in
-      ap (λ c. map (resolve_side s') (cond (not c) (here ++ sides N last (suc j) xs rs) (any ∷ sides N last j xs rs))) e
-      ∙ (map-append (resolve_side s') here (sides N last (suc j) xs rs)
-      ∙ (ap₂ (λ a b. a ++ b)
-      (written_resolved x h.0 e (var (drawn_name j)) (var (local (length own + j))) (drawn_resolved j (omega arith)) 0 (suc last)
-      (omega arith) ∙ ap (λ y. map (copy_value P last (var (local (length own + j))) y) (all_rounds P last)) (shared_place x e))
-      (sides_resolved (suc j) xs rs h.1 hr.1 (omega arith))
-      ∙ sym (ap there (shared_place x e)))))
+      let less : j + drawn ≤ d = subst (λ c. j + cond (not c) (suc drawn) drawn ≤ d) e room in
+      ap (λ b. any ∷ b) (sides_resolved j xs rs h.1 hr.1 less))
   sides_resolved j (x ∷ xs) (value v ∷ rs) h hr room =
-      let Rest : List (RightSide Place) = sides P last j (map (place_of s) xs) (map (resolve_side s) rs) in
-      let V : Expression Place = expression_form P last (resolve_expression s v) in
-      let here : List (RightSide Name) = map (copy_value N last (expression_form N last v) x) (all_rounds N last) in
-      let there : Place → List (RightSide Place) =
-      λ y. cond (is_global y) (map (copy_value P last V y) (all_rounds P last) ++ Rest) (value V ∷ Rest) in
-      by_test (is_declared x.text own)
-      (λ e.
-      ap
-      (λ c. map (resolve_side s') (cond (not c) (here ++ sides N last j xs rs) (value (expression_form N last v) ∷ sides N last j xs rs))) e
-      ∙ (ap₂ (λ a b. value a ∷ b) (expression_resolved v hr.0) (sides_resolved j xs rs h.1 hr.1 room)
-      ∙ sym (ap there (own_place x e))))
-      (λ e.
-      ap
-      (λ c. map (resolve_side s') (cond (not c) (here ++ sides N last j xs rs) (value (expression_form N last v) ∷ sides N last j xs rs))) e
-      ∙ (map-append (resolve_side s') here (sides N last j xs rs)
-      ∙ (ap₂ (λ a b. a ++ b)
-      (written_resolved x h.0 e (expression_form N last v) V (expression_resolved v hr.0) 0 (suc last) (omega arith)
-      ∙ ap (λ y. map (copy_value P last V y) (all_rounds P last)) (shared_place x e))
-      (sides_resolved j xs rs h.1 hr.1 room)
-      ∙ sym (ap there (shared_place x e)))))
+      let same = expression_resolved v hr.0 in
+      let ih = sides_resolved j xs rs h.1 hr.1 room in
+      spread_resolved x h.0 (expression_form N last v) (expression_form P last (resolve_expression s v)) (value (expression_form N last v))
+      (value (expression_form P last (resolve_expression s v))) (sides N last j xs rs) (sides N last j xs rs) _ _
+      (λ e. (same, ih)) (λ e. ap₂ (λ a b. value a ∷ b) same ih)
 
   draws_resolved : (xs : List Name) (rs : List (RightSide Name))
       → draws N.is_shared xs rs ≡ draws is_global (map (place_of s) xs) (map (resolve_side s) rs)
-  draws_resolved [] rs = refl
-  draws_resolved (x ∷ xs) [] = refl
   draws_resolved (x ∷ xs) (any ∷ rs) = λ i. cond (shared_is x i) (suc (draws_resolved xs rs i)) (draws_resolved xs rs i)
   draws_resolved (x ∷ xs) (value v ∷ rs) = draws_resolved xs rs
+  draws_resolved _ _ = refl
 
   draws_of_resolved : (c : Simple Name Name Name)
       → draws_of N.is_shared (parts.plain c) ≡ draws_of is_global (parts.plain (resolve_simple s c))
-  draws_of_resolved skip = refl
   draws_of_resolved (assign xs rs) = ap (max 0) (draws_resolved xs rs)
-  draws_of_resolved (assert r) = refl
-  draws_of_resolved (assume r) = refl
-  draws_of_resolved (goto l) = refl
-  draws_of_resolved leave = refl
-  draws_of_resolved (call q es) = refl
-  draws_of_resolved (leave_with e) = refl
   draws_of_resolved (call_for x q es) = ap (λ c. max (cond c 1 0) 0) (shared_is x)
+  draws_of_resolved _ = refl
 
   pub temporaries_resolved : (b : Block Name Name Name) → temporaries N.is_shared b ≡ temporaries is_global (resolve_block s b)
   temporaries_resolved done = refl
@@ -320,28 +279,24 @@ module _ (t : Tree) (vocabulary : Vocabulary) (ps' : List Name)
 
   receiver_resolved : (x : Name) → receiver_draws N.is_shared (Some x) ≤ d
       → place_of s' (receiver N last x) ≡ receiver P last (place_of s x)
-  receiver_resolved x room = by_test (is_declared x.text own)
-      (λ e. ap (λ c. place_of s' (cond (not c) (drawn_name 0) x)) e
-      ∙ (kept_place vocabulary ps' x e ∙ (own_place x e ∙ sym (ap (receiver P last) (own_place x e)))))
-      (λ e. ap (λ c. place_of s' (cond (not c) (drawn_name 0) x)) e
-      ∙ (drawn_place vocabulary ps' 0 (let k : 1 ≤ d = shared_room x e room in omega arith)
-      ∙ sym (ap (receiver P last) (shared_place x e))))
+  receiver_resolved x room =
+      at_test (λ c. place_of s' (cond (not c) (drawn_name 0) x) ≡ receiver P last (place x c)) (is_declared x.text own)
+      (λ e. kept_place vocabulary ps' x e ∙ ap (place x) e)
+      (λ e. drawn_place vocabulary ps' 0 (let k : 1 ≤ d = shared_room x e room in omega arith))
 
   landing_resolved : (x : Name) → Declared s x → receiver_draws N.is_shared (Some x) ≤ d → (k : Block Name Name Name)
       → resolve_block s' (cond (N.is_shared x) (received N last x k) k)
       ≡ cond (is_global (place_of s x)) (received P last (place_of s x) (resolve_block s' k)) (resolve_block s' k)
   landing_resolved x h room k =
-      let there : Bool → Block Place ℕ Label =
-      λ c. cond c (received P last (place_of s x) (resolve_block s' k)) (resolve_block s' k) in
-      by_test (is_declared x.text own)
-      (λ e. ap (λ c. resolve_block s' (cond (not c) (received N last x k) k)) e ∙ sym (ap there (ap is_global (own_place x e))))
-      (λ e. ap (λ c. resolve_block s' (cond (not c) (received N last x k) k)) e
-      ∙ (received_resolved x h e (shared_room x e room) k ∙ sym (ap there (ap is_global (shared_place x e)))))
+      let k' : Block Place ℕ Label = resolve_block s' k in
+      at_test
+      (λ c. resolve_block s' (cond (not c) (received N last x k) k) ≡ cond (is_global (place x c)) (received P last (place x c) k') k')
+      (is_declared x.text own) (λ e. refl)
+      (λ e. received_resolved x h e (shared_room x e room) k ∙ ap (λ c. received P last (place x c) k') e)
 
   statement_resolved : (c : Simple Name Name Name) (k : Block Name Name Name) → SimpleDeclared t s c
       → draws_of N.is_shared (parts.plain c) ≤ d
       → resolve_block s' (statement N last c k) ≡ statement P last (resolve_simple s c) (resolve_block s' k)
-  statement_resolved skip k h room = refl
   statement_resolved (assign xs rs) k h room =
       let few_draws : draws N.is_shared xs rs ≤ d = omega arith in
       drawing_resolved (draws N.is_shared xs rs) (one no_mark (assign (targets N last xs rs) (sides N last 0 xs rs)) k) few_draws
@@ -353,8 +308,6 @@ module _ (t : Tree) (vocabulary : Vocabulary) (ps' : List Name)
       λ i. choose no_mark (side_resolved r h.test i) (one no_mark skip done)
       (one no_mark (assign (bd i ∷ st i ∷ []) (value (const true) ∷ value (const true) ∷ [])) (one no_mark leave done)) (resolve_block s' k)
   statement_resolved (assume r) k h room = λ i. one no_mark (assume (side_resolved r h.test i)) (resolve_block s' k)
-  statement_resolved (goto x) k h room = refl
-  statement_resolved leave k h room = refl
   statement_resolved (call q es) k h room =
       λ i. one no_mark (call (called q h.callee.0 i) (expressions_resolved es h.arguments i)) (stop_resolved k i)
   statement_resolved (leave_with e) k h room =
@@ -365,6 +318,7 @@ module _ (t : Tree) (vocabulary : Vocabulary) (ps' : List Name)
       one no_mark (call_for (receiver_resolved x one_taken i) (called q h.callee.0 i) (expressions_resolved es h.arguments i))
       ((stop_resolved (cond (N.is_shared x) (received N last x k) k)
       ∙ ap (stop_test P last) (landing_resolved x h.targets.0 one_taken k)) i)
+  statement_resolved _ k h room = refl
 
   drawn_room : (m : Mark Name) (c : Simple Name Name Name) (k : Block Name Name Name) → temporaries N.is_shared (one m c k) ≤ d
       → draws_of N.is_shared (parts.plain c) ≤ d

@@ -1,13 +1,13 @@
 -- A rewritten block gives a value if the block does.
 use Rattle.std.proofs.Common.{◌≡◌, ℕ, zero, suc, Bool, true, false, ◌||◌, cond, List, [], ◌∷◌, refl, sym, ◌∙◌, ap, ap₂}
-use Rattle.language.specs.Tree.{Simple, skip, assign, assert, assume, goto, leave, call, leave_with, call_for, Block, done, one, choose}
+use Rattle.language.specs.Tree.{Simple, assign, call_for, Block, done, one, choose}
 use Rattle.language.specs.Tree.{loop}
 use Rattle.language.specs.Parts as parts
 use Rattle.language.specs.Rest.{join}
 use Rattle.language.specs.Resolve.{gives_value}
 use Rattle.round_rewrite.specs.Table.{Naming, numbers, no_mark, targets, sides, draws, drawing, prologue, received, statement, rewritten}
 use Rattle.round_rewrite.specs.Table.{guess, guesses, starts, check, checks, main}
-use Rattle.round_rewrite.proofs.Translate.{or_false}
+use Rattle.std.proofs.Math.Bool.{or-false}
 use Rattle.round_rewrite.proofs.InTurn.{keep}
 
 or_assoc : (x y z : Bool) → ((x || y) || z) ≡ (x || (y || z))
@@ -39,16 +39,10 @@ module _ {V W P Q L : Type 0} (w : Naming V W P Q) (last : ℕ) where
 
   gives-statement : (s : Simple V P L) (k : Block W Q L)
       → gives_value (statement w last s k) ≡ (parts.gives (parts.plain s) || gives_value k)
-  gives-statement skip k = refl
   gives-statement (assign xs rs) k =
       gives-drawing (draws w.is_shared xs rs) (one no_mark (assign (targets w last xs rs) (sides w last 0 xs rs)) k)
-  gives-statement (assert r) k = refl
-  gives-statement (assume r) k = refl
-  gives-statement (goto l) k = refl
-  gives-statement leave k = refl
-  gives-statement (call p es) k = refl
-  gives-statement (leave_with e) k = refl
   gives-statement (call_for x p es) k = gives-cond (w.is_shared x) (received w last x k) k refl
+  gives-statement _ k = refl
 
   pub gives_rewritten : (b : Block V P L) → gives_value (rewritten w last b) ≡ gives_value b
   gives_rewritten done = refl
@@ -58,7 +52,7 @@ module _ {V W P Q L : Type 0} (w : Naming V W P Q) (last : ℕ) where
   gives_rewritten (loop m r a t) =
       ap₂ (λ x y. x || y)
       (gives-join (rewritten w last a) (prologue w last no_mark done)
-      ∙ (or_false (gives_value (rewritten w last a)) ∙ gives_rewritten a))
+      ∙ (or-false (gives_value (rewritten w last a)) ∙ gives_rewritten a))
       (gives_rewritten t)
 
   -- the first procedure gives no value

@@ -1,8 +1,9 @@
 -- The bits of a round: what they tell, how they rise to the next round, and how they are set to 0.
 use Rattle.std.proofs.Common.{◌≡◌, ℕ, zero, suc, ◌+◌, ◌*◌, ◌/◌, ◌%◌, ◌^◌, ◌<◌, ◌≤◌, ◌⊎◌, inl, inr, Bool, true, false, not, cond, ◌&&◌, List}
-use Rattle.std.proofs.Common.{[], ◌∷◌, ◌++◌, length, map, nat_lt, reverse, refl, sym, ◌∙◌, ap, ap₂, subst, arith}
-use Rattle.std.proofs.lemmas.Bool.{cases_eq}
+use Rattle.std.proofs.Common.{[], ◌∷◌, ◌++◌, length, map, nat_lt, eqb, reverse, refl, sym, ◌∙◌, ap, ap₂, subst, arith}
+use Rattle.std.proofs.lemmas.Bool.{cases_eq, eq-eqb, ne_eqb}
 use Rattle.std.proofs.lemmas.List.{append-nil, map-append, reverse-append, length-reverse}
+use Rattle.std.proofs.Math.Bool.{and-true, and-false}
 use Rattle.language.specs.Tree.{Expression, const, var, two, and, RightSide, any, value}
 use Rattle.language.specs.Value.{Place, global, local, bit, with_bit, look_up, value_of, AreValues, written_globals, written_locals}
 use Rattle.language.specs.Step.{zeros}
@@ -10,26 +11,10 @@ use Rattle.round_rewrite.specs.Table.{literal, has_value, added, raised, each}
 use Rattle.round_rewrite.specs.Places.{bits_from}
 use Rattle.round_rewrite.specs.Limits.{most_rounds, round_bits}
 
-abbrev pub same : ℕ → ℕ → Bool
-same zero zero = true
-same zero (suc b) = false
-same (suc a) zero = false
-same (suc a) (suc b) = same a b
-
-pub same_refl : (a : ℕ) → same a a ≡ true
-same_refl zero = refl
-same_refl (suc a) = same_refl a
-
-pub same_false : (a b : ℕ) → (a ≡ b → ⊥) → same a b ≡ false
-same_false zero zero h = absurd (h refl)
-same_false zero (suc b) h = refl
-same_false (suc a) zero h = refl
-same_false (suc a) (suc b) h = same_false a b (λ e. h (ap suc e))
-
-same_alike : (a b c d : ℕ) → (a ≡ b → c ≡ d) → (c ≡ d → a ≡ b) → same a b ≡ same c d
+same_alike : (a b c d : ℕ) → (a ≡ b → c ≡ d) → (c ≡ d → a ≡ b) → eqb a b ≡ eqb c d
 same_alike a b c d f g = elim (cases_eq a b) [
-  | inl e ↦ ap (same a) (sym e) ∙ (same_refl a ∙ (sym (same_refl c) ∙ ap (same c) (f e)))
-  | inr ne ↦ same_false a b ne ∙ sym (same_false c d (λ e. ne (g e)))
+  | inl e ↦ ap (eqb a) (sym e) ∙ (eq-eqb a a refl ∙ (sym (eq-eqb c c refl) ∙ ap (eqb c) (f e)))
+  | inr ne ↦ ne_eqb a b ne ∙ sym (ne_eqb c d (λ e. ne (g e)))
 ]
 
 -- a number below 2 as a bit
@@ -50,32 +35,23 @@ literal_is : (X L : List Bool) (n : ℕ) (x : Place) → value_of X L (literal n
 literal_is X L zero x = refl
 literal_is X L (suc n) x = refl
 
-and_true : (x : Bool) → (x && true) ≡ x
-and_true true = refl
-and_true false = refl
-
-and_false : (x : Bool) → (x && false) ≡ false
-and_false true = refl
-and_false false = refl
-
 -- two numbers are the same if their halves and their low bits are
-same_digits : (a b r s : ℕ) → r < 2 → s < 2 → same (2 * a + r) (2 * b + s) ≡ (same a b && lit r (is_one s))
+same_digits : (a b r s : ℕ) → r < 2 → s < 2 → eqb (2 * a + r) (2 * b + s) ≡ (eqb a b && lit r (is_one s))
 same_digits a b zero zero hr hs =
-    same_alike (2 * a + 0) (2 * b + 0) a b (λ e. omega arith) (λ e. omega arith) ∙ sym (and_true (same a b))
+    same_alike (2 * a + 0) (2 * b + 0) a b (λ e. omega arith) (λ e. omega arith) ∙ sym (and-true (eqb a b))
 same_digits a b zero (suc zero) hr hs =
-    same_false (2 * a + 0) (2 * b + 1) (λ e. omega arith) ∙ sym (and_false (same a b))
+    ne_eqb (2 * a + 0) (2 * b + 1) (λ e. omega arith) ∙ sym (and-false (eqb a b))
 same_digits a b (suc zero) zero hr hs =
-    same_false (2 * a + 1) (2 * b + 0) (λ e. omega arith) ∙ sym (and_false (same a b))
+    ne_eqb (2 * a + 1) (2 * b + 0) (λ e. omega arith) ∙ sym (and-false (eqb a b))
 same_digits a b (suc zero) (suc zero) hr hs =
-    same_alike (2 * a + 1) (2 * b + 1) a b (λ e. omega arith) (λ e. omega arith) ∙ sym (and_true (same a b))
-same_digits a b (suc (suc r)) s hr hs = absurd (omega arith)
-same_digits a b r (suc (suc s)) hr hs = absurd (omega arith)
+    same_alike (2 * a + 1) (2 * b + 1) a b (λ e. omega arith) (λ e. omega arith) ∙ sym (and-true (eqb a b))
+same_digits a b _ _ hr hs = absurd (omega arith)
 
-same_halves : (k q : ℕ) → same k q ≡ (same (k / 2) (q / 2) && lit (k % 2) (low q))
+same_halves : (k q : ℕ) → eqb k q ≡ (eqb (k / 2) (q / 2) && lit (k % 2) (low q))
 same_halves k q =
     let ek : k ≡ 2 * (k / 2) + k % 2 = omega arith in
     let eq : q ≡ 2 * (q / 2) + q % 2 = omega arith in
-    ap₂ same ek eq ∙ same_digits (k / 2) (q / 2) (k % 2) (q % 2) (omega arith) (omega arith)
+    ap₂ eqb ek eq ∙ same_digits (k / 2) (q / 2) (k % 2) (q % 2) (omega arith) (omega arith)
 
 -- a number, with 1 added if there is a carry
 abbrev plus : ℕ → Bool → ℕ
@@ -115,8 +91,8 @@ half_next q = elim (parity q) [
 ]
 
 half_plus : (q : ℕ) (c : Bool) → plus q c / 2 ≡ plus (q / 2) (low q && c)
-half_plus q true = half_next q ∙ sym (ap (plus (q / 2)) (and_true (low q)))
-half_plus q false = sym (ap (plus (q / 2)) (and_false (low q)))
+half_plus q true = half_next q ∙ sym (ap (plus (q / 2)) (and-true (low q)))
+half_plus q false = sym (ap (plus (q / 2)) (and-false (low q)))
 
 -- a number in a given number of bits, the highest first, in front of what follows
 abbrev pub in_bits : ℕ → ℕ → List Bool → List Bool
@@ -160,13 +136,13 @@ module _ (X L : List Bool) (at : ℕ) where
 
   -- the bits tell the number
   pub tells : (m k q : ℕ) (rest : List Bool) → HasBits X at m q rest → k < 2 ^ m → q < 2 ^ m
-      → value_of X L (has_value k (bits_from at m)) ≡ same k q
+      → value_of X L (has_value k (bits_from at m)) ≡ eqb k q
   tells zero k q rest h lk lq =
-      sym (ap₂ same (let z : k ≡ 0 = omega arith in z) (let z : q ≡ 0 = omega arith in z))
+      sym (ap₂ eqb (let z : k ≡ 0 = omega arith in z) (let z : q ≡ 0 = omega arith in z))
   tells (suc zero) k q rest h lk lq =
       let ek : k / 2 ≡ 0 = omega arith in
       let eq : q / 2 ≡ 0 = omega arith in
-      literal_tells 0 k q rest h ∙ sym (same_halves k q ∙ ap₂ (λ a b. same a b && lit (k % 2) (low q)) ek eq)
+      literal_tells 0 k q rest h ∙ sym (same_halves k q ∙ ap₂ (λ a b. eqb a b && lit (k % 2) (low q)) ek eq)
   tells (suc (suc m)) k q rest h lk lq =
       ap₂ (λ x y. x && y) (tells (suc m) (k / 2) (q / 2) (low q ∷ rest) h (omega arith) (omega arith))
       (literal_tells (suc m) k q rest h)
@@ -237,28 +213,25 @@ module _ (X L : List Bool) where
   pub one_choice : (rs : List (RightSide Place)) (vs ws : List Bool) → Certain rs → AreValues X L rs vs → AreValues X L rs ws
       → vs ≡ ws
   one_choice [] [] [] h a b = refl
-  one_choice [] [] (w ∷ ws) h a b = absurd b
   one_choice [] (v ∷ vs) ws h a b = absurd a
   one_choice (any ∷ rs) vs ws h a b = absurd h
   one_choice (value e ∷ rs) [] ws h a b = absurd a
-  one_choice (value e ∷ rs) (v ∷ vs) [] h a b = absurd b
   one_choice (value e ∷ rs) (v ∷ vs) (w ∷ ws) h a b = ap₂ (λ x xs. x ∷ xs) (a.0 ∙ sym b.0) (one_choice rs vs ws h a.1 b.1)
+  one_choice _ _ _ h a b = absurd b
 
   are_both : (rs ss : List (RightSide Place)) (vs ws : List Bool) → AreValues X L rs vs → AreValues X L ss ws
       → AreValues X L (rs ++ ss) (vs ++ ws)
   are_both [] ss [] ws a b = b
-  are_both [] ss (v ∷ vs) ws a b = absurd a
-  are_both (r ∷ rs) ss [] ws a b = absurd a
   are_both (r ∷ rs) ss (v ∷ vs) ws a b = (a.0, are_both rs ss vs ws a.1 b)
+  are_both _ ss _ ws a b = absurd a
 
   are_reversed : (rs : List (RightSide Place)) (vs : List Bool) → AreValues X L rs vs → AreValues X L (reverse rs) (reverse vs)
   are_reversed [] [] a = tt
-  are_reversed [] (v ∷ vs) a = absurd a
-  are_reversed (r ∷ rs) [] a = absurd a
   are_reversed (r ∷ rs) (v ∷ vs) a =
       subst (λ z. AreValues X L z (reverse (v ∷ vs))) (sym (reverse_first r rs))
       (subst (λ z. AreValues X L (reverse rs ++ r ∷ []) z) (sym (reverse_first v vs))
       (are_both (reverse rs) (r ∷ []) (reverse vs) (v ∷ []) (are_reversed rs vs a.1) (a.0, tt)))
+  are_reversed _ _ a = absurd a
 
   -- the bits rise to those of the next number
   pub raise_goes : (at m q : ℕ) (rest : List Bool) → HasBits X at m q rest
@@ -281,10 +254,9 @@ module _ (X L : List Bool) where
 pub written_both : (xs ys : List Place) (vs ws X : List Bool) → length xs ≡ length vs
     → written_globals (xs ++ ys) (vs ++ ws) X ≡ written_globals ys ws (written_globals xs vs X)
 written_both [] ys [] ws X e = refl
-written_both [] ys (v ∷ vs) ws X e = absurd (omega arith)
-written_both (x ∷ xs) ys [] ws X e = absurd (omega arith)
 written_both (global n ∷ xs) ys (v ∷ vs) ws X e = written_both xs ys vs ws (with_bit X n v) (omega arith)
 written_both (local n ∷ xs) ys (v ∷ vs) ws X e = written_both xs ys vs ws X (omega arith)
+written_both _ ys _ ws X e = absurd (omega arith)
 
 -- targets that are globals
 abbrev pub Outside : List Place → Type 0
@@ -305,10 +277,9 @@ outside_bits at (suc m) =
 
 -- a frame keeps its places if globals are written
 pub frame_kept : (xs : List Place) (vs L : List Bool) → Outside xs → written_locals xs vs L ≡ L
-frame_kept [] vs L h = refl
-frame_kept (x ∷ xs) [] L h = refl
 frame_kept (global n ∷ xs) (v ∷ vs) L h = frame_kept xs vs L h
 frame_kept (local n ∷ xs) (v ∷ vs) L h = absurd h
+frame_kept _ _ L h = refl
 
 length-bits_from : (at m : ℕ) → length (bits_from at m) ≡ m
 length-bits_from at zero = refl
@@ -360,15 +331,8 @@ zeros_first (suc m) =
 
 -- the bits suffice for the last round
 pub bits_suffice : (last : ℕ) → last < most_rounds → last < 2 ^ round_bits last
-bits_suffice zero h = omega arith
-bits_suffice (suc zero) h = omega arith
-bits_suffice (suc (suc zero)) h = omega arith
-bits_suffice (suc (suc (suc zero))) h = omega arith
-bits_suffice (suc (suc (suc (suc zero)))) h = omega arith
-bits_suffice (suc (suc (suc (suc (suc zero))))) h = omega arith
-bits_suffice (suc (suc (suc (suc (suc (suc zero)))))) h = omega arith
-bits_suffice (suc (suc (suc (suc (suc (suc (suc zero))))))) h = omega arith
 bits_suffice (suc (suc (suc (suc (suc (suc (suc (suc last)))))))) h = absurd (omega arith)
+bits_suffice _ h = omega arith
 
 -- a round has two bits or three
 pub bits_few : (last : ℕ) → (2 ≤ round_bits last) × (round_bits last ≤ 3)

@@ -1,12 +1,14 @@
 -- Which printed names differ.
-use Rattle.std.proofs.Common.{◌≡◌, ℕ, zero, suc, ◌+◌, ◌<◌, Bool, true, false, ◌&&◌, ◌||◌, List, [], ◌∷◌}
+use Rattle.std.proofs.Common.{◌≡◌, ℕ, suc, ◌+◌, ◌<◌, true, false, ◌&&◌, ◌||◌, List, [], ◌∷◌}
 use Rattle.std.proofs.Common.{◌++◌, nat_eq, refl, sym, ◌∙◌, ap, ap₂, arith, append_assoc}
 use Rattle.std.proofs.lemmas.List.{append_cancel_right, append_cancel_left}
 use Rattle.std.proofs.lemmas.Slice.Eq.{bytes_eq-Decides}
 use Rattle.std.proofs.lemmas.Fmt.{decimal_injective}
 use Rattle.std.specs.Prelude.{decimal}
 use Rattle.std.specs.Fmt.{digits}
+use Rattle.std.proofs.Math.Bool.{or-true}
 use Rattle.language.specs.Rest.{same_text}
+use Rattle.language.proofs.TestLemmas.{at_test}
 use Rattle.checked.specs.Rewritable.{begins_low, has_double}
 use Rattle.resolved.specs.Limits.{most_places}
 use Rattle.round_rewrite.specs.Limits.{most_rounds}
@@ -18,30 +20,20 @@ pub same_text_refl : (a : List ℕ) → same_text a a ≡ true
 same_text_refl a = (bytes_eq-Decides a a).1 refl
 
 pub same_text_false : (a b : List ℕ) → (a ≡ b → ⊥) → same_text a b ≡ false
-same_text_false a b h = go (same_text a b) refl
-  where
-    go : (c : Bool) → same_text a b ≡ c → c ≡ false
-    go true e = absurd (h (same_text_true a b e))
-    go false e = refl
+same_text_false a b h = at_test (λ c. c ≡ false) (same_text a b) (λ e. absurd (h (same_text_true a b e))) (λ e. refl)
 
 -- a suffix makes no difference
 pub same_text-append : (a b s : List ℕ) → same_text (a ++ s) (b ++ s) ≡ same_text a b
-same_text-append a b s = go (same_text a b) refl
-  where
-    go : (c : Bool) → same_text a b ≡ c → same_text (a ++ s) (b ++ s) ≡ c
-    go true e = ap (λ z. same_text (a ++ s) (z ++ s)) (sym (same_text_true a b e)) ∙ same_text_refl (a ++ s)
-    go false e =
-        same_text_false (a ++ s) (b ++ s) (λ k. let bad : true ≡ false =
-        sym (ap (same_text a) (sym (append_cancel_right a b s k)) ∙ same_text_refl a) ∙ e in cc)
+same_text-append a b s =
+    at_test (λ c. same_text (a ++ s) (b ++ s) ≡ c) (same_text a b)
+    (λ e. ap (λ z. same_text (a ++ s) (z ++ s)) (sym (same_text_true a b e)) ∙ same_text_refl (a ++ s))
+    (λ e. same_text_false (a ++ s) (b ++ s) (λ k. let bad : true ≡ false =
+    sym (ap (same_text a) (sym (append_cancel_right a b s k)) ∙ same_text_refl a) ∙ e in cc))
 
 pub double_there : (a s : List ℕ) → has_double (a ++ 95 ∷ 95 ∷ s) ≡ true
 double_there [] s = refl
 double_there (c ∷ a) s = ap (λ z. (nat_eq c 95 && begins_low (a ++ 95 ∷ 95 ∷ s)) || z) (double_there a s)
-    ∙ or_true (nat_eq c 95 && begins_low (a ++ 95 ∷ 95 ∷ s))
-  where
-    or_true : (x : Bool) → (x || true) ≡ true
-    or_true true = refl
-    or_true false = refl
+    ∙ or-true (nat_eq c 95 && begins_low (a ++ 95 ∷ 95 ∷ s))
 
 -- a text without two underscores in a row is none with them
 pub free_differs : (x a s : List ℕ) → has_double x ≡ false → same_text (a ++ 95 ∷ 95 ∷ s) x ≡ false
@@ -61,39 +53,19 @@ snoc_last (x ∷ a) (y ∷ b) u v e =
 
 pub digit_is : (k : ℕ) → k < most_rounds → decimal (suc k) ≡ (49 + k) ∷ []
 unfolding digits
-digit_is zero h = refl
-digit_is (suc zero) h = refl
-digit_is (suc (suc zero)) h = refl
-digit_is (suc (suc (suc zero))) h = refl
-digit_is (suc (suc (suc (suc zero)))) h = refl
-digit_is (suc (suc (suc (suc (suc zero))))) h = refl
-digit_is (suc (suc (suc (suc (suc (suc zero)))))) h = refl
-digit_is (suc (suc (suc (suc (suc (suc (suc zero))))))) h = refl
 digit_is (suc (suc (suc (suc (suc (suc (suc (suc k)))))))) h = absurd (omega arith)
+digit_is _ h = refl
 
--- the texts, with their last digit
-pub copy_text : (x : List ℕ) (k : ℕ) → k < most_rounds
-    → x ++ 95 ∷ 95 ∷ decimal (suc k) ≡ (x ++ 95 ∷ 95 ∷ []) ++ (49 + k) ∷ []
-copy_text x k h = ap (λ d. x ++ 95 ∷ 95 ∷ d) (digit_is k h) ∙ sym (append_assoc x (95 ∷ 95 ∷ []) ((49 + k) ∷ []))
+-- a name with a mark and the number of a round, with its last digit
+marked_text : (x mark : List ℕ) (k : ℕ) → k < most_rounds → x ++ (mark ++ decimal (suc k)) ≡ (x ++ mark) ++ (49 + k) ∷ []
+marked_text x mark k h = ap (λ d. x ++ (mark ++ d)) (digit_is k h) ∙ sym (append_assoc x mark ((49 + k) ∷ []))
 
-pub save_text : (x : List ℕ) (k : ℕ) → k < most_rounds
-    → x ++ 95 ∷ 95 ∷ 115 ∷ decimal (suc k) ≡ (x ++ 95 ∷ 95 ∷ 115 ∷ []) ++ (49 + k) ∷ []
-save_text x k h = ap (λ d. x ++ 95 ∷ 95 ∷ 115 ∷ d) (digit_is k h)
-    ∙ sym (append_assoc x (95 ∷ 95 ∷ 115 ∷ []) ((49 + k) ∷ []))
-
-pub copies_differ : (x y : List ℕ) (k j : ℕ) → k < most_rounds → j < most_rounds → (k ≡ j → ⊥) →
-    same_text (x ++ 95 ∷ 95 ∷ decimal (suc k)) (y ++ 95 ∷ 95 ∷ decimal (suc j)) ≡ false
-copies_differ x y k j hk hj ne = same_text_false _ _ (λ e.
+-- other rounds make other names
+pub numbered_differ : (mark x y : List ℕ) (k j : ℕ) → k < most_rounds → j < most_rounds → (k ≡ j → ⊥) →
+    same_text (x ++ (mark ++ decimal (suc k))) (y ++ (mark ++ decimal (suc j))) ≡ false
+numbered_differ mark x y k j hk hj ne = same_text_false _ _ (λ e.
     let last =
-    snoc_last (x ++ 95 ∷ 95 ∷ []) (y ++ 95 ∷ 95 ∷ []) (49 + k) (49 + j) (sym (copy_text x k hk) ∙ (e ∙ copy_text y j hj)) in
-    ne (let z : 49 + k ≡ 49 + j = last.0 in omega arith))
-
-pub saves_differ : (x y : List ℕ) (k j : ℕ) → k < most_rounds → j < most_rounds → (k ≡ j → ⊥) →
-    same_text (x ++ 95 ∷ 95 ∷ 115 ∷ decimal (suc k)) (y ++ 95 ∷ 95 ∷ 115 ∷ decimal (suc j)) ≡ false
-saves_differ x y k j hk hj ne = same_text_false _ _ (λ e.
-    let last =
-    snoc_last (x ++ 95 ∷ 95 ∷ 115 ∷ []) (y ++ 95 ∷ 95 ∷ 115 ∷ []) (49 + k) (49 + j)
-    (sym (save_text x k hk) ∙ (e ∙ save_text y j hj)) in
+    snoc_last (x ++ mark) (y ++ mark) (49 + k) (49 + j) (sym (marked_text x mark k hk) ∙ (e ∙ marked_text y mark j hj)) in
     ne (let z : 49 + k ≡ 49 + j = last.0 in omega arith))
 
 pub save_no_copy : (x y : List ℕ) (k j : ℕ) → k < most_rounds → j < most_rounds →
@@ -101,23 +73,17 @@ pub save_no_copy : (x y : List ℕ) (k j : ℕ) → k < most_rounds → j < most
 save_no_copy x y k j hk hj = same_text_false _ _ (λ e.
     let r =
     snoc_last (x ++ 95 ∷ 95 ∷ 115 ∷ []) (y ++ 95 ∷ 95 ∷ []) (49 + k) (49 + j)
-    (sym (save_text x k hk) ∙ (e ∙ copy_text y j hj)) in
+    (sym (marked_text x (95 ∷ 95 ∷ 115 ∷ []) k hk) ∙ (e ∙ marked_text y (95 ∷ 95 ∷ []) j hj)) in
     let r2 =
     snoc_last (x ++ 95 ∷ 95 ∷ []) (y ++ 95 ∷ []) 115 95
     (append_assoc x (95 ∷ 95 ∷ []) (115 ∷ []) ∙ (r.1 ∙ sym (append_assoc y (95 ∷ []) (95 ∷ [])))) in
     let z : ◌≡◌ {A = ℕ} 115 95 = r2.0 in omega arith)
 
 -- a text that ends in an underscore is neither a copy nor a guess
-pub low_no_copy : (a y : List ℕ) (j : ℕ) → j < most_rounds
-    → same_text (a ++ 95 ∷ []) (y ++ 95 ∷ 95 ∷ decimal (suc j)) ≡ false
-low_no_copy a y j hj = same_text_false _ _ (λ e.
-    let r = snoc_last a (y ++ 95 ∷ 95 ∷ []) 95 (49 + j) (e ∙ copy_text y j hj) in
-    let z : 95 ≡ 49 + j = r.0 in omega arith)
-
-pub low_no_save : (a y : List ℕ) (j : ℕ) → j < most_rounds
-    → same_text (a ++ 95 ∷ []) (y ++ 95 ∷ 95 ∷ 115 ∷ decimal (suc j)) ≡ false
-low_no_save a y j hj = same_text_false _ _ (λ e.
-    let r = snoc_last a (y ++ 95 ∷ 95 ∷ 115 ∷ []) 95 (49 + j) (e ∙ save_text y j hj) in
+pub low_no_numbered : (mark a y : List ℕ) (j : ℕ) → j < most_rounds
+    → same_text (a ++ 95 ∷ []) (y ++ (mark ++ decimal (suc j))) ≡ false
+low_no_numbered mark a y j hj = same_text_false _ _ (λ e.
+    let r = snoc_last a (y ++ mark) 95 (49 + j) (e ∙ marked_text y mark j hj) in
     let z : 95 ≡ 49 + j = r.0 in omega arith)
 
 -- temporaries differ from one another
@@ -134,14 +100,13 @@ drawn_differ i j hi hj ne =
 -- no copy or guess of a text without two underscores is a temporary
 pub no_drawn : (x : List ℕ) (u : ℕ) (r d : List ℕ) → has_double x ≡ false → (u ≡ 116 → ⊥)
     → x ++ 95 ∷ 95 ∷ u ∷ r ≡ 116 ∷ 109 ∷ 112 ∷ 95 ∷ 95 ∷ 116 ∷ d → ⊥
-no_drawn [] u r d free ne e = let z : ◌≡◌ {A = ℕ} 95 116 = cc in omega arith
 no_drawn (a ∷ []) u r d free ne e = let z : ◌≡◌ {A = ℕ} 95 109 = cc in omega arith
 no_drawn (a ∷ b ∷ []) u r d free ne e = let z : ◌≡◌ {A = ℕ} 95 112 = cc in omega arith
 no_drawn (a ∷ b ∷ c ∷ []) u r d free ne e = ne cc
-no_drawn (a ∷ b ∷ c ∷ f ∷ []) u r d free ne e = let z : ◌≡◌ {A = ℕ} 95 116 = cc in omega arith
 no_drawn (a ∷ b ∷ c ∷ f ∷ g ∷ x) u r d free ne e =
     let ef : f ≡ 95 = cc in let eg : g ≡ 95 = cc in
     let same : a ∷ b ∷ c ∷ f ∷ g ∷ x ≡ (a ∷ b ∷ c ∷ []) ++ 95 ∷ 95 ∷ x =
     λ i. a ∷ b ∷ c ∷ ef i ∷ eg i ∷ x in
     let bad : true ≡ false = sym (double_there (a ∷ b ∷ c ∷ []) x) ∙ (ap has_double (sym same) ∙ free) in
     cc
+no_drawn _ u r d free ne e = let z : ◌≡◌ {A = ℕ} 95 116 = cc in omega arith

@@ -28,22 +28,20 @@ use Rattle.round_rewrite.proofs.GuessLemmas.{Bad, bad_single, unstep_main, main_
 pub turns_keep : (p : Program) (n : ℕ) (G : List (List Bool)) (s : List Frame) (H : List (List Bool)) (s' : List Frame) → Long n G
     → Turns p G s H s' → Long n H × (length H ≡ length G)
 turns_keep p n [] s [] s' long h = (tt, refl)
-turns_keep p n [] s (x ∷ H) s' long h = absurd h
-turns_keep p n (g ∷ G) s [] s' long h = absurd h
 turns_keep p n (g ∷ G) s (h ∷ H) s' long (mid, run, more) =
     let r = turns_keep p n G mid H s' long.1 more in
     ((run_keeps p g h s mid run ∙ long.0, r.0), ap suc r.1)
+turns_keep p n _ s _ s' long h = absurd h
 
 -- the same for all threads in turn
 pub threads_keep : (p : Program) (n : ℕ) (G : List (List Bool)) (ss : List (List Frame)) (H : List (List Bool)) (ss' : List (List Frame))
     → Long n G → Threads p G ss H ss' → Long n H × (length H ≡ length G)
 threads_keep p n G [] H [] long e = (subst (Long n) (sym e) long, ap length e)
-threads_keep p n G [] H (x ∷ ss') long e = absurd e
-threads_keep p n G (s ∷ ss) H [] long e = absurd e
 threads_keep p n G (s ∷ ss) H (s' ∷ ss') long (K, ts, more) =
     let k = turns_keep p n G s K s' long ts in
     let r = threads_keep p n K ss H ss' k.0 more in
     (r.0, r.1 ∙ k.1)
+threads_keep p n G _ H _ long e = absurd e
 
 -- the same for threads of which one fails
 pub fails_keep : (p : Program) (n : ℕ) (G : List (List Bool)) (ss : List (List Frame)) (H : List (List Bool)) → Long n G
@@ -209,12 +207,11 @@ module _ (setting : Setting) (S : List (List Bool)) (saves : AreRows setting.p.g
         → ((q : ℕ) (s : Bool) → Leads w (main_at (lay G' S (bits_of last q s b)) t) Q) → (q : ℕ) (s : Bool)
         → Leads w (main_at (lay G S (bits_of last q s b)) (starts naming last T t)) Q
     starts_lead [] there G are G' [] e b out q s = subst (λ z. Leads w (main_at (lay z S (bits_of last q s b)) t) Q) e (out q s)
-    starts_lead [] there G are G' (x ∷ ss') h b out q s = absurd h
-    starts_lead (c ∷ T) there G are G' [] h b out q s = absurd h
     starts_lead (c ∷ T) there [] are G' (s' ∷ ss') h b out q s = absurd (let e : 0 ≡ suc last = are.1 in omega arith)
     starts_lead (c ∷ T) there (g ∷ G) are G' (s' ∷ ss') ([], ts, more) b out q s = absurd ts
     starts_lead (c ∷ T) there (g ∷ G) are G' (s' ∷ ss') (x ∷ H, ts, more) b out q s =
         first_leads c T there g G are x H s' ts b (λ rows. starts_lead T there.1 (x ∷ H) rows G' ss' more b out) q s
+    starts_lead _ there G are G' _ h b out q s = absurd h
 
     -- the threads run, and one fails
     pub fails_lead : (T : List ℕ) → EachThread p.routines T → (G : List (List Bool)) → AreRows p.globals (suc last) G

@@ -1,9 +1,9 @@
 -- The rewriting theorem over places.
 use Rattle.std.proofs.Common.{◌≡◌, ℕ, suc, ◌<◌, Bool, true, false, List, [], ◌∷◌, None, refl, sym, subst, inl, inr}
-use Rattle.language.specs.Tree.{done, one, choose, loop}
+use Rattle.language.specs.Tree.{done}
 use Rattle.language.specs.Value.{bit}
 use Rattle.language.specs.Rest.{Code}
-use Rattle.language.specs.Step.{Program, frame, waiting, State, state, zeros, AfterSteps, Runs}
+use Rattle.language.specs.Step.{Program, frame, State, state, zeros, AfterSteps, Runs}
 use Rattle.language.specs.Rounds.{Unsafe}
 use Rattle.language.specs.Sequential.{numbered, in_text_order, Valuation, point_of, Entered, SomeBad}
 use Rattle.round_rewrite.specs.Table.{main}
@@ -32,8 +32,6 @@ module _ (p : Program) (last : ℕ) (fits : FitsScopes p) (small : last < most_r
 
   to_pair : (n : ℕ) (u : State) → AfterSteps result n start (λ v. v ≡ u) → Bad p.globals last (bare_state u) →
       SomeBad result (bad_at p.globals last)
-  to_pair n (state g []) run h = absurd h
-  to_pair n (state g (waiting c l x t ∷ fs)) run h = absurd h
   to_pair n (state g (frame c l done ∷ [])) run h = (
     zero_valuation,
     record { globals = g; result = false },
@@ -51,10 +49,7 @@ module _ (p : Program) (last : ℕ) (fits : FitsScopes p) (small : last < most_r
     ),
     h.1,
   )
-  to_pair n (state g (frame c l done ∷ f ∷ fs)) run h = absurd h
-  to_pair n (state g (frame c l (one m s t) ∷ fs)) run h = absurd h
-  to_pair n (state g (frame c l (choose m r a b t) ∷ fs)) run h = absurd h
-  to_pair n (state g (frame c l (loop m r a t) ∷ fs)) run h = absurd h
+  to_pair n _ run h = absurd h
 
   pub unsafe_bad : Unsafe p (suc last) → SomeBad result (bad_at p.globals last)
   unsafe_bad unsafe =
@@ -76,9 +71,7 @@ module _ (p : Program) (last : ℕ) (fits : FitsScopes p) (small : last < most_r
       let h1 : PlainAfter (world_of result) n (bare_state start) (Bad p.globals last) =
       subst (λ T. T) (plain_after result n start (Bad p.globals last)) h in
       leads_unsafe p last fits small n (subst (λ s. PlainAfter (world_of result) n s (Bad p.globals last)) (start_is p last) h1)
-  from_run n b l (one m s t) e run bad = cc
-  from_run n b l (choose m r x y t) e run bad = cc
-  from_run n b l (loop m r x t) e run bad = cc
+  from_run n b l _ e run bad = cc
 
   from_entry : (a : Valuation) (b l : List Bool) (rest : Code) → None ≡ point_of rest → Entered result 0 a →
       Runs result (state a.globals (frame 0 a.places (numbered 1 body) ∷ [])) (state b (frame 0 l rest ∷ [])) →

@@ -2,13 +2,14 @@
 use Rattle.std.proofs.Common.{◌≡◌, ℕ, zero, suc, ◌+◌, ◌<◌, ◌≤◌, Bool, true, false, List, [], ◌∷◌, ◌++◌, Option, Some, None, slice_get}
 use Rattle.std.proofs.Common.{length, map, refl, sym, ◌∙◌, ap, subst, arith, append_assoc, length-append, ◌⊎◌, inl, inr}
 use Rattle.std.proofs.lemmas.List.{get_or-set_same, length-set}
+use Rattle.std.proofs.Math.Seq.{get_or-append_seam}
 use Rattle.language.specs.Tree.{done, one, choose, loop}
 use Rattle.language.specs.Value.{Place, global, local, bit, with_bit}
 use Rattle.language.specs.Rest.{Code}
 use Rattle.language.specs.Step.{Frame, frame, State, state, result_of, given_back, StepsTo, Fails}
 use Rattle.round_rewrite.specs.Table.{no_mark, prologue, received, temporaries}
 use Rattle.round_rewrite.specs.Places.{places, is_global}
-use Rattle.round_rewrite.proofs.LayoutLemmas.{row, row_middle, with_middle, Long, long-append, bits_of, lay, Shape, Moment, globals_at}
+use Rattle.round_rewrite.proofs.LayoutLemmas.{row, with_middle, Long, long-append, bits_of, lay, Shape, Moment, globals_at}
 use Rattle.round_rewrite.proofs.LayoutLemmas.{turned, row_long}
 use Rattle.round_rewrite.proofs.Plain.{PlainAfter}
 use Rattle.round_rewrite.proofs.Prologue.{Exits, rose, went, stopped, exits}
@@ -229,7 +230,7 @@ module _ (setting : Setting) (S : List (List Bool)) (m : Code) (Q : State → Ty
     begun N le post r b a rest bs (moved h bs' eh good step (M, lt, run)) =
         let here : List Frame = map source (both a rest ∷ bs) in
         let step' : StepsTo p (state r.g here) (λ u. u ≡ state h (map source bs')) =
-        subst (λ y. StepsTo p (state y here) (λ u. u ≡ state h (map source bs'))) (row_middle r.pre r.g post) step in
+        subst (λ y. StepsTo p (state y here) (λ u. u ≡ state h (map source bs'))) (get_or-append_seam r.pre r.g post []) step in
         let run' : PlainAfter w M (state (globals_at (moment (reseat r h eh) b)) (stack p last bs' m)) Q =
         subst (λ y. PlainAfter w M (state (lay y S (bits_of last (length r.pre) false b)) (stack p last bs' m)) Q)
         (with_middle r.pre r.g h post) run in
@@ -237,7 +238,7 @@ module _ (setting : Setting) (S : List (List Bool)) (m : Code) (Q : State → Ty
         (after_step M post r h eh b here (map source bs') step' (rec M (omega arith) post (reseat r h eh) b (level bs') good run'))
     begun N le post r b a rest bs (failed fails (M, lt, run)) =
         let here : List Frame = map source (both a rest ∷ bs) in
-        let fails' : Fails (state r.g here) = subst (λ y. Fails (state y here)) (row_middle r.pre r.g post) fails in
+        let fails' : Fails (state r.g here) = subst (λ y. Fails (state y here)) (get_or-append_seam r.pre r.g post []) fails in
         let (M', lt', run') =
         unwind_back setting (moment r b) m Q single (suc a.c) (put_values a) bs (length r.pre) true M run in
         longer N M' (omega arith) post r b here (record {

@@ -2,13 +2,14 @@
 use Rattle.std.proofs.Common.{◌≡◌, ℕ, zero, suc, ◌+◌, ◌-◌, ◌≤◌, Bool, true, false, List, [], ◌∷◌, ◌++◌, Option, Some, None, length, map}
 use Rattle.std.proofs.Common.{refl, sym, ◌∙◌, ap, ap₂, subst, arith, append_assoc, inl, inr}
 use Rattle.std.proofs.lemmas.List.{get_or-set_same, length-set}
-use Rattle.language.specs.Tree.{skip, assign, assert, assume, goto, leave, call, leave_with, call_for, done, one, choose, loop}
+use Rattle.std.proofs.Math.Seq.{get_or-append_seam}
+use Rattle.language.specs.Tree.{assert, done, one, choose, loop}
 use Rattle.language.specs.Value.{Place, global, local, bit, with_bit, IsValue}
 use Rattle.language.specs.Rest.{Code}
 use Rattle.language.specs.Step.{Frame, frame, State, state, result_of, given_back, StepsTo, AfterSteps, Fails}
 use Rattle.round_rewrite.specs.Table.{no_mark, temporaries, side, prologue, stop_test}
 use Rattle.round_rewrite.specs.Places.{places, is_global, stop_at, bad_at}
-use Rattle.round_rewrite.proofs.LayoutLemmas.{row, with_row, row_middle, with_middle, bits_of, lay, Shape, Moment, globals_at, turned}
+use Rattle.round_rewrite.proofs.LayoutLemmas.{row, with_row, with_middle, bits_of, lay, Shape, Moment, globals_at, turned}
 use Rattle.round_rewrite.proofs.LayoutLemmas.{both_with}
 use Rattle.round_rewrite.proofs.Plain.{PlainAfter}
 use Rattle.round_rewrite.proofs.RunLemmas.{Leads}
@@ -66,17 +67,14 @@ module _ (setting : Setting) (S : List (List Bool)) (m : Code) (Q : State → Ty
           → (a : Activation) (rest : Code) → Good p last (both a rest)
           → At C q false b (top p last a (put_rest p last a.own rest) bs m)
       stops_rest bs leaves a done h = leaves a h
-      stops_rest bs leaves a (one k s t) h = stops_at q a _ bs (out true)
-      stops_rest bs leaves a (choose k r x y t) h = stops_at q a _ bs (out true)
-      stops_rest bs leaves a (loop k r x t) h = stops_at q a _ bs (out true)
+      stops_rest bs leaves a _ h = stops_at q a _ bs (out true)
 
       -- the same for a caller that has got its value
       stops_caller : (bs : List Both) → ((a : Activation) → Good p last (both a done) → At C q false b (top p last a done bs m))
           → (a : Activation) (o : Option Place) (rest : Code) → Good p last (both a rest)
           → At C q false b (top p last a (behind p last a.own o (put_rest p last a.own rest)) bs m)
-      stops_caller bs leaves a None rest h = stops_rest bs leaves a rest h
-      stops_caller bs leaves a (Some (local i)) rest h = stops_rest bs leaves a rest h
       stops_caller bs leaves a (Some (global i)) rest h = stops_at q a _ bs (out true)
+      stops_caller bs leaves a _ rest h = stops_rest bs leaves a rest h
 
       -- a finished frame leaves, and so do those below
       stops_done : (bs : List Both) → AllGood p last bs → (a : Activation) → Good p last (both a done)
@@ -153,7 +151,7 @@ module _ (setting : Setting) (S : List (List Bool)) (m : Code) (Q : State → Ty
           (rec g' eg' (length r.pre) (omega arith) bs' goods' run))
           bs goods a rest good starts
           (subst (λ y. StepsTo p (state y (map source (both a rest ∷ bs))) (λ t. AfterSteps p k t (λ u. u ≡ state h' mid)))
-          (sym (row_middle r.pre g post)) steps)
+          (sym (get_or-append_seam r.pre g post [])) steps)
 
       module _ (g : List Bool) (eg : length g ≡ p.globals) (q : ℕ) (le : q ≤ length r.pre) where
         -- the globals when the round's bits lag behind
@@ -210,7 +208,7 @@ module _ (setting : Setting) (S : List (List Bool)) (m : Code) (Q : State → Ty
               let turned_is : turned (now_at g eg) (with_bit (row (rows g) (length r.pre)) i (bit d'.tmp 0))
               ≡ lay (rows g') S (bits_of last (length r.pre) false b) =
               ap (λ y. lay y S (bits_of last (length r.pre) false b))
-              (ap₂ (λ z v. with_row (rows g) (length r.pre) (with_bit z i v)) (row_middle r.pre g post) there
+              (ap₂ (λ z v. with_row (rows g) (length r.pre) (with_bit z i v)) (get_or-append_seam r.pre g post []) there
               ∙ with_middle r.pre g g' post) in
               go_in (rows g) (now_at g eg).shape b q (length r.pre) le within d' _ bs
               (landed_leads w p.globals last d.own (suc d.c) (callers p last bs m) Q (now_at g eg) small d'.l d'.more d'.tmp hd.long i
@@ -259,15 +257,12 @@ module _ (setting : Setting) (S : List (List Bool)) (m : Code) (Q : State → Ty
         → Good p last (both a rest) → Fails (state g (map source (both a rest ∷ bs)))
         → At (rows g) (length r.pre) true true (frame 0 [] m ∷ [])
         → At (rows g) (length r.pre) false b (stack p last (both a rest ∷ bs) m)
-    fail_inner g eg a done bs good f out = absurd f
-    fail_inner g eg a (one d skip t) bs good f out = absurd f
-    fail_inner g eg a (one d (assign xs rs) t) bs good f out = absurd f
     fail_inner g eg a (one d (assert v) t) bs good f out =
         let shape : Shape p.globals last (rows g) S = (now_at g eg).shape in
         let X : List Bool = globals_at (now_at g eg) in
         let u = unwind (rows g) shape true (suc a.c) (put_values a) bs (length r.pre) out in
         let zero_is : IsValue (row (rows g) (length r.pre)) (source_values a) v false =
-        subst (λ y. IsValue y (source_values a) v false) (sym (row_middle r.pre g post)) f in
+        subst (λ y. IsValue y (source_values a) v false) (sym (get_or-append_seam r.pre g post [])) f in
         let is : IsValue X (put_values a) (side (places p.globals last a.own) last v) false =
         subst (λ T. T) (sym (side_at setting (now_at g eg) m a good.long v good.fits.0.0.test false)) zero_is in
         let writes : with_bit (with_bit X (bad_at p.globals last) true) (stop_at p.globals last) true
@@ -285,26 +280,17 @@ module _ (setting : Setting) (S : List (List Bool)) (m : Code) (Q : State → Ty
             ),
           ),
         )
-    fail_inner g eg a (one d (assume v) t) bs good f out = absurd f
-    fail_inner g eg a (one d (goto x) t) bs good f out = absurd f
-    fail_inner g eg a (one d leave t) bs good f out = absurd f
-    fail_inner g eg a (one d (call x es) t) bs good f out = absurd f
-    fail_inner g eg a (one d (leave_with v) t) bs good f out = absurd f
-    fail_inner g eg a (one d (call_for y x es) t) bs good f out = absurd f
-    fail_inner g eg a (choose d v x y t) bs good f out = absurd f
-    fail_inner g eg a (loop d v x t) bs good f out = absurd f
+    fail_inner g eg a _ bs good f out = absurd f
 
     -- the same when the round's bits lag behind
     fail_top : (g : List Bool) → (eg : length g ≡ p.globals) → (q : ℕ) → q ≤ length r.pre
         → (a : Activation) (rest : Code) (bs : List Both) → Good p last (both a rest)
         → Fails (state g (map source (both a rest ∷ bs)))
         → At (rows g) (length r.pre) true true (frame 0 [] m ∷ []) → At (rows g) q false b (stack p last (both a rest ∷ bs) m)
-    fail_top g eg q le a done bs good f out = absurd f
     fail_top g eg q le a (one d s t) bs good f out =
         catch_up (rows g) (now_at g eg).shape b (length r.pre - q) q (length r.pre) (omega arith) within a _ bs
         (fail_inner g eg a (one d s t) bs good f out)
-    fail_top g eg q le a (choose d v x y t) bs good f out = absurd f
-    fail_top g eg q le a (loop d v x t) bs good f out = absurd f
+    fail_top g eg q le a _ bs good f out = absurd f
 
     -- a frame that waits does not fail
     fail_waiting : (g : List Bool) → (eg : length g ≡ p.globals) → (q : ℕ) → q ≤ length r.pre
@@ -337,8 +323,6 @@ module _ (setting : Setting) (S : List (List Bool)) (m : Code) (Q : State → Ty
         stops (r.pre ++ g' ∷ []) (moment (reseat r g' eg') b).shape b q'
         (let c : length r.pre + 0 ≡ last = r.zip.count in omega arith) (out q') bs' goods')
         r.g r.long q le bs goods run
-    turns_on [] r q le bs goods g' (h' ∷ post') s' (mid, (k, run), rest) out = absurd rest
-    turns_on (h ∷ post) r q le bs goods g' [] s' (mid, (k, run), rest) out = absurd rest
     turns_on (h ∷ post) r q le bs goods g' (h' ∷ post') s' (mid, (k, run), rest) out =
         row_on (h ∷ post) r b k g' mid
         (λ q' le' bs' goods' e eg'.
@@ -348,6 +332,7 @@ module _ (setting : Setting) (S : List (List Bool)) (m : Code) (Q : State → Ty
         (subst (λ y. Turns p (h ∷ post) y (h' ∷ post') s') (sym e) rest)
         (λ q'' s. subst (λ y. At y q'' s b (frame 0 [] m ∷ [])) (sym (append_assoc r.pre (g' ∷ []) (h' ∷ post'))) (out q'' s))))
         r.g r.long q le bs goods run
+    turns_on _ r q le bs goods g' _ s' (mid, (k, run), rest) out = absurd rest
 
     -- turns that fail are a run down to the first procedure that sets bad
     pub fails_on : (post : List (List Bool)) (r : Seat p.globals last S post) (q : ℕ) → q ≤ length r.pre → (bs : List Both)
@@ -361,8 +346,6 @@ module _ (setting : Setting) (S : List (List Bool)) (m : Code) (Q : State → Ty
         fail_on post r b g' eg' q' le' bs' goods' (subst (λ y. Fails (state g' y)) (sym em) f)
         (subst (λ y. At (r.pre ++ g' ∷ y) (length r.pre) true true (frame 0 [] m ∷ [])) e (out (length r.pre) true)))
         r.g r.long q le bs goods run
-    fails_on [] r q le bs goods g' post' (inr (mid, (k, run), rest)) out = absurd rest
-    fails_on (h ∷ post) r q le bs goods g' [] (inr (mid, (k, run), rest)) out = absurd rest
     fails_on (h ∷ post) r q le bs goods g' (h' ∷ post') (inr (mid, (k, run), rest)) out =
         row_on (h ∷ post) r b k g' mid
         (λ q' le' bs' goods' e eg'.
@@ -372,3 +355,4 @@ module _ (setting : Setting) (S : List (List Bool)) (m : Code) (Q : State → Ty
         (subst (λ y. FailTurns p (h ∷ post) y (h' ∷ post')) (sym e) rest)
         (λ q'' s. subst (λ y. At y q'' s true (frame 0 [] m ∷ [])) (sym (append_assoc r.pre (g' ∷ []) (h' ∷ post'))) (out q'' s))))
         r.g r.long q le bs goods run
+    fails_on _ r q le bs goods g' _ (inr (mid, (k, run), rest)) out = absurd rest

@@ -1,20 +1,17 @@
 -- What the rewritten expressions are worth.
-use Rattle.std.proofs.Common.{◌≡◌, ℕ, zero, suc, ◌+◌, ◌*◌, ◌^◌, ◌<◌, ◌≤◌, Bool, true, false, not, ◌&&◌, ◌||◌, List, [], ◌∷◌, ◌++◌, length}
+use Rattle.std.proofs.Common.{◌≡◌, eqb, ℕ, zero, suc, ◌+◌, ◌*◌, ◌^◌, ◌<◌, ◌≤◌, Bool, false, not, ◌&&◌, ◌||◌, List, [], ◌∷◌, ◌++◌, length}
 use Rattle.std.proofs.Common.{map, refl, sym, ◌∙◌, ap, ap₂, arith, inl, inr}
-use Rattle.std.proofs.lemmas.Bool.{cases_eq}
+use Rattle.std.proofs.lemmas.Bool.{cases_eq, and_left, eq-eqb, ne_eqb}
 use Rattle.std.proofs.lemmas.List.{get_or_append_left}
+use Rattle.std.proofs.Math.Bool.{or-false}
 use Rattle.language.specs.Tree.{Expression, const, var, negation, two, RightSide, any, value}
 use Rattle.language.specs.Value.{Place, global, local, bit, operate, value_of, values_of, IsValue}
 use Rattle.round_rewrite.specs.Table.{in_round, read_by_round, expression_form, side}
 use Rattle.round_rewrite.specs.Places.{places, bits_at}
 use Rattle.resolved.specs.Scoped.{InScope, AreInScope, SideInScope}
-use Rattle.round_rewrite.proofs.RoundBitLemmas.{same, same_refl, same_false, tells, bits_suffice}
+use Rattle.round_rewrite.proofs.RoundBitLemmas.{tells, bits_suffice}
 use Rattle.round_rewrite.proofs.LayoutLemmas.{row, row_bit, Moment, globals_at, has_bits}
 use Rattle.round_rewrite.specs.Limits.{most_rounds, round_bits}
-
-pub or_false : (x : Bool) → (x || false) ≡ x
-or_false true = refl
-or_false false = refl
 
 module _ {n last : ℕ} (small : last < most_rounds) (now : Moment n last) (own : ℕ) (L : List Bool) where
   open now use {C, S, q, b, shape, within}
@@ -23,7 +20,7 @@ module _ {n last : ℕ} (small : last < most_rounds) (now : Moment n last) (own 
   globals_now = globals_at now
 
   -- `at` k is the test that the round is k
-  pub at_is : (k : ℕ) → k ≤ last → value_of globals_now L (in_round (places n last own) last k) ≡ same k q
+  pub at_is : (k : ℕ) → k ≤ last → value_of globals_now L (in_round (places n last own) last k) ≡ eqb k q
   at_is k h =
       let suffice : last < 2 ^ round_bits last = bits_suffice last small in
       tells globals_now L (bits_at n last) (round_bits last) k q (false ∷ b ∷ []) (has_bits n last C S shape q false b)
@@ -32,28 +29,25 @@ module _ {n last : ℕ} (small : last < most_rounds) (now : Moment n last) (own 
   copy_is : (k i : ℕ) → k ≤ last → i < n → bit globals_now (k * n + i) ≡ bit (row C k) i
   copy_is k i h h' = row_bit n C _ k i shape.copies (let e : length C ≡ suc last = shape.rounds in omega arith) h'
 
-  and_false : (x y : Bool) → x ≡ false → (x && y) ≡ false
-  and_false x y e = ap (λ z. z && y) e
-
   before : (k i : ℕ) → k ≤ last → i < n → k < q
       → value_of globals_now L (read_by_round (places n last own) last k (global i)) ≡ false
-  before zero i h h' lt = and_false _ _ (at_is zero h ∙ same_false zero q (omega arith))
+  before zero i h h' lt = and_left _ _ (at_is zero h ∙ ne_eqb zero q (omega arith))
   before (suc k) i h h' lt =
       ap₂ (λ x y. x || y) (before k i (omega arith) h' (omega arith))
-      (and_false _ _ (at_is (suc k) h ∙ same_false (suc k) q (omega arith)))
+      (and_left _ _ (at_is (suc k) h ∙ ne_eqb (suc k) q (omega arith)))
 
   from : (k i : ℕ) → k ≤ last → i < n → q ≤ k
       → value_of globals_now L (read_by_round (places n last own) last k (global i)) ≡ bit (row C q) i
   from zero i h h' le =
       let e : q ≡ zero = omega arith in
-      ap₂ (λ x y. x && y) (at_is zero h ∙ (ap (same zero) e ∙ refl)) (copy_is zero i h h' ∙ ap (λ z. bit (row C z) i) (sym e))
+      ap₂ (λ x y. x && y) (at_is zero h ∙ (ap (eqb zero) e ∙ refl)) (copy_is zero i h h' ∙ ap (λ z. bit (row C z) i) (sym e))
   from (suc k) i h h' le = elim (cases_eq q (suc k)) [
     | inl e ↦ ap₂ (λ x y. x || y) (before k i (omega arith) h' (omega arith))
-        (ap₂ (λ x y. x && y) (at_is (suc k) h ∙ (ap (same (suc k)) e ∙ same_refl (suc k)))
+        (ap₂ (λ x y. x && y) (at_is (suc k) h ∙ (ap (eqb (suc k)) e ∙ eq-eqb (suc k) (suc k) refl))
         (copy_is (suc k) i h h' ∙ ap (λ z. bit (row C z) i) (sym e)))
     | inr ne ↦ ap₂ (λ x y. x || y) (from k i (omega arith) h' (omega arith))
-        (and_false _ _ (at_is (suc k) h ∙ same_false (suc k) q (omega arith)))
-        ∙ or_false _
+        (and_left _ _ (at_is (suc k) h ∙ ne_eqb (suc k) q (omega arith)))
+        ∙ or-false _
   ]
 
   -- a rewritten read is the read of the round's copy: the frame's own places come first in both

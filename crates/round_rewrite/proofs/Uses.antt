@@ -1,12 +1,13 @@
 -- Which variables the parts of the rewritten statements use, where D is to hold for each of them and S holds for
 -- those of the source.
 use Rattle.std.proofs.Common.{◌≡◌, ℕ, zero, suc, ◌+◌, ◌/◌, ◌%◌, ◌≤◌, ◌<◌, true, false, cond, not, List, [], ◌∷◌, ◌++◌, Some, length, map}
-use Rattle.std.proofs.Common.{reverse, codes, refl, sym, ◌∙◌, ap, subst, ap₂, arith, length-append}
+use Rattle.std.proofs.Common.{reverse, codes, refl, sym, ◌∙◌, ap, subst, arith, length-append}
 use Rattle.std.proofs.lemmas.List.{length-map, length-reverse}
 use Rattle.std.specs.List.{AllByRecursion}
 use Rattle.language.specs.Tree.{Name, Expression, const, var, negation, two, and, RightSide, any, value, assign, Block, one}
 use Rattle.language.specs.Resolve.{is_declared}
 use Rattle.resolved.specs.Statements.{variables_of, variables_of_side, variables_of_sides, variables_of_all}
+use Rattle.language.proofs.TestLemmas.{at_test}
 use Rattle.resolved.proofs.Each.{each_left, each_right}
 use Rattle.round_rewrite.specs.Limits.{round_bits}
 use Rattle.round_rewrite.specs.Table.{Naming, numbers, each, literal, has_value, added, raised, in_round, read_by_round, read}
@@ -14,7 +15,6 @@ use Rattle.round_rewrite.specs.Table.{expression_form, side, copy_value, all_rou
 use Rattle.round_rewrite.specs.Table.{prologue, received, receiver}
 use Rattle.round_rewrite.specs.Names.{fresh_name, bit_names, copy_name, drawn_name, by_names}
 use Rattle.round_rewrite.proofs.RoundBitLemmas.{reverse_first}
-use Rattle.round_rewrite.proofs.ResolutionLemmas.{by_test}
 
 -- what holds for each of two lists holds for each of both
 pub each_both : {X : Type 0} (P : X → Type 0) (xs ys : List X) → AllByRecursion P xs → AllByRecursion P ys → AllByRecursion P (xs ++ ys)
@@ -108,50 +108,31 @@ pub zeros_use : (D : Name → Type 0) (xs : List Name) → AllByRecursion D (var
 zeros_use D [] = tt
 zeros_use D (x ∷ xs) = zeros_use D xs
 
+-- so there are for a variable, before others: one for each copy of a global
+spread_even : (own : List Name) (last : ℕ) (x : Name) (e : Expression Name) (r : RightSide Name) (more : List Name)
+    (shared kept : List (RightSide Name)) → length more ≡ length shared → length more ≡ length kept
+    → length (cond (not (is_declared x.text own)) (map (λ k. copy_name k x) (all_rounds (by_names own) last) ++ more) (x ∷ more))
+    ≡ length (cond (not (is_declared x.text own)) (map (copy_value (by_names own) last e x) (all_rounds (by_names own) last) ++ shared)
+    (r ∷ kept))
+spread_even own last x e r more shared kept f g =
+    let here : List Name = map (λ k. copy_name k x) (all_rounds (by_names own) last) in
+    let there : List (RightSide Name) = map (copy_value (by_names own) last e x) (all_rounds (by_names own) last) in
+    at_test (λ c. length (cond (not c) (here ++ more) (x ∷ more)) ≡ length (cond (not c) (there ++ shared) (r ∷ kept)))
+    (is_declared x.text own) (λ d. ap suc g)
+    (λ d. simp (length-append, length-map, f))
+
 -- there are as many right sides as targets
 pub sides_even : (own : List Name) (last j : ℕ) (xs : List Name) (rs : List (RightSide Name))
     → length (targets (by_names own) last xs rs) ≡ length (sides (by_names own) last j xs rs)
 sides_even own last j [] rs = refl
 sides_even own last j (x ∷ xs) [] = refl
 sides_even own last j (x ∷ xs) (any ∷ rs) =
-    let N = by_names own in
-    let here : List Name = map (λ k. copy_name k x) (all_rounds N last) in
-    let there : List (RightSide Name) = map (copy_value N last (var (drawn_name j)) x) (all_rounds N last) in
-    by_test (is_declared x.text own)
-    (λ e.
-    subst
-    (λ c. length (cond (not c) (here ++ targets N last xs rs) (x ∷ targets N last xs rs))
-    ≡ length (cond (not c) (there ++ sides N last (suc j) xs rs) (any ∷ sides N last j xs rs))) (sym e)
-    (ap suc (sides_even own last j xs rs)))
-    (λ e.
-    subst
-    (λ c. length (cond (not c) (here ++ targets N last xs rs) (x ∷ targets N last xs rs))
-    ≡ length (cond (not c) (there ++ sides N last (suc j) xs rs) (any ∷ sides N last j xs rs))) (sym e)
-    (length-append here (targets N last xs rs)
-    ∙ (ap₂ (λ a b. a + b)
-    (length-map (all_rounds N last) (λ k. copy_name k x) ∙ sym (length-map (all_rounds N last) (copy_value N last (var (drawn_name j)) x)))
-    (sides_even own last (suc j) xs rs)
-    ∙ sym (length-append there (sides N last (suc j) xs rs)))))
+    spread_even own last x (var (drawn_name j)) any (targets (by_names own) last xs rs) (sides (by_names own) last (suc j) xs rs)
+    (sides (by_names own) last j xs rs) (sides_even own last (suc j) xs rs) (sides_even own last j xs rs)
 sides_even own last j (x ∷ xs) (value v ∷ rs) =
-    let N = by_names own in
-    let here : List Name = map (λ k. copy_name k x) (all_rounds N last) in
-    let there : List (RightSide Name) = map (copy_value N last (expression_form N last v) x) (all_rounds N last) in
-    by_test (is_declared x.text own)
-    (λ e.
-    subst
-    (λ c. length (cond (not c) (here ++ targets N last xs rs) (x ∷ targets N last xs rs))
-    ≡ length (cond (not c) (there ++ sides N last j xs rs) (value (expression_form N last v) ∷ sides N last j xs rs))) (sym e)
-    (ap suc (sides_even own last j xs rs)))
-    (λ e.
-    subst
-    (λ c. length (cond (not c) (here ++ targets N last xs rs) (x ∷ targets N last xs rs))
-    ≡ length (cond (not c) (there ++ sides N last j xs rs) (value (expression_form N last v) ∷ sides N last j xs rs))) (sym e)
-    (length-append here (targets N last xs rs)
-    ∙ (ap₂ (λ a b. a + b)
-    (length-map (all_rounds N last) (λ k. copy_name k x)
-    ∙ sym (length-map (all_rounds N last) (copy_value N last (expression_form N last v) x)))
-    (sides_even own last j xs rs)
-    ∙ sym (length-append there (sides N last j xs rs)))))
+    spread_even own last x (expression_form (by_names own) last v) (value (expression_form (by_names own) last v))
+    (targets (by_names own) last xs rs) (sides (by_names own) last j xs rs) (sides (by_names own) last j xs rs)
+    (sides_even own last j xs rs) (sides_even own last j xs rs)
 
 -- D holds for the names of the bits, of `stop__` and `bad__`, of the copies of globals, of locals and of
 -- temporaries
@@ -164,72 +145,68 @@ pub record Held (own : List Name) (last d : ℕ) (D S : Name → Type 0) : Type 
   pub drawn : (j : ℕ) → j < d → D (drawn_name j)
 
 module _ (own : List Name) (last d : ℕ) (D S : Name → Type 0) (held : Held own last d D S) where
-  N : Naming Name Name Name Name
+  abbrev N : Naming Name Name Name Name
   N = by_names own
 
-  pub at_uses : (k : ℕ) → AllByRecursion D (variables_of (in_round (by_names own) last k))
+  pub at_uses : (k : ℕ) → AllByRecursion D (variables_of (in_round N last k))
   at_uses k = value_uses D k (bit_names (round_bits last)) held.bits
 
   copy_uses : (x : Name) → S x → is_declared x.text own ≡ false → (k : ℕ) → k ≤ last →
-      AllByRecursion D (variables_of (in_round (by_names own) last k) ++ (copy_name k x ∷ []))
-  copy_uses x h hidden k le = each_both D (variables_of (in_round (by_names own) last k)) (copy_name k x ∷ []) (at_uses k)
+      AllByRecursion D (variables_of (in_round N last k) ++ (copy_name k x ∷ []))
+  copy_uses x h hidden k le = each_both D (variables_of (in_round N last k)) (copy_name k x ∷ []) (at_uses k)
       (held.copied x h hidden k le, tt)
 
   joined_uses : (x : Name) → S x → is_declared x.text own ≡ false → (k : ℕ) → k ≤ last
-      → AllByRecursion D (variables_of (read_by_round (by_names own) last k x))
+      → AllByRecursion D (variables_of (read_by_round N last k x))
   joined_uses x h hidden zero le = copy_uses x h hidden 0 le
   joined_uses x h hidden (suc k) le =
-      each_both D (variables_of (read_by_round (by_names own) last k x))
-      (variables_of (in_round (by_names own) last (suc k)) ++ (copy_name (suc k) x ∷ []))
+      each_both D (variables_of (read_by_round N last k x))
+      (variables_of (in_round N last (suc k)) ++ (copy_name (suc k) x ∷ []))
       (joined_uses x h hidden k (omega arith)) (copy_uses x h hidden (suc k) le)
 
-  read_uses : (x : Name) → S x → AllByRecursion D (variables_of (read (by_names own) last x))
-  read_uses x h = by_test (is_declared x.text own)
-      (λ e.
-      subst (λ c. AllByRecursion D (variables_of (cond (not c) (read_by_round (by_names own) last last x) (var x)))) (sym e)
-      (held.kept x h e, tt))
-      (λ e.
-      subst (λ c. AllByRecursion D (variables_of (cond (not c) (read_by_round (by_names own) last last x) (var x)))) (sym e)
-      (joined_uses x h e last (omega arith)))
+  read_uses : (x : Name) → S x → AllByRecursion D (variables_of (read N last x))
+  read_uses x h =
+      at_test (λ c. AllByRecursion D (variables_of (cond (not c) (read_by_round N last last x) (var x))))
+      (is_declared x.text own) (λ e. (held.kept x h e, tt)) (λ e. joined_uses x h e last (omega arith))
 
   pub expression_uses : (e : Expression Name) → AllByRecursion S (variables_of e)
-      → AllByRecursion D (variables_of (expression_form (by_names own) last e))
+      → AllByRecursion D (variables_of (expression_form N last e))
   expression_uses (const b) h = tt
   expression_uses (var x) h = read_uses x h.0
   expression_uses (negation e) h = expression_uses e h
   expression_uses (two o a b) h =
-      each_both D (variables_of (expression_form (by_names own) last a)) (variables_of (expression_form (by_names own) last b))
+      each_both D (variables_of (expression_form N last a)) (variables_of (expression_form N last b))
       (expression_uses a (each_left S (variables_of a) (variables_of b) h))
       (expression_uses b (each_right S (variables_of a) (variables_of b) h))
 
   pub arguments_use : (es : List (Expression Name)) → AllByRecursion S (variables_of_all es)
-      → AllByRecursion D (variables_of_all (map (expression_form (by_names own) last) es))
+      → AllByRecursion D (variables_of_all (map (expression_form N last) es))
   arguments_use [] h = tt
   arguments_use (e ∷ es) h =
-      each_both D (variables_of (expression_form (by_names own) last e)) (variables_of_all (map (expression_form (by_names own) last) es))
+      each_both D (variables_of (expression_form N last e)) (variables_of_all (map (expression_form N last) es))
       (expression_uses e (each_left S (variables_of e) (variables_of_all es) h))
       (arguments_use es (each_right S (variables_of e) (variables_of_all es) h))
 
   pub side_uses : (r : RightSide Name) → AllByRecursion S (variables_of_side r)
-      → AllByRecursion D (variables_of_side (side (by_names own) last r))
+      → AllByRecursion D (variables_of_side (side N last r))
   side_uses any h = tt
   side_uses (value e) h = expression_uses e h
 
   written_uses : (e : Expression Name) → AllByRecursion D (variables_of e) → (x : Name) → S x → is_declared x.text own ≡ false
       → (k : ℕ) → k ≤ last
-      → AllByRecursion D (variables_of_side (copy_value (by_names own) last e x k))
+      → AllByRecursion D (variables_of_side (copy_value N last e x k))
   written_uses e g x h hidden k le =
-      each_both D (variables_of (in_round (by_names own) last k) ++ variables_of e)
-      (variables_of (in_round (by_names own) last k) ++ (copy_name k x ∷ []))
-      (each_both D (variables_of (in_round (by_names own) last k)) (variables_of e) (at_uses k) g) (copy_uses x h hidden k le)
+      each_both D (variables_of (in_round N last k) ++ variables_of e)
+      (variables_of (in_round N last k) ++ (copy_name k x ∷ []))
+      (each_both D (variables_of (in_round N last k)) (variables_of e) (at_uses k) g) (copy_uses x h hidden k le)
 
   pub row_uses : (e : Expression Name) → AllByRecursion D (variables_of e) → (x : Name) → S x → is_declared x.text own ≡ false
       → (j m : ℕ)
-      → j + m ≤ suc last → AllByRecursion D (variables_of_sides (map (copy_value (by_names own) last e x) (numbers j m)))
+      → j + m ≤ suc last → AllByRecursion D (variables_of_sides (map (copy_value N last e x) (numbers j m)))
   row_uses e g x h hidden j zero le = tt
   row_uses e g x h hidden j (suc m) le =
-      each_both D (variables_of_side (copy_value (by_names own) last e x j))
-      (variables_of_sides (map (copy_value (by_names own) last e x) (numbers (suc j) m)))
+      each_both D (variables_of_side (copy_value N last e x j))
+      (variables_of_sides (map (copy_value N last e x) (numbers (suc j) m)))
       (written_uses e g x h hidden j (omega arith)) (row_uses e g x h hidden (suc j) m (omega arith))
 
   pub copies_held : (x : Name) → S x → is_declared x.text own ≡ false → (j m : ℕ) → j + m ≤ suc last
@@ -238,81 +215,62 @@ module _ (own : List Name) (last d : ℕ) (D S : Name → Type 0) (held : Held o
   copies_held x h hidden j (suc m) le = (held.copied x h hidden j (omega arith), copies_held x h hidden (suc j) m (omega arith))
 
   pub targets_held : (xs : List Name) (rs : List (RightSide Name)) → AllByRecursion S xs
-      → AllByRecursion D (targets (by_names own) last xs rs)
-  targets_held [] rs h = tt
-  targets_held (x ∷ xs) [] h = tt
+      → AllByRecursion D (targets N last xs rs)
   targets_held (x ∷ xs) (r ∷ rs) h =
-      let here : List Name = map (λ k. copy_name k x) (all_rounds (by_names own) last) in
-      let others : List Name = targets (by_names own) last xs rs in
+      let here : List Name = map (λ k. copy_name k x) (all_rounds N last) in
+      let others : List Name = targets N last xs rs in
       let rec : AllByRecursion D others = targets_held xs rs h.1 in
-      by_test (is_declared x.text own)
-      (λ e. subst (λ c. AllByRecursion D (cond (not c) (here ++ others) (x ∷ others))) (sym e) (held.kept x h.0 e, rec))
-      (λ e.
-      subst (λ c. AllByRecursion D (cond (not c) (here ++ others) (x ∷ others))) (sym e)
-      (each_both D here others (copies_held x h.0 e 0 (suc last) (omega arith)) rec))
+      at_test (λ c. AllByRecursion D (cond (not c) (here ++ others) (x ∷ others))) (is_declared x.text own) (λ e. (held.kept x h.0 e, rec))
+      (λ e. each_both D here others (copies_held x h.0 e 0 (suc last) (omega arith)) rec)
+  targets_held _ _ h = tt
+
+  -- the right sides for a variable that gets the value of an expression, before others
+  spread_uses : (x : Name) → S x → (e : Expression Name) (r : RightSide Name) (shared kept : List (RightSide Name))
+      → (is_declared x.text own ≡ false → AllByRecursion D (variables_of e) × AllByRecursion D (variables_of_sides shared))
+      → (is_declared x.text own ≡ true → AllByRecursion D (variables_of_sides (r ∷ kept)))
+      → AllByRecursion D
+      (variables_of_sides (cond (N.is_shared x) (map (copy_value N last e x) (all_rounds N last) ++ shared) (r ∷ kept)))
+  spread_uses x h e r shared kept over own_side =
+      let here : List (RightSide Name) = map (copy_value N last e x) (all_rounds N last) in
+      at_test (λ c. AllByRecursion D (variables_of_sides (cond (not c) (here ++ shared) (r ∷ kept)))) (is_declared x.text own) own_side
+      (λ hidden. sides_both D here shared (row_uses e (over hidden).0 x h hidden 0 (suc last) (omega arith)) (over hidden).1)
 
   pub sides_use : (j : ℕ) (xs : List Name) (rs : List (RightSide Name)) → AllByRecursion S xs → AllByRecursion S (variables_of_sides rs)
-      → j + draws (by_names own).is_shared xs rs ≤ d → AllByRecursion D (variables_of_sides (sides (by_names own) last j xs rs))
-  sides_use j [] rs h g room = tt
-  sides_use j (x ∷ xs) [] h g room = tt
+      → j + draws N.is_shared xs rs ≤ d → AllByRecursion D (variables_of_sides (sides N last j xs rs))
   sides_use j (x ∷ xs) (any ∷ rs) h g room =
-      let here : List (RightSide Name) = map (copy_value (by_names own) last (var (drawn_name j)) x) (all_rounds (by_names own) last) in
-      let Rest : ℕ → List (RightSide Name) = λ k. sides (by_names own) last k xs rs in
-      let drawn : ℕ = draws (by_names own).is_shared xs rs in
-      by_test (is_declared x.text own)
-      (λ e.
-      let less : j + drawn ≤ d = subst (λ c. j + cond (not c) (suc drawn) drawn ≤ d) e room in
-      subst (λ c. AllByRecursion D (variables_of_sides (cond (not c) (here ++ Rest (suc j)) (any ∷ Rest j)))) (sym e)
-      (sides_use j xs rs h.1 g less))
+      let drawn : ℕ = draws N.is_shared xs rs in
+      spread_uses x h.0 (var (drawn_name j)) any (sides N last (suc j) xs rs) (sides N last j xs rs)
       (λ e.
       let more : j + suc drawn ≤ d = subst (λ c. j + cond (not c) (suc drawn) drawn ≤ d) e room in
-      subst (λ c. AllByRecursion D (variables_of_sides (cond (not c) (here ++ Rest (suc j)) (any ∷ Rest j)))) (sym e)
-      (sides_both D here (Rest (suc j)) (row_uses (var (drawn_name j)) (held.drawn j (omega arith), tt) x h.0 e 0 (suc last) (omega arith))
-      (sides_use (suc j) xs rs h.1 g (omega arith))))
+      ((held.drawn j (omega arith), tt), sides_use (suc j) xs rs h.1 g (omega arith)))
+      (λ e.
+      let less : j + drawn ≤ d = subst (λ c. j + cond (not c) (suc drawn) drawn ≤ d) e room in
+      sides_use j xs rs h.1 g less)
   sides_use j (x ∷ xs) (value v ∷ rs) h g room =
-      let here : List (RightSide Name) =
-      map (copy_value (by_names own) last (expression_form (by_names own) last v) x) (all_rounds (by_names own) last) in
-      let others : List (RightSide Name) = sides (by_names own) last j xs rs in
-      let uses : AllByRecursion D (variables_of (expression_form (by_names own) last v)) =
-      expression_uses v (each_left S (variables_of v) (variables_of_sides rs) g) in
-      let rec : AllByRecursion D (variables_of_sides others) =
-      sides_use j xs rs h.1 (each_right S (variables_of v) (variables_of_sides rs) g) room in
-      by_test (is_declared x.text own)
-      (λ e.
-      subst
-      (λ c.
-      AllByRecursion D (variables_of_sides (cond (not c) (here ++ others) (value (expression_form (by_names own) last v) ∷ others))))
-      (sym e)
-      (each_both D (variables_of (expression_form (by_names own) last v)) (variables_of_sides others) uses rec))
-      (λ e.
-      subst
-      (λ c.
-      AllByRecursion D (variables_of_sides (cond (not c) (here ++ others) (value (expression_form (by_names own) last v) ∷ others))))
-      (sym e)
-      (sides_both D here others (row_uses (expression_form (by_names own) last v) uses x h.0 e 0 (suc last) (omega arith)) rec))
+      let v' : Expression Name = expression_form N last v in
+      let others : List (RightSide Name) = sides N last j xs rs in
+      let uses = expression_uses v (each_left S (variables_of v) (variables_of_sides rs) g) in
+      let rec = sides_use j xs rs h.1 (each_right S (variables_of v) (variables_of_sides rs) g) room in
+      spread_uses x h.0 v' (value v') others others (λ e. (uses, rec)) (λ e. each_both D (variables_of v') (variables_of_sides others) uses rec)
+  sides_use j _ _ h g room = tt
 
   -- what gets the value of a call
-  pub receiver_held : (x : Name) → S x → receiver_draws (by_names own).is_shared (Some x) ≤ d → D (receiver (by_names own) last x)
-  receiver_held x h room = by_test (is_declared x.text own)
-      (λ e. subst (λ c. D (cond (not c) (drawn_name 0) x)) (sym e) (held.kept x h e))
-      (λ e.
-      let more : 1 ≤ d = subst (λ c. cond (not c) 1 0 ≤ d) e room in
-      subst (λ c. D (cond (not c) (drawn_name 0) x)) (sym e) (held.drawn 0 (omega arith)))
+  pub receiver_held : (x : Name) → S x → receiver_draws N.is_shared (Some x) ≤ d → D (receiver N last x)
+  receiver_held x h room =
+      at_test (λ c. D (cond (not c) (drawn_name 0) x)) (is_declared x.text own) (held.kept x h)
+      (λ e. let more : 1 ≤ d = subst (λ c. cond (not c) 1 0 ≤ d) e room in held.drawn 0 (omega arith))
 
   -- a property of what comes after the call, from that of the write to the copies, if a global gets the value
   pub landing_has : (P : Block Name Name Name → Type 0) (x : Name) (k : Block Name Name Name) → S x
-      → receiver_draws (by_names own).is_shared (Some x) ≤ d → P k
+      → receiver_draws N.is_shared (Some x) ≤ d → P k
       → ((xs : List Name) (rs : List (RightSide Name)) → 0 < length xs → length xs ≡ length rs → AllByRecursion D xs
-      → AllByRecursion D (variables_of_sides rs) → P (prologue (by_names own) last no_mark (one no_mark (assign xs rs) k)))
-      → P (cond ((by_names own).is_shared x) (received (by_names own) last x k) k)
-  landing_has P x k h room pk f = by_test (is_declared x.text own)
-      (λ e. subst (λ c. P (cond (not c) (received (by_names own) last x k) k)) (sym e) pk)
+      → AllByRecursion D (variables_of_sides rs) → P (prologue N last no_mark (one no_mark (assign xs rs) k)))
+      → P (cond (N.is_shared x) (received N last x k) k)
+  landing_has P x k h room pk f =
+      let copies : List Name = map (λ k. copy_name k x) (all_rounds N last) in
+      let values : List (RightSide Name) = map (copy_value N last (var (drawn_name 0)) x) (all_rounds N last) in
+      at_test (λ c. P (cond (not c) (received N last x k) k)) (is_declared x.text own) (λ e. pk)
       (λ e.
       let more : 1 ≤ d = subst (λ c. cond (not c) 1 0 ≤ d) e room in
-      subst (λ c. P (cond (not c) (received (by_names own) last x k) k)) (sym e)
-      (f (map (λ k. copy_name k x) (all_rounds (by_names own) last))
-      (map (copy_value (by_names own) last (var (drawn_name 0)) x) (all_rounds (by_names own) last)) (omega arith)
-      (length-map (all_rounds (by_names own) last) (λ k. copy_name k x)
-      ∙ sym (length-map (all_rounds (by_names own) last) (copy_value (by_names own) last (var (drawn_name 0)) x)))
-      (copies_held x h e 0 (suc last) (omega arith))
-      (row_uses (var (drawn_name 0)) (held.drawn 0 (omega arith), tt) x h e 0 (suc last) (omega arith))))
+      f copies values (omega arith) (simp length-map) (copies_held x h e 0 (suc last) (omega arith))
+      (row_uses (var (drawn_name 0)) (held.drawn 0 (omega arith), tt) x h e 0 (suc last) (omega arith)))

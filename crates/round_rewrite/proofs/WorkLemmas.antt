@@ -21,16 +21,17 @@ use Rattle.checked.proofs.Works.{in_either, named_declared, Works, IsGood, Start
 use Rattle.checked.proofs.Resolving.{labels_append, working_resolves}
 use Rattle.checked.proofs.Rewriting.{checked_rewritable}
 use Rattle.round_rewrite.specs.Table as table
-use Rattle.round_rewrite.specs.Table.{numbers, temporaries, raised, each, reset_targets, in_round, expression_form, side, targets, sides}
+use Rattle.round_rewrite.specs.Table.{Naming, numbers, temporaries, raised, each, reset_targets, expression_form, side, targets, sides}
 use Rattle.round_rewrite.specs.Table.{draws, drawing, stop_test, prologue, receiver_draws, received, statement, rewritten, guess, guesses}
-use Rattle.round_rewrite.specs.Table.{starts, check, checks, main, copied, globals}
+use Rattle.round_rewrite.specs.Table.{starts, check, checks, copied, globals}
 use Rattle.round_rewrite.specs.Names as renamed
 use Rattle.round_rewrite.specs.Names.{bit_names, copy_name, save_name, drawn_name, by_names, rewritten_procedure, main_procedure}
 use Rattle.round_rewrite.specs.Names.{rewritten_tree}
 use Rattle.round_rewrite.proofs.SpellingLemmas.{same_text_refl}
 use Rattle.round_rewrite.proofs.NumberingLemmas.{number_right, number_left, in_rows}
-use Rattle.round_rewrite.proofs.PlaceLemmas.{last_names, copies_spelled, saves_spelled}
-use Rattle.round_rewrite.proofs.ResolutionLemmas.{by_test, rest_room}
+use Rattle.round_rewrite.proofs.PlaceLemmas.{last_names, numbered_spelled}
+use Rattle.language.proofs.TestLemmas.{at_test}
+use Rattle.round_rewrite.proofs.ResolutionLemmas.{rest_room}
 use Rattle.round_rewrite.proofs.MeaningLemmas.{not_main}
 use Rattle.round_rewrite.proofs.Uses.{each_both, any_uses, written_each, numbered_each, each_reversed, rise_uses, rise_even, zeros_use}
 use Rattle.round_rewrite.proofs.Uses.{sides_even, Held, at_uses, arguments_use, side_uses}
@@ -39,7 +40,9 @@ use Rattle.round_rewrite.specs.Limits.{most_rounds, round_bits}
 
 -- a name that is declared in the second of two lists is declared in both
 pub declared_right : (x : List ℕ) (xs ys : List Name) → is_declared x ys ≡ true → is_declared x (xs ++ ys) ≡ true
-declared_right x xs ys h = by_test (is_declared x xs) (λ e. (number_left x xs ys e).1) (λ e. (number_right x xs ys e).1 ∙ h)
+declared_right x xs ys h =
+    at_test (λ c. is_declared x (xs ++ ys) ≡ true) (is_declared x xs) (λ e. (number_left x xs ys e).1)
+    (λ e. (number_right x xs ys e).1 ∙ h)
 
 -- each of the names is declared
 each_declared : (xs ys : List Name) → ((x : List ℕ) → is_declared x xs ≡ true → is_declared x ys ≡ true)
@@ -68,18 +71,15 @@ each_join : (P : Statement → Type 0) (a b : Block Name Name Name) → AllByRec
 each_join P done b h g = g
 each_join P (one m c t) b h g = (h.0, each_join P t b h.1 g)
 each_join P (choose m r x y t) b h g =
-    let rest : AllByRecursion P (statements_of y ++ statements_of t) =
-    each_right P (statements_of x) (statements_of y ++ statements_of t) h.1 in (
+    let rest = each_right P (statements_of x) _ h.1 in (
       h.0,
-      each_both P (statements_of x) (statements_of y ++ statements_of (join t b))
-          (each_left P (statements_of x) (statements_of y ++ statements_of t) h.1)
-          (each_both P (statements_of y) (statements_of (join t b)) (each_left P (statements_of y) (statements_of t) rest)
-          (each_join P t b (each_right P (statements_of y) (statements_of t) rest) g)),
+      each_both P (statements_of x) _ (each_left P (statements_of x) _ h.1)
+          (each_both P (statements_of y) _ (each_left P (statements_of y) _ rest)
+          (each_join P t b (each_right P (statements_of y) _ rest) g)),
     )
 each_join P (loop m r x t) b h g = (
   h.0,
-  each_both P (statements_of x) (statements_of (join t b)) (each_left P (statements_of x) (statements_of t) h.1)
-      (each_join P t b (each_right P (statements_of x) (statements_of t) h.1) g),
+  each_both P (statements_of x) _ (each_left P (statements_of x) _ h.1) (each_join P t b (each_right P (statements_of x) _ h.1) g),
 )
 
 -- lists of statements with the same labels
@@ -87,61 +87,51 @@ labels_both : (xs xs' ys ys' : List Statement) → labels_of xs ≡ labels_of xs
     → labels_of (xs ++ ys) ≡ labels_of (xs' ++ ys')
 labels_both xs xs' ys ys' e f = labels_append xs ys ∙ (ap₂ (λ a b. a ++ b) e f ∙ sym (labels_append xs' ys'))
 
+-- what stands before lists with the same labels makes no difference
+labels_behind : (xs ys ys' : List Statement) → labels_of ys ≡ labels_of ys' → labels_of (xs ++ ys) ≡ labels_of (xs ++ ys')
+labels_behind xs ys ys' = labels_both xs xs ys ys' refl
+
 labels_join : (a b : Block Name Name Name) → labels_of (statements_of b) ≡ []
     → labels_of (statements_of (join a b)) ≡ labels_of (statements_of a)
 labels_join done b e = e
 labels_join (one m c t) b e = ap (λ l. label_of m.label ++ l) (labels_join t b e)
 labels_join (choose m r x y t) b e =
     ap (λ l. label_of m.label ++ l)
-    (labels_both (statements_of x) (statements_of x) (statements_of y ++ statements_of (join t b)) (statements_of y ++ statements_of t) refl
-    (labels_both (statements_of y) (statements_of y) (statements_of (join t b)) (statements_of t) refl (labels_join t b e)))
-labels_join (loop m r x t) b e =
-    ap (λ l. label_of m.label ++ l)
-    (labels_both (statements_of x) (statements_of x) (statements_of (join t b)) (statements_of t) refl (labels_join t b e))
+    (labels_behind (statements_of x) _ _ (labels_behind (statements_of y) _ _ (labels_join t b e)))
+labels_join (loop m r x t) b e = ap (λ l. label_of m.label ++ l) (labels_behind (statements_of x) _ _ (labels_join t b e))
 
 -- the labels of a rewritten block are those of the block
 module _ (own : List Name) (last : ℕ) where
+  abbrev naming : Naming Name Name Name Name
+  naming = by_names own
+
   drawing_labels : (n : ℕ) (k : Block Name Name Name)
-      → labels_of (statements_of (drawing (by_names own) last n k)) ≡ labels_of (statements_of k)
+      → labels_of (statements_of (drawing naming last n k)) ≡ labels_of (statements_of k)
   drawing_labels zero k = refl
   drawing_labels (suc n) k = refl
 
   statement_labels : (c : Simple Name Name Name) (k : Block Name Name Name)
-      → labels_of (statements_of (statement (by_names own) last c k)) ≡ labels_of (statements_of k)
-  statement_labels skip k = refl
+      → labels_of (statements_of (statement naming last c k)) ≡ labels_of (statements_of k)
   statement_labels (assign xs rs) k =
-      drawing_labels (draws (by_names own).is_shared xs rs)
-      (one table.no_mark (assign (targets (by_names own) last xs rs) (sides (by_names own) last 0 xs rs)) k)
-  statement_labels (assert r) k = refl
-  statement_labels (assume r) k = refl
-  statement_labels (goto l) k = refl
-  statement_labels leave k = refl
-  statement_labels (call q es) k = refl
-  statement_labels (leave_with e) k = refl
-  statement_labels (call_for x q es) k = landing_labels ((by_names own).is_shared x)
+      drawing_labels (draws naming.is_shared xs rs) (one table.no_mark (assign (targets naming last xs rs) (sides naming last 0 xs rs)) k)
+  statement_labels (call_for x q es) k = landing_labels (naming.is_shared x)
     where
-      landing_labels : (c : Bool)
-          → labels_of (statements_of (cond c (received (by_names own) last x k) k)) ≡ labels_of (statements_of k)
+      landing_labels : (c : Bool) → labels_of (statements_of (cond c (received naming last x k) k)) ≡ labels_of (statements_of k)
       landing_labels true = refl
       landing_labels false = refl
+  statement_labels _ k = refl
 
-  pub labels_kept : (b : Block Name Name Name) → labels_of (statements_of (rewritten (by_names own) last b)) ≡ labels_of (statements_of b)
+  pub labels_kept : (b : Block Name Name Name) → labels_of (statements_of (rewritten naming last b)) ≡ labels_of (statements_of b)
   labels_kept done = refl
-  labels_kept (one m c k) = ap (λ l. label_of m.label ++ l) (statement_labels c (rewritten (by_names own) last k) ∙ labels_kept k)
+  labels_kept (one m c k) = ap (λ l. label_of m.label ++ l) (statement_labels c (rewritten naming last k) ∙ labels_kept k)
   labels_kept (choose m r a b k) =
       ap (λ l. label_of m.label ++ l)
-      (labels_both (statements_of (rewritten (by_names own) last a)) (statements_of a)
-      (statements_of (rewritten (by_names own) last b) ++ statements_of (rewritten (by_names own) last k))
-      (statements_of b ++ statements_of k) (labels_kept a)
-      (labels_both (statements_of (rewritten (by_names own) last b)) (statements_of b) (statements_of (rewritten (by_names own) last k))
-      (statements_of k) (labels_kept b) (labels_kept k)))
+      (labels_both (statements_of (rewritten naming last a)) (statements_of a) _ _ (labels_kept a)
+      (labels_both (statements_of (rewritten naming last b)) (statements_of b) _ _ (labels_kept b) (labels_kept k)))
   labels_kept (loop m r a k) =
       ap (λ l. label_of m.label ++ l)
-      (labels_both (statements_of (join (rewritten (by_names own) last a) (prologue (by_names own) last table.no_mark done)))
-      (statements_of a)
-      (statements_of (rewritten (by_names own) last k)) (statements_of k)
-      (labels_join (rewritten (by_names own) last a) (prologue (by_names own) last table.no_mark done) refl ∙ labels_kept a)
-      (labels_kept k))
+      (labels_both (statements_of (join (rewritten naming last a) (prologue naming last table.no_mark done))) (statements_of a) _ _
+      (labels_join (rewritten naming last a) (prologue naming last table.no_mark done) refl ∙ labels_kept a) (labels_kept k))
 
 -- the procedure of a name, rewritten
 named_rewritten : (last : ℕ) (x : List ℕ) (ps : List Procedure)
@@ -195,7 +185,7 @@ module _ (t : Tree) (last : ℕ) (ok : IsChecked t) (small : last < most_rounds)
       let z : 0 + k ≡ k = omega arith in
       let inA : is_declared (copy_name k x).text A ≡ true =
       subst (λ y. is_declared (copy_name y x).text A ≡ true) z
-      (in_rows (by_names []) last copy_name t.globals copies_spelled x h k 0 (suc last) (omega arith) (omega arith)).0 in
+      (in_rows (by_names []) last copy_name t.globals (numbered_spelled (codes "__")) x h k 0 (suc last) (omega arith) (omega arith)).0 in
       declared_first (copy_name k x).text (A ++ B ++ bits) last_names
       (declared_first (copy_name k x).text (A ++ B) bits (declared_first (copy_name k x).text A B inA))
 
@@ -205,7 +195,7 @@ module _ (t : Tree) (last : ℕ) (ok : IsChecked t) (small : last < most_rounds)
       let z : 1 + k ≡ suc k = omega arith in
       let inB : is_declared (save_name (suc k) x).text B ≡ true =
       subst (λ y. is_declared (save_name y x).text B ≡ true) z
-      (in_rows (by_names []) last save_name t.globals saves_spelled x h k 1 last lt (omega arith)).0 in
+      (in_rows (by_names []) last save_name t.globals (numbered_spelled (codes "__s")) x h k 1 last lt (omega arith)).0 in
       declared_first (save_name (suc k) x).text (A ++ B ++ bits) last_names
       (declared_first (save_name (suc k) x).text (A ++ B) bits (declared_right (save_name (suc k) x).text A B inB))
 
@@ -270,8 +260,15 @@ module _ (t : Tree) (last : ℕ) (ok : IsChecked t) (small : last < most_rounds)
     abbrev own : List Name
     own = p.formals ++ p.locals
 
+    -- the names in the rewritten procedure, and a block of it rewritten
+    abbrev N : Naming Name Name Name Name
+    N = by_names own
+
+    abbrev put : Block Name Name Name → Block Name Name Name
+    put = rewritten N last
+
     abbrev drawn : ℕ
-    drawn = temporaries (by_names own).is_shared p.body
+    drawn = temporaries N.is_shared p.body
 
     abbrev temps : List Name
     temps = map drawn_name (numbers 0 drawn)
@@ -312,77 +309,56 @@ module _ (t : Tree) (last : ℕ) (ok : IsChecked t) (small : last < most_rounds)
     }
 
     prologue_works : (m : Mark Name) (k : Block Name Name Name) → Work p' (statements_of k)
-        → Work p' (statements_of (prologue (by_names own) last m k))
-    prologue_works m k h = (
-      test_works p' any tt,
-      (
-        assume_works p' _ (at_uses own last drawn (In p') Known held last),
-        (
-          assign_works p' bits (reverse (raised (bit_names (round_bits last))))
-              (each_both (In p') bits (variables_of_sides (reverse (raised (bit_names (round_bits last))))) (bits_in p')
-              (rise_uses (In p') (bit_names (round_bits last)) held.bits))
-              (rise_even (bit_names (round_bits last))),
+        → Work p' (statements_of (prologue N last m k))
+    prologue_works m k h =
+        let rise =
+        assign_works p' bits (reverse (raised (bit_names (round_bits last))))
+        (each_both (In p') bits _ (bits_in p') (rise_uses (In p') (bit_names (round_bits last)) held.bits))
+        (rise_even (bit_names (round_bits last))) in (
+          test_works p' any tt,
           (
-            test_works p' any tt,
-            (
-              assign_works p' _ _ (stop_in p', tt) refl,
-              (
-                skip_works p',
-                stop_test_works p' k own h,
-              ),
-            ),
+            assume_works p' _ (at_uses own last drawn (In p') Known held last),
+            (rise, (test_works p' any tt, (assign_works p' _ _ (stop_in p', tt) refl, (skip_works p', stop_test_works p' k own h)))),
           ),
-        ),
-      ),
-    )
+        )
 
     drawing_works : (n : ℕ) (k : Block Name Name Name) → n ≤ drawn → Work p' (statements_of k)
-        → Work p' (statements_of (drawing (by_names own) last n k))
+        → Work p' (statements_of (drawing N last n k))
     drawing_works zero k le h = h
     drawing_works (suc n) k le h = (
       assign_works p' (map drawn_name (numbers 0 (suc n))) (map (λ x. any) (numbers 0 (suc n)))
           (each_both (In p') (map drawn_name (numbers 0 (suc n))) _
-          (numbered_each (In p') drawn_name drawn held.drawn 0 (suc n) (omega arith))
-          (any_uses (In p') (numbers 0 (suc n))))
-          (length-map (numbers 0 (suc n)) drawn_name ∙ sym (length-map {B = RightSide Name} (numbers 0 (suc n)) (λ x. any))),
+          (numbered_each (In p') drawn_name drawn held.drawn 0 (suc n) (omega arith)) (any_uses (In p') (numbers 0 (suc n))))
+          (simp length-map),
       h,
     )
+
+    -- what a right side uses is declared once it is rewritten
+    side_works : (r : RightSide Name) → AllByRecursion Known (variables_of_side r ++ []) → AllByRecursion (In p') (variables_of_side (side N last r))
+    side_works r h = side_uses own last drawn (In p') Known held r (each_left _ (variables_of_side r) [] h)
 
     label_there : (l : Name) → is_declared l.text (labels_of (statements_of p.body)) ≡ true
         → is_declared l.text (labels_of (statements_of p'.body)) ≡ true
     label_there l h = ap (is_declared l.text) (labels_kept own last p.body) ∙ h
 
     statement_works : (m : Mark Name) (c : Simple Name Name Name) (b k : Block Name Name Name) → Was (plain c)
-        → temporaries (by_names own).is_shared (one m c b) ≤ drawn → Work p' (statements_of k)
-        → Work p' (statements_of (statement (by_names own) last c k))
+        → temporaries N.is_shared (one m c b) ≤ drawn → Work p' (statements_of k)
+        → Work p' (statements_of (statement N last c k))
     statement_works m skip b k w room h = (skip_works p', h)
     statement_works m (assign xs rs) b k w room h =
-        drawing_works (draws (by_names own).is_shared xs rs)
-        (one table.no_mark (assign (targets (by_names own) last xs rs) (sides (by_names own) last 0 xs rs)) k) (omega arith) (
-          assign_works p' (targets (by_names own) last xs rs) (sides (by_names own) last 0 xs rs)
-              (each_both (In p') (targets (by_names own) last xs rs) _
-              (targets_held own last drawn (In p') Known held xs rs (each_left _ xs _ w.variables))
-              (sides_use own last drawn (In p') Known held 0 xs rs (each_left _ xs _ w.variables)
-              (each_left _ (variables_of_sides rs) [] (each_right _ xs _ w.variables)) (omega arith)))
-              (sides_even own last 0 xs rs),
+        let before = each_left _ xs _ w.variables in
+        let after = each_left _ (variables_of_sides rs) [] (each_right _ xs _ w.variables) in
+        drawing_works (draws N.is_shared xs rs) (one table.no_mark (assign (targets N last xs rs) (sides N last 0 xs rs)) k) (omega arith) (
+          assign_works p' (targets N last xs rs) (sides N last 0 xs rs)
+              (each_both (In p') (targets N last xs rs) _ (targets_held own last drawn (In p') Known held xs rs before)
+              (sides_use own last drawn (In p') Known held 0 xs rs before after (omega arith))) (sides_even own last 0 xs rs),
           h,
         )
     statement_works m (assert r) b k w room h = (
-      test_works p' (side (by_names own) last r)
-          (side_uses own last drawn (In p') Known held r (each_left _ (variables_of_side r) [] w.variables)),
-      (
-        skip_works p',
-        (
-          assign_works p' _ _ (bad_in p', (stop_in p', tt)) refl,
-          (leave_works p', h),
-        ),
-      ),
+      test_works p' (side N last r) (side_works r w.variables),
+      (skip_works p', (assign_works p' _ _ (bad_in p', (stop_in p', tt)) refl, (leave_works p', h))),
     )
-    statement_works m (assume r) b k w room h = (
-      assume_works p' (side (by_names own) last r)
-          (side_uses own last drawn (In p') Known held r (each_left _ (variables_of_side r) [] w.variables)),
-      h,
-    )
+    statement_works m (assume r) b k w room h = (assume_works p' (side N last r) (side_works r w.variables), h)
     statement_works m (goto l) b k w room h =
         (record { variables = tt; called = tt; sides = λ is. refl; labelled = label_there l w.labelled }, h)
     statement_works m leave b k w room h = (leave_works p', h)
@@ -396,19 +372,19 @@ module _ (t : Tree) (last : ℕ) (ok : IsChecked t) (small : last < most_rounds)
       h,
     )
     statement_works m (call_for x q es) b k w room h =
-        let taken : receiver_draws (by_names own).is_shared (Some x) ≤ drawn = omega arith in (
+        let taken : receiver_draws N.is_shared (Some x) ≤ drawn = omega arith in (
           record {
             variables = (
               receiver_held own last drawn (In p') Known held x w.variables.0 taken,
               arguments_use own last drawn (In p') Known held es w.variables.1,
             );
             called =
-                subst (λ n. Takes (named q.text t'.procedures) n) (sym (length-map es (expression_form (by_names own) last)))
+                subst (λ n. Takes (named q.text t'.procedures) n) (sym (length-map es (expression_form N last)))
                 (takes_there q (length es) w.called);
             sides = λ is. cc;
             labelled = tt;
           },
-          stop_test_works p' (cond ((by_names own).is_shared x) (received (by_names own) last x k) k) own
+          stop_test_works p' (cond (N.is_shared x) (received N last x k) k) own
               (landing_has own last drawn (In p') Known held (λ b. Work p' (statements_of b)) x k w.variables.0 taken h
               (λ xs rs some even hx hr.
               prologue_works table.no_mark (one table.no_mark (assign xs rs) k)
@@ -418,7 +394,7 @@ module _ (t : Tree) (last : ℕ) (ok : IsChecked t) (small : last < most_rounds)
       record {
         variables = arguments_use own last drawn (In p') Known held es w.variables;
         called =
-            subst (λ n. Takes (named q.text t'.procedures) n) (sym (length-map es (expression_form (by_names own) last)))
+            subst (λ n. Takes (named q.text t'.procedures) n) (sym (length-map es (expression_form N last)))
             (takes_there q (length es) w.called);
         sides = λ is. refl;
         labelled = tt;
@@ -427,44 +403,28 @@ module _ (t : Tree) (last : ℕ) (ok : IsChecked t) (small : last < most_rounds)
     )
 
     block_works : (b : Block Name Name Name) → AllByRecursion (λ (s : Statement). Was s.head) (statements_of b)
-        → temporaries (by_names own).is_shared b ≤ drawn → Work p' (statements_of (rewritten (by_names own) last b))
+        → temporaries N.is_shared b ≤ drawn → Work p' (statements_of (put b))
     block_works done h room = tt
     block_works (one m c k) h room =
-        prologue_works m (statement (by_names own) last c (rewritten (by_names own) last k))
-        (statement_works m c k (rewritten (by_names own) last k) h.0 room
-        (block_works k h.1 (rest_room (by_names own).is_shared drawn m c k room)))
+        prologue_works m (statement N last c (put k))
+        (statement_works m c k (put k) h.0 room
+        (block_works k h.1 (rest_room N.is_shared drawn m c k room)))
     block_works (choose m r a b k) h room =
-        let W : Statement → Type 0 = λ s. Was s.head in
-        let inside : AllByRecursion W (statements_of b ++ statements_of k) =
-        each_right W (statements_of a) (statements_of b ++ statements_of k) h.1 in
-        prologue_works m
-        (choose table.no_mark (side (by_names own) last r) (rewritten (by_names own) last a) (rewritten (by_names own) last b)
-        (rewritten (by_names own) last k)) (
-          test_works p' (side (by_names own) last r)
-              (side_uses own last drawn (In p') Known held r (each_left _ (variables_of_side r) [] h.0.variables)),
-          each_both (λ (s : Statement). Works t' p' s.head) (statements_of (rewritten (by_names own) last a))
-              (statements_of (rewritten (by_names own) last b) ++ statements_of (rewritten (by_names own) last k))
-              (block_works a (each_left W (statements_of a) (statements_of b ++ statements_of k) h.1) (omega arith))
-              (each_both (λ (s : Statement). Works t' p' s.head) (statements_of (rewritten (by_names own) last b))
-              (statements_of (rewritten (by_names own) last k))
-              (block_works b (each_left W (statements_of b) (statements_of k) inside) (omega arith))
-              (block_works k (each_right W (statements_of b) (statements_of k) inside) (omega arith))),
+        let inside = each_right _ (statements_of a) _ h.1 in
+        prologue_works m (choose table.no_mark (side N last r) (put a) (put b) (put k)) (
+          test_works p' (side N last r) (side_works r h.0.variables),
+          each_both _ (statements_of (put a)) _ (block_works a (each_left _ (statements_of a) _ h.1) (omega arith))
+              (each_both _ (statements_of (put b)) _ (block_works b (each_left _ (statements_of b) _ inside) (omega arith))
+              (block_works k (each_right _ (statements_of b) _ inside) (omega arith))),
         )
     block_works (loop m r a k) h room =
-        let W : Statement → Type 0 = λ s. Was s.head in
-        prologue_works m
-        (loop table.no_mark (side (by_names own) last r)
-        (join (rewritten (by_names own) last a) (prologue (by_names own) last table.no_mark done))
-        (rewritten (by_names own) last k)) (
-          test_works p' (side (by_names own) last r)
-              (side_uses own last drawn (In p') Known held r (each_left _ (variables_of_side r) [] h.0.variables)),
-          each_both (λ (s : Statement). Works t' p' s.head)
-              (statements_of (join (rewritten (by_names own) last a) (prologue (by_names own) last table.no_mark done)))
-              (statements_of (rewritten (by_names own) last k))
-              (each_join (λ (s : Statement). Works t' p' s.head) (rewritten (by_names own) last a)
-              (prologue (by_names own) last table.no_mark done)
-              (block_works a (each_left W (statements_of a) (statements_of k) h.1) (omega arith)) (prologue_works table.no_mark done tt))
-              (block_works k (each_right W (statements_of a) (statements_of k) h.1) (omega arith)),
+        let body : Block Name Name Name = join (put a) (prologue N last table.no_mark done) in
+        prologue_works m (loop table.no_mark (side N last r) body (put k)) (
+          test_works p' (side N last r) (side_works r h.0.variables),
+          each_both _ (statements_of body) _
+              (each_join _ (put a) (prologue N last table.no_mark done) (block_works a (each_left _ (statements_of a) _ h.1) (omega arith))
+              (prologue_works table.no_mark done tt))
+              (block_works k (each_right _ (statements_of a) _ h.1) (omega arith)),
         )
 
   procedures_work : (ps : List Procedure) → AllByRecursion (IsGood t) ps
@@ -497,11 +457,11 @@ module _ (t : Tree) (last : ℕ) (ok : IsChecked t) (small : last < most_rounds)
       (λ y i. in_globals first (save_name (suc k) y) (saves_there y i k lt)) g in (
         assign_works first (map (copy_name (suc k)) (x ∷ xs)) (map (λ y. any) (x ∷ xs))
             (each_both (In first) (map (copy_name (suc k)) (x ∷ xs)) _ copies (any_uses (In first) (x ∷ xs)))
-            (length-map (x ∷ xs) (copy_name (suc k)) ∙ sym (length-map (x ∷ xs) (λ y. any))),
+            (simp length-map),
         (
           assign_works first (map (save_name (suc k)) (x ∷ xs)) (map (λ y. value (var (copy_name (suc k) y))) (x ∷ xs))
               (each_both (In first) (map (save_name (suc k)) (x ∷ xs)) _ saves (copies_read (suc k) (x ∷ xs) (omega arith) g))
-              (length-map (x ∷ xs) (save_name (suc k)) ∙ sym (length-map (x ∷ xs) (λ y. value (var (copy_name (suc k) y))))),
+              (simp length-map),
           h,
         ),
       )
@@ -523,7 +483,7 @@ module _ (t : Tree) (last : ℕ) (ok : IsChecked t) (small : last < most_rounds)
         (each_both (In first) (reset_targets (by_names []) last) _
         (each_both (In first) bits (renamed.fresh_name (codes "stop__") ∷ []) (bits_in first) (stop_in first, tt))
         (zeros_use (In first) (reset_targets (by_names []) last)))
-        (sym (length-map {B = RightSide Name} (reset_targets (by_names []) last) (λ x. value (const false)))),
+        (simp length-map),
     (record { variables = tt; called = takes_there line.name 0 s.0; sides = λ is. refl; labelled = tt }, starts_work lines b s.1 h),
   )
 

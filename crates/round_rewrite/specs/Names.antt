@@ -11,13 +11,17 @@ use Rattle.round_rewrite.specs.Table.{Naming, numbers, temporaries, rewritten, m
 abbrev pub fresh_name : List ℕ → Name
 fresh_name text = record { text = text; at = 0 }
 
+-- a name with a mark and the number of a round after it, which is counted from 0
+abbrev pub numbered_name : List ℕ → ℕ → Name → Name
+numbered_name mark round name = fresh_name (name.text ++ (mark ++ decimal (suc round)))
+
 -- x__1, x__2 and so on: the copy for a round, from 0
 abbrev pub copy_name : ℕ → Name → Name
-copy_name round name = fresh_name (name.text ++ (codes "__" ++ decimal (suc round)))
+copy_name round name = numbered_name (codes "__") round name
 
 -- x__s2, x__s3 and so on: the guess saved for a round, from 0
 abbrev pub save_name : ℕ → Name → Name
-save_name round name = fresh_name (name.text ++ (codes "__s" ++ decimal (suc round)))
+save_name round name = numbered_name (codes "__s") round name
 
 -- tmp__t1, tmp__t2 and so on
 abbrev pub drawn_name : ℕ → Name

@@ -9,13 +9,16 @@ ghost use Rattle.round_rewrite.specs.Table.{no_mark};
 use std::alloc::{AllocError, Allocator};
 use trees::{Core, Name, Stmt};
 
+/// Statements, one after the other.
+pub(crate) type Stmts<A> = Vec<Stmt<A>, A>;
+
 /// Appends a statement to others.
 #[tactic(auto, using(crate::proofs::AppendLemmas::lays_pushed))]
 pub(crate) fn push_marked<A: Allocator>(
     label: Option<Name<A>>,
     at: u32,
     core: Core<A>,
-    into: &mut Vec<Stmt<A>, A>,
+    into: &mut Stmts<A>,
 ) -> Result<(), AllocError>
     ensures { Appends result into.old.items into.new.items
         (marked_before (record { label = option_map name_of label; at = at }) (deed_of core)) }
@@ -25,20 +28,14 @@ pub(crate) fn push_marked<A: Allocator>(
 }
 
 /// Appends a statement without a label to others.
-pub(crate) fn push<A: Allocator>(
-    core: Core<A>,
-    into: &mut Vec<Stmt<A>, A>,
-) -> Result<(), AllocError>
+pub(crate) fn push<A: Allocator>(core: Core<A>, into: &mut Stmts<A>) -> Result<(), AllocError>
     ensures { Appends result into.old.items into.new.items (marked_before no_mark (deed_of core)) }
 {
     push_marked(None, 0, core, into)
 }
 
 /// The block of one statement.
-pub(crate) fn single<A: Allocator + Copy>(
-    alloc: &A,
-    core: Core<A>,
-) -> Result<Vec<Stmt<A>, A>, AllocError>
+pub(crate) fn single<A: Allocator + Copy>(alloc: &A, core: Core<A>) -> Result<Stmts<A>, AllocError>
     ensures { IfOk result (λ v. block_of v.items ≡ marked_before no_mark (deed_of core) done) }
 {
     let mut block = Vec::new(*alloc);

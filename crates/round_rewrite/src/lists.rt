@@ -1,10 +1,10 @@
 //! Lists of names and right sides, one for each name.
 
-ghost use Rattle.std.specs.Prelude.{◌≡◌, ◌++◌, ◌<◌, suc, decimal, false, IfOk, map};
+ghost use Rattle.std.specs.Prelude.{◌≡◌, ◌++◌, ◌<◌, false, IfOk, map};
 ghost use Rattle.language.specs.Tree.{any, const, var, value};
 ghost use Rattle.trees.specs.Trees.{names_of, rhss_of};
 ghost use Rattle.round_rewrite.specs.Table.{each};
-ghost use Rattle.round_rewrite.specs.Names.{fresh_name, copy_name, save_name};
+ghost use Rattle.round_rewrite.specs.Names.{numbered_name, copy_name};
 ghost use Rattle.round_rewrite.specs.Limits.{most_rounds};
 
 use crate::cores::constant;
@@ -29,7 +29,7 @@ pub(crate) fn clone_names<N: Allocator, A: Allocator + Copy>(
 }
 
 /// Appends the names with a mark and a round's number to names.
-fn numbered_all<N: Allocator, A: Allocator + Copy>(
+pub(crate) fn numbered_all<N: Allocator, A: Allocator + Copy>(
     alloc: &A,
     mark: &str,
     round: u8,
@@ -38,42 +38,13 @@ fn numbered_all<N: Allocator, A: Allocator + Copy>(
 ) -> Result<Vec<Name<A>, A>, AllocError>
     requires { round < most_rounds }
     ensures { IfOk result (λ v. names_of v.items
-        ≡ names_of into.items ++ map (λ x. fresh_name (x.text ++ (mark.now ++ decimal (suc round))))
-        (names_of xs.now)) }
+        ≡ names_of into.items ++ map (numbered_name mark.now round) (names_of xs.now)) }
 {
     let mut list = into;
     for x in xs {
         list.push(numbered(*alloc, x, mark, round)?)?;
     }
     Ok(list)
-}
-
-/// Appends the copies of globals for a round to names.
-pub(crate) fn copies<N: Allocator, A: Allocator + Copy>(
-    alloc: &A,
-    round: u8,
-    xs: &[Name<N>],
-    into: Vec<Name<A>, A>,
-) -> Result<Vec<Name<A>, A>, AllocError>
-    requires { round < most_rounds }
-    ensures { IfOk result
-        (λ v. names_of v.items ≡ names_of into.items ++ map (copy_name round) (names_of xs.now)) }
-{
-    numbered_all(alloc, "__", round, xs, into)
-}
-
-/// Appends the guesses of globals that are saved for a round to names.
-pub(crate) fn saves<N: Allocator, A: Allocator + Copy>(
-    alloc: &A,
-    round: u8,
-    xs: &[Name<N>],
-    into: Vec<Name<A>, A>,
-) -> Result<Vec<Name<A>, A>, AllocError>
-    requires { round < most_rounds }
-    ensures { IfOk result
-        (λ v. names_of v.items ≡ names_of into.items ++ map (save_name round) (names_of xs.now)) }
-{
-    numbered_all(alloc, "__s", round, xs, into)
 }
 
 /// A `?` for each name.

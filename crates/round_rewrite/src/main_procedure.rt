@@ -9,52 +9,21 @@ ghost use Rattle.round_rewrite.specs.Names.{by_names, copy_name, save_name};
 ghost use Rattle.round_rewrite.specs.Writing.{Appends, line_names};
 ghost use Rattle.round_rewrite.specs.Limits.{most_rounds};
 
-use crate::block::push;
+use crate::block::{Stmts, push};
 use crate::cores::{push_bits, push_name};
 use crate::expression::{copy_of, operation, read_of};
-use crate::lists::{copies, guessed, reads, saves, zeros};
-use crate::names::{clone_name, save};
+use crate::lists::{guessed, numbered_all, reads, zeros};
+use crate::names::{COPY, GUESS, clone_name, numbered};
 use crate::rounds::Rounds;
 use std::alloc::{AllocError, Allocator};
 use trees::{Core, Name, Op, Rhs, Stmt, Thread};
 
-/// Appends the guess of the globals for one round, saved, to others.
-fn guess<N: Allocator, A: Allocator + Copy>(
-    alloc: &A,
-    last: u8,
-    round: u8,
-    xs: &[Name<N>],
-    into: &mut Vec<Stmt<A>, A>,
-) -> Result<(), AllocError>
-    requires { round < most_rounds }
-    ensures { Appends result into.old.items into.new.items
-        (guess (by_names []) last (names_of xs.now) round) }
-{
-    let Some((_first, _)) = xs.split_first() else {
-        return Ok(());
-    };
-    let targets = copies(alloc, round, xs, Vec::new(*alloc))?;
-    let sides = guessed(*alloc, xs)?;
-    push(Core::Assign(targets, sides), into)?;
-    let kept = saves(alloc, round, xs, Vec::new(*alloc))?;
-    let values = reads(alloc, round, xs)?;
-    push(Core::Assign(kept, values), into)
-}
-
-/// Appends the guesses of the globals for every round from the second on to others.
-fn guesses<N: Allocator, A: Allocator + Copy>(
-    alloc: &A,
+/// Writes the body of the first procedure: where it allocates, for how many rounds, and the globals of the source.
+#[derive(Drop)]
+struct MainWriter<'a, N: Allocator, A: Allocator + Copy> {
+    alloc: &'a A,
     rounds: Rounds,
-    xs: &[Name<N>],
-    into: &mut Vec<Stmt<A>, A>,
-) -> Result<(), AllocError>
-    ensures { Appends result into.old.items into.new.items
-        (guesses (by_names []) rounds.last (names_of xs.now) (numbers 1 rounds.last)) }
-{
-    for before in 0..rounds.last {
-        guess(alloc, rounds.last, before + 1, xs, into)?;
-    }
-    Ok(())
+    globals: &'a [Name<N>],
 }
 
 /// The assignment of 0 to the round and `stop__`.
@@ -69,24 +38,6 @@ fn reset<A: Allocator + Copy>(alloc: &A, rounds: Rounds) -> Result<Core<A>, Allo
     Ok(Core::Assign(targets, sides))
 }
 
-/// Appends the threads, one after the other, to others.
-fn starts<N: Allocator, A: Allocator + Copy>(
-    alloc: &A,
-    rounds: Rounds,
-    threads: &[Thread<N>],
-    into: &mut Vec<Stmt<A>, A>,
-) -> Result<(), AllocError>
-    ensures { Appends result into.old.items into.new.items
-        (starts (by_names []) rounds.last (line_names (threads_of threads.now))) }
-{
-    for thread in threads {
-        push(reset(alloc, rounds)?, into)?;
-        let name = clone_name(*alloc, &thread.name)?;
-        push(Core::Call(name, Vec::new(*alloc)), into)?;
-    }
-    Ok(())
-}
-
 /// The `assume` that a round's guess of a global is what the round before ended with.
 fn agrees<N: Allocator, A: Allocator + Copy>(
     alloc: &A,
@@ -98,61 +49,106 @@ fn agrees<N: Allocator, A: Allocator + Copy>(
         ≡ simple (assume (value (two equal (var (save_name (suc round) (name_of x.now)))
         (var (copy_name round (name_of x.now))))))) }
 {
-    let saved = save(*alloc, round + 1, x)?;
+    let saved = numbered(*alloc, x, GUESS, round + 1)?;
     let kept = read_of(saved);
     let reached = copy_of(alloc, round, x)?;
     let same = operation(alloc, Op::Equal, kept, reached)?;
     Ok(Core::Assume(Rhs::Value(same)))
 }
 
-/// Appends the check that a round ended with the guess for the next one to others.
-fn check<N: Allocator, A: Allocator + Copy>(
-    alloc: &A,
-    last: u8,
-    round: u8,
-    xs: &[Name<N>],
-    into: &mut Vec<Stmt<A>, A>,
-) -> Result<(), AllocError>
-    requires { round + 1 < most_rounds }
-    ensures { Appends result into.old.items into.new.items
-        (check (by_names []) last (names_of xs.now) round) }
-{
-    for x in xs {
-        push(agrees(alloc, round, x)?, into)?;
+impl<'a, N: Allocator, A: Allocator + Copy> MainWriter<'a, N, A> {
+    /// Appends the guess of the globals for one round, saved, to others.
+    fn guess(&self, round: u8, into: &mut Stmts<A>) -> Result<(), AllocError>
+        requires { round < most_rounds }
+        ensures { Appends result into.old.items into.new.items
+            (guess (by_names []) self.now.rounds.last (names_of self.now.globals.now) round) }
+    {
+        let Some((_first, _)) = self.globals.split_first() else {
+            return Ok(());
+        };
+        let targets = numbered_all(self.alloc, COPY, round, self.globals, Vec::new(*self.alloc))?;
+        let sides = guessed(*self.alloc, self.globals)?;
+        push(Core::Assign(targets, sides), into)?;
+        let kept = numbered_all(
+            self.alloc,
+            GUESS,
+            round,
+            self.globals,
+            Vec::new(*self.alloc),
+        )?;
+        let values = reads(self.alloc, round, self.globals)?;
+        push(Core::Assign(kept, values), into)
     }
-    Ok(())
-}
 
-/// Appends the checks of every round but the last to others.
-fn checks<N: Allocator, A: Allocator + Copy>(
-    alloc: &A,
-    rounds: Rounds,
-    xs: &[Name<N>],
-    into: &mut Vec<Stmt<A>, A>,
-) -> Result<(), AllocError>
-    ensures { Appends result into.old.items into.new.items
-        (checks (by_names []) rounds.last (names_of xs.now) (numbers 0 rounds.last)) }
-{
-    for round in 0..rounds.last {
-        check(alloc, rounds.last, round, xs, into)?;
+    /// Appends the guesses of the globals for every round from the second on to others.
+    fn guesses(&self, into: &mut Stmts<A>) -> Result<(), AllocError>
+        ensures { Appends result into.old.items into.new.items
+            (guesses (by_names []) self.now.rounds.last (names_of self.now.globals.now)
+            (numbers 1 self.now.rounds.last)) }
+    {
+        for before in 0..self.rounds.last {
+            self.guess(before + 1, into)?;
+        }
+        Ok(())
     }
-    Ok(())
+
+    /// Appends the threads, one after the other, to others.
+    fn starts(&self, threads: &[Thread<N>], into: &mut Stmts<A>) -> Result<(), AllocError>
+        ensures { Appends result into.old.items into.new.items
+            (starts (by_names []) self.now.rounds.last (line_names (threads_of threads.now))) }
+    {
+        for thread in threads {
+            push(reset(self.alloc, self.rounds)?, into)?;
+            let name = clone_name(*self.alloc, &thread.name)?;
+            push(Core::Call(name, Vec::new(*self.alloc)), into)?;
+        }
+        Ok(())
+    }
+
+    /// Appends the check that a round ended with the guess for the next one to others.
+    fn check(&self, round: u8, into: &mut Stmts<A>) -> Result<(), AllocError>
+        requires { round + 1 < most_rounds }
+        ensures { Appends result into.old.items into.new.items
+            (check (by_names []) self.now.rounds.last (names_of self.now.globals.now) round) }
+    {
+        for x in self.globals {
+            push(agrees(self.alloc, round, x)?, into)?;
+        }
+        Ok(())
+    }
+
+    /// Appends the checks of every round but the last to others.
+    fn checks(&self, into: &mut Stmts<A>) -> Result<(), AllocError>
+        ensures { Appends result into.old.items into.new.items
+            (checks (by_names []) self.now.rounds.last (names_of self.now.globals.now)
+            (numbers 0 self.now.rounds.last)) }
+    {
+        for round in 0..self.rounds.last {
+            self.check(round, into)?;
+        }
+        Ok(())
+    }
 }
 
 /// The body of the first procedure.
 pub(crate) fn main_body<N: Allocator, A: Allocator + Copy>(
     alloc: &A,
     rounds: Rounds,
-    xs: &[Name<N>],
+    globals: &[Name<N>],
     threads: &[Thread<N>],
-) -> Result<Vec<Stmt<A>, A>, AllocError>
+) -> Result<Stmts<A>, AllocError>
     ensures { IfOk result (λ v. block_of v.items
-        ≡ main (by_names []) rounds.last (names_of xs.now)
+        ≡ main (by_names []) rounds.last (names_of globals.now)
         (line_names (threads_of threads.now))) }
 {
+    let main = MainWriter {
+        alloc,
+        rounds,
+        globals,
+    };
     let mut body = Vec::new(*alloc);
-    guesses(alloc, rounds, xs, &mut body)?;
-    starts(alloc, rounds, threads, &mut body)?;
-    checks(alloc, rounds, xs, &mut body)?;
+    main.guesses(&mut body)?;
+    main.starts(threads, &mut body)?;
+    main.checks(&mut body)?;
     Ok(body)
 }

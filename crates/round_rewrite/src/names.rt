@@ -1,13 +1,19 @@
 //! The names of a rewritten program.
 
-ghost use Rattle.std.specs.Prelude.{◌≡◌, ◌<◌, ◌++◌, ◌^◌, suc, decimal, IfOk};
+ghost use Rattle.std.specs.Prelude.{◌≡◌, ◌<◌, ◌^◌, IfOk};
 ghost use Rattle.trees.specs.Trees.{name_of};
-ghost use Rattle.round_rewrite.specs.Names.{fresh_name, bit_name, copy_name, save_name};
+ghost use Rattle.round_rewrite.specs.Names.{fresh_name, bit_name, numbered_name, copy_name};
 ghost use Rattle.round_rewrite.specs.Names.{drawn_name};
 ghost use Rattle.round_rewrite.specs.Limits.{most_rounds};
 
 use std::alloc::{AllocError, Allocator};
 use trees::Name;
+
+/// What stands before the round's number in the name of a global's copy.
+pub(crate) const COPY: &str = "__";
+
+/// The same in the name of a guess that is saved.
+pub(crate) const GUESS: &str = "__s";
 
 /// A name that occurs in no text.
 pub(crate) fn fixed<A: Allocator>(alloc: A, text: &str) -> Result<Name<A>, AllocError>
@@ -47,8 +53,7 @@ pub(crate) fn numbered<N: Allocator, A: Allocator>(
     round: u8,
 ) -> Result<Name<A>, AllocError>
     requires { round < most_rounds }
-    ensures { IfOk result
-        (λ n. name_of n ≡ fresh_name ((name_of x.now).text ++ (mark.now ++ decimal (suc round)))) }
+    ensures { IfOk result (λ n. name_of n ≡ numbered_name mark.now round (name_of x.now)) }
 {
     let text = x.text.as_str();
     let number = round + 1;
@@ -65,19 +70,7 @@ pub(crate) fn copy<N: Allocator, A: Allocator>(
     requires { round < most_rounds }
     ensures { IfOk result (λ n. name_of n ≡ copy_name round (name_of x.now)) }
 {
-    numbered(alloc, x, "__", round)
-}
-
-/// The guess of a global that is saved for a round, counted from 0.
-pub(crate) fn save<N: Allocator, A: Allocator>(
-    alloc: A,
-    round: u8,
-    x: &Name<N>,
-) -> Result<Name<A>, AllocError>
-    requires { round < most_rounds }
-    ensures { IfOk result (λ n. name_of n ≡ save_name round (name_of x.now)) }
-{
-    numbered(alloc, x, "__s", round)
+    numbered(alloc, x, COPY, round)
 }
 
 /// A temporary, counted from 0.

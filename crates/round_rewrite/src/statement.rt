@@ -9,7 +9,7 @@ ghost use Rattle.round_rewrite.specs.Table.{statement};
 ghost use Rattle.round_rewrite.specs.Writing.{Appends, Lays, bare_form, forms};
 
 use crate::assignment::{any_values, temporaries};
-use crate::block::{push, push_marked};
+use crate::block::{Stmts, push, push_marked};
 use crate::cores::{checked, stop_choice, stop_test};
 use crate::names::{clone_name, drawn};
 use crate::writer::Writer;
@@ -24,7 +24,7 @@ impl<'a, N: Allocator, A: Allocator + Copy> Writer<'a, N, A> {
         &self,
         label: Option<Name<A>>,
         at: u32,
-        into: &mut Vec<Stmt<A>, A>,
+        into: &mut Stmts<A>,
     ) -> Result<(), AllocError>
         ensures { Appends result into.old.items into.new.items
             (prologue (naming_of self.now) self.now.rounds.last
@@ -36,7 +36,7 @@ impl<'a, N: Allocator, A: Allocator + Copy> Writer<'a, N, A> {
     }
 
     /// Appends the draw of a given number of temporaries, if any, to others.
-    fn drawing(&self, number: usize, into: &mut Vec<Stmt<A>, A>) -> Result<(), AllocError>
+    fn drawing(&self, number: usize, into: &mut Stmts<A>) -> Result<(), AllocError>
         requires { number < 2 ^ 63 }
         ensures { Appends result into.old.items into.new.items
             (drawing (naming_of self.now) self.now.rounds.last number) }
@@ -54,7 +54,7 @@ impl<'a, N: Allocator, A: Allocator + Copy> Writer<'a, N, A> {
         &self,
         xs: &[Name<N>],
         rs: &[Rhs<N>],
-        into: &mut Vec<Stmt<A>, A>,
+        into: &mut Stmts<A>,
     ) -> Result<(), AllocError>
         ensures { Appends result into.old.items into.new.items
             (statement (naming_of self.now) self.now.rounds.last
@@ -69,12 +69,7 @@ impl<'a, N: Allocator, A: Allocator + Copy> Writer<'a, N, A> {
     }
 
     /// Appends the rewriting of a call to others.
-    fn call(
-        &self,
-        p: &Name<N>,
-        es: &[Expr<N>],
-        into: &mut Vec<Stmt<A>, A>,
-    ) -> Result<(), AllocError>
+    fn call(&self, p: &Name<N>, es: &[Expr<N>], into: &mut Stmts<A>) -> Result<(), AllocError>
         ensures { Appends result into.old.items into.new.items
             (statement (naming_of self.now) self.now.rounds.last
             (call (name_of p.now) (exprs_of es.now))) }
@@ -86,7 +81,7 @@ impl<'a, N: Allocator, A: Allocator + Copy> Writer<'a, N, A> {
     }
 
     /// Appends the rewriting of a return of a value to others.
-    fn given(&self, e: &Expr<N>, into: &mut Vec<Stmt<A>, A>) -> Result<(), AllocError>
+    fn given(&self, e: &Expr<N>, into: &mut Stmts<A>) -> Result<(), AllocError>
         ensures { Appends result into.old.items into.new.items
             (statement (naming_of self.now) self.now.rounds.last (leave_with (expr_of e.now))) }
     {
@@ -107,7 +102,7 @@ impl<'a, N: Allocator, A: Allocator + Copy> Writer<'a, N, A> {
     }
 
     /// Appends what gives a global the value of a call, after a prologue of its own, to others.
-    fn received(&self, x: &Name<N>, into: &mut Vec<Stmt<A>, A>) -> Result<(), AllocError>
+    fn received(&self, x: &Name<N>, into: &mut Stmts<A>) -> Result<(), AllocError>
         ensures { Appends result into.old.items into.new.items
             (received (naming_of self.now) self.now.rounds.last (name_of x.now)) }
     {
@@ -120,7 +115,7 @@ impl<'a, N: Allocator, A: Allocator + Copy> Writer<'a, N, A> {
     }
 
     /// Appends what comes after the call for a value, if a global gets it, to others.
-    fn landing(&self, x: &Name<N>, into: &mut Vec<Stmt<A>, A>) -> Result<(), AllocError>
+    fn landing(&self, x: &Name<N>, into: &mut Stmts<A>) -> Result<(), AllocError>
         ensures { Appends result into.old.items into.new.items
             (λ rest.
             cond ((naming_of self.now).is_shared (name_of x.now))
@@ -153,7 +148,7 @@ impl<'a, N: Allocator, A: Allocator + Copy> Writer<'a, N, A> {
         x: &Name<N>,
         p: &Name<N>,
         es: &[Expr<N>],
-        into: &mut Vec<Stmt<A>, A>,
+        into: &mut Stmts<A>,
     ) -> Result<(), AllocError>
         ensures { Appends result into.old.items into.new.items
             (statement (naming_of self.now) self.now.rounds.last
@@ -176,7 +171,7 @@ impl<'a, N: Allocator, A: Allocator + Copy> Writer<'a, N, A> {
 
     /// Appends the rewriting of statements to others.
     #[cycle(rewriting)]
-    fn block(&self, stmts: &[Stmt<N>], into: &mut Vec<Stmt<A>, A>) -> Result<(), AllocError>
+    fn block(&self, stmts: &[Stmt<N>], into: &mut Stmts<A>) -> Result<(), AllocError>
         ensures { Appends result into.old.items into.new.items
             (forms (naming_of self.now) self.now.rounds.last (items_of stmts.now)) }
     {
@@ -190,7 +185,7 @@ impl<'a, N: Allocator, A: Allocator + Copy> Writer<'a, N, A> {
 
     /// What statements are rewritten to.
     #[cycle(rewriting)]
-    pub(crate) fn rewritten(&self, stmts: &[Stmt<N>]) -> Result<Vec<Stmt<A>, A>, AllocError>
+    pub(crate) fn rewritten(&self, stmts: &[Stmt<N>]) -> Result<Stmts<A>, AllocError>
         ensures { IfOk result (λ v. Lays [] v.items
             (λ k. forms (naming_of self.now) self.now.rounds.last (items_of stmts.now) k)) }
     {
@@ -200,7 +195,7 @@ impl<'a, N: Allocator, A: Allocator + Copy> Writer<'a, N, A> {
     }
 
     /// Appends a `goto` to others.
-    fn jump(&self, l: &Name<N>, into: &mut Vec<Stmt<A>, A>) -> Result<(), AllocError>
+    fn jump(&self, l: &Name<N>, into: &mut Stmts<A>) -> Result<(), AllocError>
         ensures { Appends result into.old.items into.new.items
             (statement (naming_of self.now) self.now.rounds.last (goto (name_of l.now))) }
     {
@@ -209,7 +204,7 @@ impl<'a, N: Allocator, A: Allocator + Copy> Writer<'a, N, A> {
     }
 
     /// Appends the rewriting of an assert to others.
-    fn asserted(&self, r: &Rhs<N>, into: &mut Vec<Stmt<A>, A>) -> Result<(), AllocError>
+    fn asserted(&self, r: &Rhs<N>, into: &mut Stmts<A>) -> Result<(), AllocError>
         ensures { Appends result into.old.items into.new.items
             (statement (naming_of self.now) self.now.rounds.last (assert (rhs_of r.now))) }
     {
@@ -218,7 +213,7 @@ impl<'a, N: Allocator, A: Allocator + Copy> Writer<'a, N, A> {
     }
 
     /// Appends the rewriting of an assume to others.
-    fn assumed(&self, r: &Rhs<N>, into: &mut Vec<Stmt<A>, A>) -> Result<(), AllocError>
+    fn assumed(&self, r: &Rhs<N>, into: &mut Stmts<A>) -> Result<(), AllocError>
         ensures { Appends result into.old.items into.new.items
             (statement (naming_of self.now) self.now.rounds.last (assume (rhs_of r.now))) }
     {
@@ -233,7 +228,7 @@ impl<'a, N: Allocator, A: Allocator + Copy> Writer<'a, N, A> {
         r: &Rhs<N>,
         a: &[Stmt<N>],
         b: &[Stmt<N>],
-        into: &mut Vec<Stmt<A>, A>,
+        into: &mut Stmts<A>,
     ) -> Result<(), AllocError>
         ensures { Appends result into.old.items into.new.items
             (bare_form (naming_of self.now) self.now.rounds.last
@@ -247,12 +242,7 @@ impl<'a, N: Allocator, A: Allocator + Copy> Writer<'a, N, A> {
 
     /// Appends the rewriting of a `while` to others.
     #[cycle(rewriting)]
-    fn repeat(
-        &self,
-        r: &Rhs<N>,
-        a: &[Stmt<N>],
-        into: &mut Vec<Stmt<A>, A>,
-    ) -> Result<(), AllocError>
+    fn repeat(&self, r: &Rhs<N>, a: &[Stmt<N>], into: &mut Stmts<A>) -> Result<(), AllocError>
         ensures { Appends result into.old.items into.new.items
             (bare_form (naming_of self.now) self.now.rounds.last
             (repeat (rhs_of r.now) (block_of a.now))) }
@@ -265,7 +255,7 @@ impl<'a, N: Allocator, A: Allocator + Copy> Writer<'a, N, A> {
 
     /// Appends the rewriting of one statement, without its prologue, to others.
     #[cycle(rewriting)]
-    fn core(&self, core: &Core<N>, into: &mut Vec<Stmt<A>, A>) -> Result<(), AllocError>
+    fn core(&self, core: &Core<N>, into: &mut Stmts<A>) -> Result<(), AllocError>
         ensures { Appends result into.old.items into.new.items
             (bare_form (naming_of self.now) self.now.rounds.last (deed_of core.now)) }
     {

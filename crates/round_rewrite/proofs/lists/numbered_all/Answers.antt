@@ -1,19 +1,18 @@
-use Rattle.std.proofs.Common.{◌∙◌, ap, ◌++◌, ◌+◌, map, drop, suc, decimal}
-use Rattle.language.specs.Tree.{Name}
+use Rattle.std.proofs.Common.{◌∙◌, ap, ◌++◌, ◌+◌, map, drop}
 use Rattle.trees.specs.Trees.{name_of, names_of}
-use Rattle.round_rewrite.specs.Names.{fresh_name}
+use Rattle.round_rewrite.specs.Names.{numbered_name}
 use Rattle.round_rewrite.proofs.PushLemmas.{one_through, all_through}
 use Rattle.round_rewrite.proofs.lists.numbered_all.Goals as goal
 
 pub loop-x-preserved : goal.loop-x-preserved
 loop-x-preserved g c =
-    let numbered = λ (y : Name). fresh_name (y.text ++ (c.args.mark.now ++ decimal (suc c.args.round))) in
+    let numbered = numbered_name c.args.mark.now c.args.round in
     ap (λ l. names_of l ++ map numbered (names_of (drop (c.loop-x.x-index + 1) c.args.xs.now))) c.in_ok-push.ensures.items
     ∙ one_through name_of numbered name_of c.loop-x.list.items c.in_ok-numbered.field-0 c.args.xs.now c.loop-x.x-index
     c.x-item.result _ c.loop-x-test.true c.x-item.is c.in_ok-numbered.ensures c.loop-x.invariant
 
 pub returns : goal.returns
 returns g c =
-    let numbered = λ (y : Name). fresh_name (y.text ++ (c.args.mark.now ++ decimal (suc c.args.round))) in
+    let numbered = numbered_name c.args.mark.now c.args.round in
     all_through name_of numbered name_of c.loop-x.list.items c.args.xs.now c.loop-x.x-index _ c.loop-x-test.false
     c.loop-x.invariant

@@ -8,7 +8,7 @@ use Rattle.round_rewrite.proofs.main_procedure.main_body.Goals as goal
 
 pub returns : goal.returns
 returns g c =
-    let xs = names_of c.args.xs.now in
+    let xs = names_of c.args.globals.now in
     let last = c.args.rounds.last in
     c.in_ok-checks.ensures done
     ∙ (c.in_ok-starts.ensures _

@@ -1,4 +1,4 @@
-use Rattle.std.proofs.Common.{[], sym, ◌+◌, ◌*◌, ◌<◌, refl, ◌∙◌, ap, arith}
+use Rattle.std.proofs.Common.{[], sym, refl, ◌∙◌, ap, arith}
 use Rattle.std.proofs.lemmas.Result.{IfOk-weaker}
 use Rattle.language.specs.Tree.{skip, leave, assign, call, call_for, done}
 use Rattle.language.specs.Sequential.{statements}
@@ -16,9 +16,7 @@ pub block-core-requires : goal.block-core-requires
 block-core-requires g t c κs within =
     let part = smaller c.args.stmts.now c.loop-stmt.stmt-index c.stmt-item.result c.loop-stmt-test.true c.stmt-item.is
     in
-    let less : 4 * held (deed_of c.stmt-item.result.core) + 4 < 4 * statements (block_of c.args.stmts.now) + 1 = omega
-    (arith, part) in
-    (rw (← c.decreases) less, within)
+    (rw (← c.decreases) (omega (arith, part)), within)
 
 pub block-loop-stmt-preserved : goal.block-loop-stmt-preserved
 block-loop-stmt-preserved g t c =
@@ -37,15 +35,11 @@ block-returns g t c =
 
 pub branch-rewritten-requires : goal.branch-rewritten-requires
 branch-rewritten-requires g t c κs within =
-    let less : 4 * statements (block_of c.args.a.now) + 2 < 4 *
-    (statements (block_of c.args.a.now) + statements (block_of c.args.b.now)) + 3 = omega arith in
-    (rw (← c.decreases) less, within)
+    (rw (← c.decreases) (omega arith), within)
 
 pub branch-rewritten-requires-2 : goal.branch-rewritten-requires-2
 branch-rewritten-requires-2 g t c κs within =
-    let less : 4 * statements (block_of c.args.b.now) + 2 < 4 *
-    (statements (block_of c.args.a.now) + statements (block_of c.args.b.now)) + 3 = omega arith in
-    (rw (← c.decreases) less, within)
+    (rw (← c.decreases) (omega arith), within)
 
 pub branch-returns : goal.branch-returns
 branch-returns g t c =
@@ -59,8 +53,7 @@ branch-returns g t c =
 
 pub repeat-rewritten-requires : goal.repeat-rewritten-requires
 repeat-rewritten-requires g t c κs within =
-    let less : 4 * statements (block_of c.args.a.now) + 2 < 4 * statements (block_of c.args.a.now) + 3 = omega arith in
-    (rw (← c.decreases) less, within)
+    (rw (← c.decreases) (omega arith), within)
 
 pub repeat-returns : goal.repeat-returns
 repeat-returns g t c =
@@ -74,9 +67,7 @@ repeat-returns g t c =
 
 pub rewritten-block-requires : goal.rewritten-block-requires
 rewritten-block-requires g t c κs within =
-    let less : 4 * statements (block_of c.args.stmts.now) + 1 < 4 * statements (block_of c.args.stmts.now) + 2 = omega
-    arith in
-    (rw (← c.decreases) less, within)
+    (rw (← c.decreases) (omega arith), within)
 
 pub rewritten-returns : goal.rewritten-returns
 rewritten-returns g t c = λ k.
@@ -89,17 +80,13 @@ core-branch-self-requires g t c κs within =
     let first = ap (λ l. statements (block_of l)) c.deref-in-If.ensures.value in
     let second = ap (λ l. statements (block_of l)) c.deref-in-If-2.ensures.value in
     let whole = ap held (ap deed_of c.in-If.is ∙ deed_of-If _ _ _) in
-    let less : 4 * (statements (block_of c.deref-in-If.result.now) + statements (block_of c.deref-in-If-2.result.now))
-    + 3 < 4 * held (deed_of c.args.core.now) + 4 = omega (arith, first, second, whole) in
-    (rw (← c.decreases) less, within)
+    (rw (← c.decreases) (omega (arith, first, second, whole)), within)
 
 pub core-repeat-requires : goal.core-repeat-requires
 core-repeat-requires g t c κs within =
     let same = ap (λ l. statements (block_of l)) c.deref-in-While.ensures.value in
     let whole = ap held (ap deed_of c.in-While.is ∙ deed_of-While _ _) in
-    let less : 4 * statements (block_of c.deref-in-While.result.now) + 3 < 4 * held
-    (deed_of c.args.core.now) + 4 = omega (arith, same, whole) in
-    (rw (← c.decreases) less, within)
+    (rw (← c.decreases) (omega (arith, same, whole)), within)
 
 pub core-returns-in-Skip : goal.core-returns-in-Skip
 core-returns-in-Skip g t c =

@@ -5,20 +5,20 @@ use Rattle.round_rewrite.specs.Table.{no_mark, check}
 use Rattle.round_rewrite.specs.Names.{by_names, copy_name, save_name}
 use Rattle.round_rewrite.proofs.AppendLemmas.{laid}
 use Rattle.round_rewrite.proofs.Mains.{each_more, each_end}
-use Rattle.round_rewrite.proofs.main_procedure.check.Goals as goal
+use Rattle.round_rewrite.proofs.main_procedure.MainWriter.check.Goals as goal
 
 pub loop-x-preserved : goal.loop-x-preserved
 loop-x-preserved g c =
-    each_more name_of (λ xs. check (by_names []) c.args.last xs c.args.round)
+    each_more name_of (λ xs. check (by_names []) c.args.self.now.rounds.last xs c.args.round)
     (λ y k. one no_mark (assume (value (two equal (var (save_name (suc c.args.round) y)) (var (copy_name c.args.round y))))) k)
-    (λ y ys k. refl) c.args.xs.now c.loop-x.x-index c.x-item.result c.loop-x-test.true c.x-item.is
+    (λ y ys k. refl) c.args.self.now.globals.now c.loop-x.x-index c.x-item.result c.loop-x-test.true c.x-item.is
     c.loop-x.into.items c.push.new.into.items (laid _ _ no_mark _ _ c.in_ok-push.ensures c.in_ok-agrees.ensures)
-    (λ rest. all_before (items_of c.args.into.now.items) (check (by_names []) c.args.last (names_of c.args.xs.now) c.args.round
+    (λ rest. all_before (items_of c.args.into.now.items) (check (by_names []) c.args.self.now.rounds.last (names_of c.args.self.now.globals.now) c.args.round
     rest)) c.loop-x.invariant
 
 pub returns : goal.returns
 returns g c =
-    each_end name_of (λ xs. check (by_names []) c.args.last xs c.args.round) (λ k. refl) c.args.xs.now c.loop-x.x-index
+    each_end name_of (λ xs. check (by_names []) c.args.self.now.rounds.last xs c.args.round) (λ k. refl) c.args.self.now.globals.now c.loop-x.x-index
     c.loop-x-test.false c.loop-x.into.items
-    (λ rest. all_before (items_of c.args.into.now.items) (check (by_names []) c.args.last (names_of c.args.xs.now) c.args.round
+    (λ rest. all_before (items_of c.args.into.now.items) (check (by_names []) c.args.self.now.rounds.last (names_of c.args.self.now.globals.now) c.args.round
     rest)) c.loop-x.invariant
