@@ -10,9 +10,11 @@ use std::fmt::Display;
 use syntax::{print, read};
 use trees::{Proc, Program, Thread};
 
-/// What is asked of a text.
+/// What is asked of a text, and what allocates for the answer.
 #[derive(Clone, Copy)]
-struct Question<'a> {
+struct Question<'a, A: Allocator + Copy> {
+    host: Global,
+    alloc: A,
     word: &'a str,
     /// For how many rounds the text is rewritten.
     count: u8,
@@ -33,39 +35,6 @@ fn has_line(text: &str, line: &str) -> bool {
         }
     }
     false
-}
-
-/// What is printed, if it is printed the same once it is read again.
-fn printed_again<A: Allocator + Copy>(
-    host: Global,
-    alloc: A,
-    printed: &str,
-) -> Result<String, AllocError> {
-    let program = match read(alloc, printed.as_bytes()) {
-        Ok(program) => program,
-        Err(fault) => return shown(host, &fault),
-    };
-    match print(alloc, &program) {
-        Ok(again) if again.as_str() == printed => String::from_str(host, printed),
-        Ok(_) => String::from_str(host, "printed otherwise once it is read"),
-        Err(AllocError) => String::from_str(host, "memory"),
-    }
-}
-
-/// `rewrite` and `holds`: the rewriting as it is printed, and whether the line occurs in it.
-fn of_printed<A: Allocator + Copy>(
-    host: Global,
-    alloc: A,
-    question: Question<'_>,
-    program: &Program<A>,
-) -> Result<String, AllocError> {
-    match print(alloc, program) {
-        Ok(text) if question.word == "holds" => {
-            shown(host, &has_line(text.as_str(), question.line))
-        }
-        Ok(text) => printed_again(host, alloc, text.as_str()),
-        Err(AllocError) => String::from_str(host, "memory"),
-    }
 }
 
 /// Appends the widths of a sequential program's procedures to a line, each with a comma after it.
@@ -89,33 +58,59 @@ fn widths<A: Allocator>(host: Global, sequential: &Sequential<A>) -> Result<Stri
     Ok(line)
 }
 
+/// What is printed, if it is printed the same once it is read again.
+fn printed_again<A: Allocator + Copy>(
+    question: Question<'_, A>,
+    printed: &str,
+) -> Result<String, AllocError> {
+    let program = match read(question.alloc, printed.as_bytes()) {
+        Ok(program) => program,
+        Err(fault) => return shown(question.host, &fault),
+    };
+    match print(question.alloc, &program) {
+        Ok(again) if again.as_str() == printed => String::from_str(question.host, printed),
+        Ok(_) => String::from_str(question.host, "printed otherwise once it is read"),
+        Err(AllocError) => String::from_str(question.host, "memory"),
+    }
+}
+
+/// `rewrite` and `holds`: the rewriting as it is printed, and whether the line occurs in it.
+fn of_printed<A: Allocator + Copy>(
+    question: Question<'_, A>,
+    program: &Program<A>,
+) -> Result<String, AllocError> {
+    match print(question.alloc, program) {
+        Ok(text) if question.word == "holds" => {
+            shown(question.host, &has_line(text.as_str(), question.line))
+        }
+        Ok(text) => printed_again(question, text.as_str()),
+        Err(AllocError) => String::from_str(question.host, "memory"),
+    }
+}
+
 /// What is asked of a rewriting. `fits`: that there is one.
 fn of_sequential<A: Allocator + Copy>(
-    host: Global,
-    alloc: A,
-    question: Question<'_>,
+    question: Question<'_, A>,
     sequential: &Sequential<A>,
 ) -> Result<String, AllocError> {
     match question.word {
-        "fits" => String::from_str(host, "rewritten"),
-        "widths" => widths(host, sequential),
-        _ => of_printed(host, alloc, question, sequential.program()),
+        "fits" => String::from_str(question.host, "rewritten"),
+        "widths" => widths(question.host, sequential),
+        _ => of_printed(question, sequential.program()),
     }
 }
 
 /// What is asked of a checked program's rewriting.
 fn rewritten<A: Allocator + Copy>(
-    host: Global,
-    alloc: A,
-    question: Question<'_>,
+    question: Question<'_, A>,
     checked: &Checked<A>,
 ) -> Result<String, AllocError> {
     let Some(rounds) = Rounds::new(question.count) else {
-        return String::from_str(host, "none");
+        return String::from_str(question.host, "none");
     };
-    match rewrite(&alloc, checked, rounds) {
-        Ok(sequential) => of_sequential(host, alloc, question, &sequential),
-        Err(fault) => shown(host, &fault),
+    match rewrite(&question.alloc, checked, rounds) {
+        Ok(sequential) => of_sequential(question, &sequential),
+        Err(fault) => shown(question.host, &fault),
     }
 }
 
@@ -148,41 +143,35 @@ fn parts<A: Allocator>(host: Global, program: &Program<A>) -> Result<String, All
 
 /// What is asked of a checked program. `check`: that no fault stands in it.
 fn of_checked<A: Allocator + Copy>(
-    host: Global,
-    alloc: A,
-    question: Question<'_>,
+    question: Question<'_, A>,
     checked: &Checked<A>,
 ) -> Result<String, AllocError> {
     match question.word {
-        "check" => String::from_str(host, "checked"),
-        "parts" => parts(host, checked.program()),
-        _ => rewritten(host, alloc, question, checked),
+        "check" => String::from_str(question.host, "checked"),
+        "parts" => parts(question.host, checked.program()),
+        _ => rewritten(question, checked),
     }
 }
 
 /// What is asked of a program; its fault in its own words.
 fn of_program<A: Allocator + Copy>(
-    host: Global,
-    alloc: A,
-    question: Question<'_>,
+    question: Question<'_, A>,
     program: Program<A>,
 ) -> Result<String, AllocError> {
-    match check(alloc, program) {
-        Ok(checked) => of_checked(host, alloc, question, &checked),
-        Err(fault) => shown(host, &fault),
+    match check(question.alloc, program) {
+        Ok(checked) => of_checked(question, &checked),
+        Err(fault) => shown(question.host, &fault),
     }
 }
 
 /// What is asked of a text; its fault in its own words.
 fn of_text<A: Allocator + Copy>(
-    host: Global,
-    alloc: A,
-    question: Question<'_>,
+    question: Question<'_, A>,
     text: &str,
 ) -> Result<String, AllocError> {
-    match read(alloc, text.as_bytes()) {
-        Ok(program) => of_program(host, alloc, question, program),
-        Err(fault) => shown(host, &fault),
+    match read(question.alloc, text.as_bytes()) {
+        Ok(program) => of_program(question, program),
+        Err(fault) => shown(question.host, &fault),
     }
 }
 
@@ -194,7 +183,12 @@ fn numbered(rest: &str) -> Option<(u8, &str)> {
 
 /// The question of a word, and the text that it is asked of: `COUNT TEXT`, for `holds` `COUNT LINE :: TEXT`, for
 /// `check` and `parts` a text alone.
-fn asked<'a>(word: &'a str, rest: &'a str) -> Option<(Question<'a>, &'a str)> {
+fn asked<'a, A: Allocator + Copy>(
+    host: Global,
+    alloc: A,
+    word: &'a str,
+    rest: &'a str,
+) -> Option<(Question<'a, A>, &'a str)> {
     let (count, text) = match word {
         "check" | "parts" => (0, rest),
         "rewrite" | "holds" | "fits" | "widths" => numbered(rest)?,
@@ -204,7 +198,16 @@ fn asked<'a>(word: &'a str, rest: &'a str) -> Option<(Question<'a>, &'a str)> {
         "holds" => text.split_once(" :: ")?,
         _ => ("", text),
     };
-    Some((Question { word, count, line }, text))
+    Some((
+        Question {
+            host,
+            alloc,
+            word,
+            count,
+            line,
+        },
+        text,
+    ))
 }
 
 /// Whether there is such a number of rounds.
@@ -226,8 +229,8 @@ pub fn words<A: Allocator + Copy>(
     if word == "rounds" {
         return String::from_str(host, rounds(rest));
     }
-    match asked(word, rest) {
-        Some((question, text)) => of_text(host, alloc, question, text),
+    match asked(host, alloc, word, rest) {
+        Some((question, text)) => of_text(question, text),
         None => String::from_str(host, "no such case"),
     }
 }

@@ -23,7 +23,7 @@ use Rattle.round_rewrite.proofs.Prologue.{stop_leads}
 use Rattle.round_rewrite.proofs.Frames.{Activation, both, awaiting, results, entered, given, source_values, put_values, Fits, Roomy, Both}
 use Rattle.round_rewrite.proofs.Frames.{source, Good, AllGood, GoodStack, put_rest, inner, behind, callers, stack, Setting, put_routine}
 use Rattle.round_rewrite.proofs.Frames.{roomy, top, site, throughout-join, throughout-rest, IfThere, source_fresh, put_fresh, source_with}
-use Rattle.round_rewrite.proofs.Frames.{put_given, Waits, put_result, put_with, resulting, resulting_good, draws_room, takes_room}
+use Rattle.round_rewrite.proofs.Frames.{good_as, put_given, put_result, put_with, resulting, resulting_good, draws_room, takes_room}
 use Rattle.resolved.proofs.Each.{each_at}
 
 -- an open call that has new values and continues in the same procedure
@@ -31,46 +31,22 @@ pub good_with : (p : Program) (last : ℕ) (a : Activation) (l tmp : List Bool) 
     → (h : Good p last (both a rest)) → length l ≡ length a.l → Redrawn d a.tmp tmp → d ≤ temporaries is_global h.routine.body
     → Fits p.routines p.globals a.own (temporaries is_global h.routine.body) rest'
     → Good p last (both (record a { l = l; tmp = tmp }) rest')
-good_with p last a l tmp d rest rest' h el drawn le fits = record {
-  routine = h.routine;
-  there = h.there;
-  own_is = h.own_is;
-  long = el ∙ h.long;
-  gives = h.gives;
-  room = drawn.0 ∙ h.room;
-  result = drawn.1 (temporaries is_global h.routine.body) le ∙ h.result;
-  waits = tt;
-  fits = fits;
-}
-
--- an open call that waits for this, and then continues elsewhere in the same procedure
-good_on : (p : Program) (last : ℕ) (b : Both) (awaits : Option Place) (rest' : Code) → (h : Good p last b)
-    → Waits p.globals b.own (temporaries is_global h.routine.body) awaits
-    → Fits p.routines p.globals b.own (temporaries is_global h.routine.body) rest'
-    → Good p last (record b { awaits = awaits; rest = rest' })
-good_on p last b awaits rest' h waits fits = record {
-  routine = h.routine;
-  there = h.there;
-  own_is = h.own_is;
-  long = h.long;
-  gives = h.gives;
-  room = h.room;
-  result = h.result;
-  waits = waits;
-  fits = fits;
-}
+good_with p last a l tmp d rest rest' h el drawn le fits =
+    good_as p last (both a rest) h l a.more tmp None rest' el refl drawn.0
+    (drawn.1 (temporaries is_global h.routine.body) le ∙ h.result) tt fits
 
 -- an open call that continues elsewhere in the same procedure
 pub good_rest : (p : Program) (last : ℕ) (a : Activation) (rest rest' : Code) → (h : Good p last (both a rest))
     → Fits p.routines p.globals a.own (temporaries is_global h.routine.body) rest' → Good p last (both a rest')
-good_rest p last a rest rest' h fits = good_on p last (both a rest) None rest' h tt fits
+good_rest p last a rest rest' h fits = good_as p last (both a rest) h a.l a.more a.tmp None rest' refl refl refl h.result tt fits
 
 -- an open call that waits for the value of its call
 pub good_awaiting : (p : Program) (last : ℕ) (a : Activation) (rest : Code) (x : Place) (rest' : Code)
     → (h : Good p last (both a rest)) → PlaceInScope p.globals a.own x
     → receiver_draws is_global (Some x) ≤ temporaries is_global h.routine.body
     → Fits p.routines p.globals a.own (temporaries is_global h.routine.body) rest' → Good p last (awaiting a x rest')
-good_awaiting p last a rest x rest' h scope room fits = good_on p last (both a rest) (Some x) rest' h (scope, room) fits
+good_awaiting p last a rest x rest' h scope room fits =
+    good_as p last (both a rest) h a.l a.more a.tmp (Some x) rest' refl refl refl h.result (scope, room) fits
 
 -- the body of a procedure fits
 pub body_fits : (p : Program) (c : ℕ) (r : Routine) (d : ℕ) → FitsScopes p → slice_get p.routines c ≡ Some r

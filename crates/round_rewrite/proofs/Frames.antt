@@ -360,19 +360,30 @@ module _ (p : Program) (last : ℕ) where
       by_target (Some (local i)) = refl
       by_target (Some (global i)) = refl
 
-  -- a frame that has got its value fits
-  pub given_good : (v : Bool) (b : Both) → Good p last b → Good p last (both (given v b.awaits b.activation) b.rest)
-  given_good v b h = record {
+  -- an open call with other values that waits for this and then continues elsewhere in the same procedure
+  pub good_as : (b : Both) (h : Good p last b) (l more tmp : List Bool) (awaits : Option Place) (rest : Code)
+      → length l ≡ length b.l → length more ≡ length b.more → length tmp ≡ length b.tmp
+      → bit tmp (temporaries is_global h.routine.body) ≡ bit more 0
+      → Waits p.globals b.own (temporaries is_global h.routine.body) awaits
+      → Fits p.routines p.globals b.own (temporaries is_global h.routine.body) rest
+      → Good p last (record { activation = record b.activation { l = l; more = more; tmp = tmp }; awaits = awaits; rest = rest })
+  good_as b h l more tmp awaits rest el em et same waits fits = record {
     routine = h.routine;
     there = h.there;
     own_is = h.own_is;
-    long = length-given v b.awaits b.l ∙ h.long;
-    gives = h.gives;
-    room = length-temporaries v b.awaits b.tmp ∙ h.room;
-    result = kept v b.awaits b.tmp (temporaries is_global h.routine.body) h.waits ∙ h.result;
-    waits = tt;
-    fits = h.fits;
+    long = el ∙ h.long;
+    gives = em ∙ h.gives;
+    room = et ∙ (h.room ∙ ap (λ k. temporaries is_global h.routine.body + k) (sym em));
+    result = same;
+    waits = waits;
+    fits = fits;
   }
+
+  -- a frame that has got its value fits
+  pub given_good : (v : Bool) (b : Both) → Good p last b → Good p last (both (given v b.awaits b.activation) b.rest)
+  given_good v b h =
+      good_as b h (given_places v b.awaits b.l) b.more (given_temporaries v b.awaits b.tmp) None b.rest (length-given v b.awaits b.l) refl
+      (length-temporaries v b.awaits b.tmp) (kept v b.awaits b.tmp (temporaries is_global h.routine.body) h.waits ∙ h.result) tt h.fits
     where
       length-given : (v : Bool) (o : Option Place) (l : List Bool) → length (given_places v o l) ≡ length l
       length-given v (Some (local i)) l = length-set l i v
@@ -418,19 +429,10 @@ module _ (setting : Setting) where
 
   pub resulting_good : (a : Activation) (rest : Code) (h : Good p last (both a rest)) (v : Bool)
       → Good p last (both (resulting a rest h v) done)
-  resulting_good a rest h v = record {
-    routine = h.routine;
-    there = h.there;
-    own_is = h.own_is;
-    long = h.long;
-    gives = length-set a.more 0 v ∙ h.gives;
-    room =
-        length-set a.tmp (temporaries is_global h.routine.body) v
-        ∙ (h.room ∙ ap (λ k. temporaries is_global h.routine.body + k) (sym (length-set a.more 0 v)));
-    result = written_twice a.tmp a.more (temporaries is_global h.routine.body) v h.room h.result;
-    waits = tt;
-    fits = tt;
-  }
+  resulting_good a rest h v =
+      good_as p last (both a rest) h a.l (with_bit a.more 0 v) (with_bit a.tmp (temporaries is_global h.routine.body) v) None done refl
+      (length-set a.more 0 v) (length-set a.tmp (temporaries is_global h.routine.body) v)
+      (written_twice a.tmp a.more (temporaries is_global h.routine.body) v h.room h.result) tt tt
 
 -- the values of a new frame of the source, and those of a new rewritten frame
 pub source_fresh : (r : Routine) (vs : List Bool) → length vs ≤ r.places

@@ -1,5 +1,5 @@
 -- Parts that come one after the other in front of a rest, one for each of a list, as the guesses and the checks do.
-use Rattle.std.proofs.Common.{◌≡◌, ℕ, ◌+◌, List, [], ◌∷◌, ◌++◌, sym, ◌∙◌, ap, subst}
+use Rattle.std.proofs.Common.{◌≡◌, ℕ, zero, suc, ◌+◌, ◌<◌, ◌≤◌, List, [], ◌∷◌, ◌++◌, sym, ◌∙◌, ap, subst, arith}
 use Rattle.language.specs.Sequential.{numbers}
 use Rattle.round_rewrite.proofs.PushLemmas.{numbers_next}
 
@@ -30,3 +30,12 @@ pub one_behind : {T : Type 0} (parts : List ℕ → T → T) (part : ℕ → T �
 one_behind parts part none more start k n e t =
     ap (λ ks. parts ks t) (numbers_next start k)
     ∙ (behind parts part none more (numbers start k) (start + k) t ∙ ap (λ j. parts (numbers start k) (part j t)) e)
+
+-- what the parts for numbers below a bound keep, all of them keep
+pub keep_below : {T : Type 0} (parts : List ℕ → T → T) (part : ℕ → T → T) → ((t : T) → parts [] t ≡ t)
+    → ((k : ℕ) (ks : List ℕ) (t : T) → parts (k ∷ ks) t ≡ part k (parts ks t)) → (P : T → Type 0) (bound : ℕ)
+    → ((k : ℕ) (t : T) → k < bound → P t → P (part k t)) → (k m : ℕ) → k + m ≤ bound → (t : T) → P t → P (parts (numbers k m) t)
+keep_below parts part none more P bound each k zero le t h = subst P (sym (none t)) h
+keep_below parts part none more P bound each k (suc m) le t h =
+    subst P (sym (more k (numbers (suc k) m) t))
+    (each k (parts (numbers (suc k) m) t) (omega arith) (keep_below parts part none more P bound each (suc k) m (omega arith) t h))

@@ -25,6 +25,7 @@ use Rattle.round_rewrite.proofs.PlaceLemmas.{length-bit_names}
 use Rattle.language.proofs.TestLemmas.{at_test}
 use Rattle.round_rewrite.proofs.ResolutionLemmas.{rest_room}
 use Rattle.round_rewrite.proofs.Widths.{narrow_procedures, few_needs}
+use Rattle.round_rewrite.proofs.InTurn.{keep, keep_below}
 use Rattle.round_rewrite.proofs.Uses.{each_both, any_uses, written_each, numbered_each, each_reversed, rise_uses, rise_even, zeros_use}
 use Rattle.round_rewrite.proofs.Uses.{sides_even, Held, at_uses, arguments_use, side_uses}
 use Rattle.round_rewrite.proofs.Uses.{targets_held, sides_use, expression_uses, receiver_held, landing_has}
@@ -336,14 +337,6 @@ module _ (last : ℕ) (small : last < most_rounds) where
         ),
       )
 
-  guesses_in_grammar : (xs : List Name) (k m : ℕ) (b : Block Name Name Name) → k + m ≤ most_rounds → AllByRecursion IsId xs
-      → BlockInGrammar b
-      → BlockInGrammar (guesses (by_names []) last xs (numbers k m) b)
-  guesses_in_grammar xs k zero b le h g = g
-  guesses_in_grammar xs k (suc m) b le h g =
-      guess_in_grammar xs k (guesses (by_names []) last xs (numbers (suc k) m) b) (omega arith) h
-      (guesses_in_grammar xs (suc k) m b (omega arith) h g)
-
   starts_in_grammar : (lines : List ThreadLine) (b : Block Name Name Name) → AllByRecursion ThreadInGrammar lines → BlockInGrammar b
       → BlockInGrammar (starts (by_names []) last (map (λ (line : ThreadLine). line.name) lines) b)
   starts_in_grammar [] b s g = g
@@ -363,23 +356,10 @@ module _ (last : ℕ) (small : last < most_rounds) where
   check_in_grammar [] k b lt h g = g
   check_in_grammar (x ∷ xs) k b lt h g = (tt, (save_id (suc k) x lt h.0, copy_id k x (omega arith) h.0), check_in_grammar xs k b lt h.1 g)
 
-  checks_in_grammar : (xs : List Name) (k m : ℕ) (b : Block Name Name Name) → k + m < most_rounds → AllByRecursion IsId xs
-      → BlockInGrammar b
-      → BlockInGrammar (checks (by_names []) last xs (numbers k m) b)
-  checks_in_grammar xs k zero b le h g = g
-  checks_in_grammar xs k (suc m) b le h g =
-      check_in_grammar xs k (checks (by_names []) last xs (numbers (suc k) m) b) (omega arith) h
-      (checks_in_grammar xs (suc k) m b (omega arith) h g)
-
   -- `main__` has a statement
   some_guess : (xs : List Name) (k : ℕ) (b : Block Name Name Name) → IsSome b → IsSome (guess (by_names []) last xs k b)
   some_guess [] k b h = h
   some_guess (x ∷ xs) k b h = tt
-
-  some_guesses : (xs : List Name) (k m : ℕ) (b : Block Name Name Name) → IsSome b
-      → IsSome (guesses (by_names []) last xs (numbers k m) b)
-  some_guesses xs k zero b h = h
-  some_guesses xs k (suc m) b h = some_guess xs k (guesses (by_names []) last xs (numbers (suc k) m) b) (some_guesses xs (suc k) m b h)
 
   some_starts : (lines : List ThreadLine) (b : Block Name Name Name) → 0 < length lines
       → IsSome (starts (by_names []) last (map (λ (line : ThreadLine). line.name) lines) b)
@@ -395,10 +375,15 @@ module _ (last : ℕ) (small : last < most_rounds) where
         name = main_id;
         formals = tt;
         locals = tt;
-        some = some_guesses t.globals 1 last second (some_starts t.threads last_part h.some_thread);
+        some =
+            keep (guesses (by_names []) last t.globals) (guess (by_names []) last t.globals) (λ b. refl) (λ k ks b. refl) IsSome
+            (some_guess t.globals) (numbers 1 last) second (some_starts t.threads last_part h.some_thread);
         body =
-            guesses_in_grammar t.globals 1 last second (omega arith) ids
-            (starts_in_grammar t.threads last_part h.threads (checks_in_grammar t.globals 0 last done (omega arith) ids tt));
+            keep_below (guesses (by_names []) last t.globals) (guess (by_names []) last t.globals) (λ b. refl) (λ k ks b. refl) BlockInGrammar
+            most_rounds (λ k b lt. guess_in_grammar t.globals k b lt ids) 1 last (omega arith) second
+            (starts_in_grammar t.threads last_part h.threads
+            (keep_below (checks (by_names []) last t.globals) (check (by_names []) last t.globals) (λ b. refl) (λ k ks b. refl) BlockInGrammar
+            last (λ k b lt. check_in_grammar t.globals k b (omega arith) ids) 0 last (omega arith) done tt));
       }
 
 -- the rewritten tree is one of the grammar

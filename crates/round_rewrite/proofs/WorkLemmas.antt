@@ -33,6 +33,7 @@ use Rattle.round_rewrite.proofs.PlaceLemmas.{last_names, numbered_spelled}
 use Rattle.language.proofs.TestLemmas.{at_test}
 use Rattle.round_rewrite.proofs.ResolutionLemmas.{rest_room}
 use Rattle.round_rewrite.proofs.MeaningLemmas.{not_main}
+use Rattle.round_rewrite.proofs.InTurn.{keep_below}
 use Rattle.round_rewrite.proofs.Uses.{each_both, any_uses, written_each, numbered_each, each_reversed, rise_uses, rise_even, zeros_use}
 use Rattle.round_rewrite.proofs.Uses.{sides_even, Held, at_uses, arguments_use, side_uses}
 use Rattle.round_rewrite.proofs.Uses.{targets_held, sides_use, receiver_held, landing_has}
@@ -498,13 +499,6 @@ module _ (t : Tree) (last : ℕ) (ok : IsChecked t) (small : last < most_rounds)
     check_works xs k b lt g.1 h,
   )
 
-  checks_work : (xs : List Name) (k m : ℕ) (b : Block Name Name Name) → k + m ≤ last → AllByRecursion Global xs
-      → Work first (statements_of b)
-      → Work first (statements_of (checks (by_names []) last xs (numbers k m) b))
-  checks_work xs k zero b le g h = h
-  checks_work xs k (suc m) b le g h =
-      check_works xs k (checks (by_names []) last xs (numbers (suc k) m) b) (omega arith) g (checks_work xs (suc k) m b (omega arith) g h)
-
   main_works : AllByRecursion (λ (s : Statement). Works t' first s.head) (statements_of first.body)
   main_works =
       let g : AllByRecursion Global t.globals = each_declared t.globals t.globals (λ x h. h) in
@@ -512,7 +506,8 @@ module _ (t : Tree) (last : ℕ) (ok : IsChecked t) (small : last < most_rounds)
       (starts (by_names []) last (map (λ (line : ThreadLine). line.name) t.threads)
       (checks (by_names []) last t.globals (numbers 0 last) done)) (omega arith) g
       (starts_work t.threads (checks (by_names []) last t.globals (numbers 0 last) done) (threads_start t ok)
-      (checks_work t.globals 0 last done (omega arith) g tt))
+      (keep_below (checks (by_names []) last t.globals) (check (by_names []) last t.globals) (λ b. refl) (λ k ks b. refl)
+      (λ b. Work first (statements_of b)) last (λ k b lt. check_works t.globals k b lt g) 0 last (omega arith) done tt))
 
   -- the rewritten tree resolves
   pub rewritten_resolves : Resolves (rewritten_tree last t)

@@ -50,12 +50,7 @@ impl<'a, N: Allocator, A: Allocator + Copy> Writer<'a, N, A> {
     }
 
     /// Appends the rewriting of an assignment to others.
-    fn assignment(
-        &self,
-        xs: &[Name<N>],
-        rs: &[Rhs<N>],
-        into: &mut Stmts<A>,
-    ) -> Result<(), AllocError>
+    fn assigned(&self, xs: &[Name<N>], rs: &[Rhs<N>], into: &mut Stmts<A>) -> Result<(), AllocError>
         ensures { Appends result into.old.items into.new.items
             (statement (naming_of self.now) self.now.rounds.last
             (assign (names_of xs.now) (rhss_of rs.now))) }
@@ -265,7 +260,7 @@ impl<'a, N: Allocator, A: Allocator + Copy> Writer<'a, N, A> {
             Core::Goto(l) => self.jump(l, into),
             Core::Assert(r) => self.asserted(r, into),
             Core::Assume(r) => self.assumed(r, into),
-            Core::Assign(xs, rs) => self.assignment(xs, rs, into),
+            Core::Assign(xs, rs) => self.assigned(xs, rs, into),
             Core::Call(p, es) => self.call(p, es, into),
             Core::CallTo(x, p, es) => self.call_for(x, p, es, into),
             Core::Give(e) => self.given(e, into),

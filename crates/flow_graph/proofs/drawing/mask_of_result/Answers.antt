@@ -8,11 +8,8 @@ use Rattle.flow_graph.proofs.drawing.mask_of_result.Goals as goal
 
 pub overflow_shl-result : goal.overflow_shl-result
 overflow_shl-result g c =
-    let t = c.args.program.now in
-    let p = c.args.proc.now in
     let gives = sym (ap (λ l. gives_value (block_of l)) c.deref.ensures.value) ∙ sym c.give_value.ensures ∙ c.if-give_value.true in
-    let one = ap {B = ℕ} (λ b. cond b 1 0) gives in
-    omega (arith, width_counted t p, one)
+    omega (arith, width_counted c.args.program.now c.args.proc.now, ap {B = ℕ} (λ b. cond b 1 0) gives)
 
 pub returns-then-give_value : goal.returns-then-give_value
 returns-then-give_value g c =
@@ -31,8 +28,6 @@ overflow_add-result g c =
 
 pub returns-else-give_value : goal.returns-else-give_value
 returns-else-give_value g c =
-    let t = c.args.program.now in
-    let p = c.args.proc.now in
     let gives = sym (ap (λ l. gives_value (block_of l)) c.deref.ensures.value) ∙ sym c.give_value.ensures ∙ c.if-give_value.false in
-    let bit = length (names_of t.globals.items) + length (names_of p.formals.items ++ names_of p.locals.items) in
-    ap {B = ℕ} (λ b. cond b (2 ^ bit) 0) (sym gives)
+    let names = names_of c.args.proc.now.formals.items ++ names_of c.args.proc.now.locals.items in
+    ap {B = ℕ} (λ b. cond b (2 ^ (length (names_of c.args.program.now.globals.items) + length names)) 0) (sym gives)

@@ -123,9 +123,9 @@ core-returns-in-Assume g t c =
 
 pub core-returns-in-Assign : goal.core-returns-in-Assign
 core-returns-in-Assign g t c =
-    core_is (naming_of c.args.self.now) c.args.self.now.rounds.last c.assignment.result (λ _. c.assignment.new.into.items) _ _ _
+    core_is (naming_of c.args.self.now) c.args.self.now.rounds.last c.assigned.result (λ _. c.assigned.new.into.items) _ _ _
     ((λ i. simple (assign (names_of (c.deref.ensures.value i)) (rhss_of (c.deref-in-Assign.ensures.value i))))
-    ∙ sym (ap deed_of c.in-Assign.is ∙ deed_of-Assign _ _)) c.assignment.ensures
+    ∙ sym (ap deed_of c.in-Assign.is ∙ deed_of-Assign _ _)) c.assigned.ensures
 
 pub core-returns-in-Call : goal.core-returns-in-Call
 core-returns-in-Call g t c =

@@ -6,7 +6,7 @@ use Rattle.round_rewrite.specs.Table.{no_mark, drawing, targets, sides}
 use Rattle.round_rewrite.specs.Writing.{naming_of}
 use Rattle.round_rewrite.proofs.AppendLemmas.{laid}
 use Rattle.trees.proofs.Folds.{deed_of-Assign}
-use Rattle.round_rewrite.proofs.writer.Writer.assignment.Goals as goal
+use Rattle.round_rewrite.proofs.writer.Writer.assigned.Goals as goal
 
 pub returns : goal.returns
 returns g c =
