@@ -119,9 +119,8 @@ module _ (setting : Setting) (S : List (List Bool)) (m : Code) (Q : State → Ty
   GoodStand (landing a d i t bs) = AllGood p last (frames_of (landing a d i t bs))
 
   -- the run comes down to the first procedure
-  pub record Down (N : ℕ) (pre post : List (List Bool)) : Type 0 where
+  pub record Down (pre post : List (List Bool)) : Type 0 where
     pub left : ℕ
-    pub fewer : left ≤ N
     pub g' : List Bool
     pub post' : List (List Bool)
     pub long : length g' ≡ p.globals
@@ -132,10 +131,11 @@ module _ (setting : Setting) (S : List (List Bool)) (m : Code) (Q : State → Ty
     pub bad : Bool
     pub run : PlainAfter w left (state (lay (pre ++ g' ∷ post') S (bits_of last round stop bad)) (frame 0 [] m ∷ [])) Q
 
-  -- the run comes down to the first procedure, and the thread has made its turns
+  -- so many steps bring the run down to the first procedure, and the thread has made its turns
   pub record Ends (N : ℕ) (post : List (List Bool)) (r : Seat p.globals last S post) (b : Bool) (s : List Frame) : Type 0 where
-    pub down : Down N r.pre post
+    pub down : Down r.pre post
     pub open down use *
+    pub fewer : left ≤ N
     pub turns : ((bad ≡ b) × ((s' : List Frame) × Turns p (r.g ∷ post) s (g' ∷ post') s'))
         ⊎ ((bad ≡ true) × FailTurns p (r.g ∷ post) s (g' ∷ post'))
 
@@ -148,19 +148,8 @@ module _ (setting : Setting) (S : List (List Bool)) (m : Code) (Q : State → Ty
   longer : (N M : ℕ) → M ≤ N → (post : List (List Bool)) (r : Seated post) (b : Bool) (s : List Frame) → Ends M post r b s
       → Ends N post r b s
   longer N M le post r b s e = record {
-    down = record {
-      left = e.left;
-      fewer = (let k : e.left ≤ M = e.fewer in omega arith);
-      g' = e.g';
-      post' = e.post';
-      long = e.long;
-      post_long = e.post_long;
-      same = e.same;
-      round = e.round;
-      stop = e.stop;
-      bad = e.bad;
-      run = e.run;
-    };
+    down = e.down;
+    fewer = (let k : e.left ≤ M = e.fewer in omega arith);
     turns = e.turns;
   }
 
@@ -169,6 +158,7 @@ module _ (setting : Setting) (S : List (List Bool)) (m : Code) (Q : State → Ty
       (s t : List Frame) → StepsTo p (state r.g s) (λ u. u ≡ state h t) → Ends N post (reseat r h eh) b t → Ends N post r b s
   after_step N post r h eh b s t step e = record {
     down = e.down;
+    fewer = e.fewer;
     turns = elim e.turns [
       | inl (eb, (s', ts)) ↦ inl (eb, (s', step_turns p r.g h post s t e.g' e.post' s' step ts))
       | inr (eb, ts) ↦ inr (eb, step_fails p r.g h post s t e.g' e.post' step ts)
@@ -181,7 +171,6 @@ module _ (setting : Setting) (S : List (List Bool)) (m : Code) (Q : State → Ty
   after_row N h post r b s e = record {
     down = record {
       left = e.left;
-      fewer = e.fewer;
       g' = r.g;
       post' = e.g' ∷ e.post';
       long = r.long;
@@ -194,6 +183,7 @@ module _ (setting : Setting) (S : List (List Bool)) (m : Code) (Q : State → Ty
           subst (λ z. PlainAfter w e.left (state (lay z S (bits_of last e.round e.stop e.bad)) (frame 0 [] m ∷ [])) Q)
           (append_assoc r.pre (r.g ∷ []) (e.g' ∷ e.post')) e.run;
     };
+    fewer = e.fewer;
     turns = elim e.turns [
       | inl (eb, (s', ts)) ↦ inl (eb, (s', (s, no_steps p (state r.g s), ts)))
       | inr (eb, ts) ↦ inr (eb, inr (s, no_steps p (state r.g s), ts))
@@ -202,10 +192,9 @@ module _ (setting : Setting) (S : List (List Bool)) (m : Code) (Q : State → Ty
 
   -- the first procedure is on top, and the rows are as they were
   abbrev down_here : (N : ℕ) (post : List (List Bool)) (r : Seated post) (q : ℕ) (s b : Bool)
-      → PlainAfter w N (state (lay (r.pre ++ r.g ∷ post) S (bits_of last q s b)) (frame 0 [] m ∷ [])) Q → Down N r.pre post
+      → PlainAfter w N (state (lay (r.pre ++ r.g ∷ post) S (bits_of last q s b)) (frame 0 [] m ∷ [])) Q → Down r.pre post
   down_here N post r q s b run = record {
     left = N;
-    fewer = omega arith;
     g' = r.g;
     post' = post;
     long = r.long;
@@ -221,7 +210,7 @@ module _ (setting : Setting) (S : List (List Bool)) (m : Code) (Q : State → Ty
   ended : (N : ℕ) (post : List (List Bool)) (r : Seated post) (q : ℕ) (s b : Bool) (fs : List Frame)
       → PlainAfter w N (state (lay (r.pre ++ r.g ∷ post) S (bits_of last q s b)) (frame 0 [] m ∷ [])) Q → Ends N post r b fs
   ended N post r q s b fs run =
-      record { down = down_here N post r q s b run; turns = inl (refl, (fs, idle p (r.g ∷ post) fs)) }
+      record { down = down_here N post r q s b run; fewer = omega arith; turns = inl (refl, (fs, idle p (r.g ∷ post) fs)) }
 
   module _ (f : ℕ) (rec : Rec f) where
     -- a run that begins with a step of the source, or with its failure
@@ -243,6 +232,7 @@ module _ (setting : Setting) (S : List (List Bool)) (m : Code) (Q : State → Ty
         unwind_back setting (moment r b) m Q single (suc a.c) (put_values a) bs (length r.pre) true M run in
         longer N M' (omega arith) post r b here (record {
           down = down_here M' post r (length r.pre) true true run';
+          fewer = omega arith;
           turns = inr (refl, inl (here, no_steps p (state r.g here), fails', refl));
         })
 

