@@ -10,6 +10,9 @@ use std::fmt::Display;
 use syntax::{print, read};
 use trees::{Proc, Program, Thread};
 
+/// A word or a text; an error if memory is refused.
+type Answer = Result<String, AllocError>;
+
 /// What is asked of a text, and what allocates for the answer.
 #[derive(Clone, Copy)]
 struct Question<'a, A: Allocator + Copy> {
@@ -23,7 +26,7 @@ struct Question<'a, A: Allocator + Copy> {
 }
 
 /// A fault in its own words, or whether something holds.
-fn shown<T: Display>(host: Global, value: &T) -> Result<String, AllocError> {
+fn shown<T: Display>(host: Global, value: &T) -> Answer {
     format!(in host; "{value}")
 }
 
@@ -52,17 +55,14 @@ fn put_widths<A: Allocator>(
 }
 
 /// `widths`: the widths of the procedures in order.
-fn widths<A: Allocator>(host: Global, sequential: &Sequential<A>) -> Result<String, AllocError> {
+fn widths<A: Allocator>(host: Global, sequential: &Sequential<A>) -> Answer {
     let mut line = String::new(host);
     put_widths(&mut line, sequential)?;
     Ok(line)
 }
 
 /// What is printed, if it is printed the same once it is read again.
-fn printed_again<A: Allocator + Copy>(
-    question: Question<'_, A>,
-    printed: &str,
-) -> Result<String, AllocError> {
+fn printed_again<A: Allocator + Copy>(question: Question<'_, A>, printed: &str) -> Answer {
     let program = match read(question.alloc, printed.as_bytes()) {
         Ok(program) => program,
         Err(fault) => return shown(question.host, &fault),
@@ -75,10 +75,7 @@ fn printed_again<A: Allocator + Copy>(
 }
 
 /// `rewrite` and `holds`: the rewriting as it is printed, and whether the line occurs in it.
-fn of_printed<A: Allocator + Copy>(
-    question: Question<'_, A>,
-    program: &Program<A>,
-) -> Result<String, AllocError> {
+fn of_printed<A: Allocator + Copy>(question: Question<'_, A>, program: &Program<A>) -> Answer {
     match print(question.alloc, program) {
         Ok(text) if question.word == "holds" => {
             shown(question.host, &has_line(text.as_str(), question.line))
@@ -92,7 +89,7 @@ fn of_printed<A: Allocator + Copy>(
 fn of_sequential<A: Allocator + Copy>(
     question: Question<'_, A>,
     sequential: &Sequential<A>,
-) -> Result<String, AllocError> {
+) -> Answer {
     match question.word {
         "fits" => String::from_str(question.host, "rewritten"),
         "widths" => widths(question.host, sequential),
@@ -101,10 +98,7 @@ fn of_sequential<A: Allocator + Copy>(
 }
 
 /// What is asked of a checked program's rewriting.
-fn rewritten<A: Allocator + Copy>(
-    question: Question<'_, A>,
-    checked: &Checked<A>,
-) -> Result<String, AllocError> {
+fn rewritten<A: Allocator + Copy>(question: Question<'_, A>, checked: &Checked<A>) -> Answer {
     let Some(rounds) = Rounds::new(question.count) else {
         return String::from_str(question.host, "none");
     };
@@ -133,7 +127,7 @@ fn put_threads<A: Allocator>(line: &mut String, threads: &[Thread<A>]) -> Result
 }
 
 /// `parts`: how many globals a program has, the names of its procedures and the offsets of its thread lines.
-fn parts<A: Allocator>(host: Global, program: &Program<A>) -> Result<String, AllocError> {
+fn parts<A: Allocator>(host: Global, program: &Program<A>) -> Answer {
     let globals = program.globals.len();
     let mut line = format!(in host; "globals {globals}")?;
     put_procedures(&mut line, &program.procs)?;
@@ -142,10 +136,7 @@ fn parts<A: Allocator>(host: Global, program: &Program<A>) -> Result<String, All
 }
 
 /// What is asked of a checked program. `check`: that no fault stands in it.
-fn of_checked<A: Allocator + Copy>(
-    question: Question<'_, A>,
-    checked: &Checked<A>,
-) -> Result<String, AllocError> {
+fn of_checked<A: Allocator + Copy>(question: Question<'_, A>, checked: &Checked<A>) -> Answer {
     match question.word {
         "check" => String::from_str(question.host, "checked"),
         "parts" => parts(question.host, checked.program()),
@@ -154,10 +145,7 @@ fn of_checked<A: Allocator + Copy>(
 }
 
 /// What is asked of a program; its fault in its own words.
-fn of_program<A: Allocator + Copy>(
-    question: Question<'_, A>,
-    program: Program<A>,
-) -> Result<String, AllocError> {
+fn of_program<A: Allocator + Copy>(question: Question<'_, A>, program: Program<A>) -> Answer {
     match check(question.alloc, program) {
         Ok(checked) => of_checked(question, &checked),
         Err(fault) => shown(question.host, &fault),
@@ -165,10 +153,7 @@ fn of_program<A: Allocator + Copy>(
 }
 
 /// What is asked of a text; its fault in its own words.
-fn of_text<A: Allocator + Copy>(
-    question: Question<'_, A>,
-    text: &str,
-) -> Result<String, AllocError> {
+fn of_text<A: Allocator + Copy>(question: Question<'_, A>, text: &str) -> Answer {
     match read(question.alloc, text.as_bytes()) {
         Ok(program) => of_program(question, program),
         Err(fault) => shown(question.host, &fault),
@@ -220,12 +205,7 @@ fn rounds(rest: &str) -> &'static str {
 }
 
 /// The answer to a case.
-pub fn words<A: Allocator + Copy>(
-    host: Global,
-    alloc: A,
-    word: &str,
-    rest: &str,
-) -> Result<String, AllocError> {
+pub fn words<A: Allocator + Copy>(host: Global, alloc: A, word: &str, rest: &str) -> Answer {
     if word == "rounds" {
         return String::from_str(host, rounds(rest));
     }

@@ -13,6 +13,23 @@ use crate::rounds::Rounds;
 use std::alloc::{AllocError, Allocator};
 use trees::Name;
 
+/// The globals in order: the copies round by round, the guesses saved, the round's bits, `stop__` and `bad__`.
+pub(crate) fn globals<N: Allocator, A: Allocator + Copy>(
+    alloc: &A,
+    rounds: Rounds,
+    xs: &[Name<N>],
+) -> Result<Vec<Name<A>, A>, AllocError>
+    ensures { IfOk result
+        (λ v. names_of v.items ≡ globals (by_names []) rounds.last (names_of xs.now)) }
+{
+    let copied = for_rounds(alloc, COPY, 0, rounds.count(), xs, Vec::new(*alloc))?;
+    let saved = for_rounds(alloc, GUESS, 1, rounds.last, xs, copied)?;
+    let bits = push_bits(alloc, rounds.bits(), saved)?;
+    let stop = push_name(alloc, "stop__", bits)?;
+    let all = push_name(alloc, "bad__", stop)?;
+    Ok(all)
+}
+
 /// Appends the globals with a mark and the number of a round to names, for some rounds, one after the other.
 fn for_rounds<N: Allocator, A: Allocator + Copy>(
     alloc: &A,
@@ -32,21 +49,4 @@ fn for_rounds<N: Allocator, A: Allocator + Copy>(
         list = numbered_all(alloc, mark, first + done, xs, list)?;
     }
     Ok(list)
-}
-
-/// The globals in order: the copies round by round, the guesses saved, the round's bits, `stop__` and `bad__`.
-pub(crate) fn globals<N: Allocator, A: Allocator + Copy>(
-    alloc: &A,
-    rounds: Rounds,
-    xs: &[Name<N>],
-) -> Result<Vec<Name<A>, A>, AllocError>
-    ensures { IfOk result
-        (λ v. names_of v.items ≡ globals (by_names []) rounds.last (names_of xs.now)) }
-{
-    let copied = for_rounds(alloc, COPY, 0, rounds.count(), xs, Vec::new(*alloc))?;
-    let saved = for_rounds(alloc, GUESS, 1, rounds.last, xs, copied)?;
-    let bits = push_bits(alloc, rounds.bits(), saved)?;
-    let stop = push_name(alloc, "stop__", bits)?;
-    let all = push_name(alloc, "bad__", stop)?;
-    Ok(all)
 }
