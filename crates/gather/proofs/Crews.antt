@@ -34,7 +34,7 @@ use Rattle.jobs.specs.declared.jobs.JobResult.{JobResult}
 use Rattle.jobs.specs.declared.jobs.JobResult.TheVariants.{Run, Declined}
 use Rattle.jobs.specs.Jobs.{first_of, second_of, IsResultOf, AreResults}
 use Rattle.gather.specs.Lanes.{lane_start, MayWork, RunsSo, DeclinesSo, AreOwn, AreLanes}
-use Rattle.gather.proofs.Full.{got_map}
+use Rattle.path_sets.proofs.PlaceLemmas.{got_map}
 
 -- a pass of a new board
 at_fresh : {M W : Type 0} (id : TableId) (budget : ℕ) (s : BoardState M W) (first count j : ℕ) (p : Sight M W)

@@ -33,7 +33,6 @@ use Rattle.path_sets.specs.EdgeLimits.{most_of}
 use Rattle.summaries.specs.Mails.{AddressedMail, mail}
 use Rattle.summaries.specs.Tables.{graph_of, procedure_of, limit_of, answers_of, failure, IsTable, IsQuiet}
 use Rattle.summaries.specs.Together.{opening, IsTaken, IsReceived, HaveLimit, AreFull}
-use Rattle.summaries.proofs.Steps.{get_map}
 use Rattle.switchboard.specs.declared.calls.Abort.{Abort}
 use Rattle.switchboard.specs.declared.calls.Cause.{Cause}
 use Rattle.switchboard.specs.declared.calls.Cause.TheVariants.{NoWorker}
@@ -47,14 +46,8 @@ use Rattle.procedure_worker.specs.Works.{Start, begun, mails_of, EndsSo, HasServ
 use Rattle.gather.specs.Ends.{HaveEnded}
 use Rattle.gather.specs.Gathered.{NoneFailed, AllClosed}
 use Rattle.gather.specs.Through.{AreThrough}
-use Rattle.gather.proofs.Lists.{member_at, place_of, posted_part, post_in, take_own}
-
--- what is among the images at a place is the image of what is there
-pub got_map : {X Y : Type 0} (f : X → Y) (xs : List X) (q : ℕ) (y : Y) → slice_get (map f xs) q ≡ Some y
-    → (x : X) × (slice_get xs q ≡ Some x) × (f x ≡ y)
-got_map f [] q y e = absurd (none-some y e)
-got_map f (x ∷ xs) zero y e = (x, refl, same_Some (f x) y e)
-got_map f (x ∷ xs) (suc q) y e = got_map f xs q y e
+use Rattle.gather.proofs.Lists.{posted_part, post_in, take_own}
+use Rattle.path_sets.proofs.PlaceLemmas.{at_index, index_of, get_map, got_map}
 
 -- a mail is that of a post
 got_mail : (sent : List (ℕ × Due)) (x : AddressedMail) → Member x (mails_of sent)
@@ -129,7 +122,7 @@ module _ {G A S : Type 0} where
       near_pass q s is = subst (λ n. q < n) ended.each_pass (slice_get_within passes q s is)
 
       end_there : (q : ℕ) (o : Outcome G A S) → slice_get outcomes q ≡ Some o → Member o.end (ends_of outcomes)
-      end_there q o is = member_at (ends_of outcomes) q o.end (get_map (λ (x : Outcome G A S). x.end) outcomes q o is)
+      end_there q o is = at_index (ends_of outcomes) o.end q (get_map (λ (x : Outcome G A S). x.end) outcomes q o is)
 
       -- if some pass has made an abort, some end names a cause
       abort_named : (q : ℕ) (s : Sight Due (Graphs G)) → slice_get passes q ≡ Some s → s.made ≡ true
@@ -181,7 +174,7 @@ module _ {G A S : Type 0} where
 
         pub all_closed : AllClosed (ends_of outcomes)
         all_closed e there =
-            let (q, is) = place_of (ends_of outcomes) e there in
+            let (q, is) = index_of (ends_of outcomes) e there in
             let (o, at, same) = got_map (λ (x : Outcome G A S). x.end) outcomes q e is in
             sym same ∙ (served q o at).shut
 
@@ -228,7 +221,7 @@ module _ {G A S : Type 0} where
         received : (s to : ℕ) (m : Due) (t : ℕ) → Member (Posted to s m t) settled.order → IsReceived ts (mail to m)
         received s to m t there k same =
             let order = settled.order in
-            let (i, at) = place_of order (Posted to s m t) there in
+            let (i, at) = index_of order (Posted to s m t) there in
             let near = settled.lawful.inside i (Posted to s m t) at in
             let all = all_taken (part to order) (settled.lawful.legal to) (order_closed to) in
             let taken : Member (s, m) (takes (part to order)) = subst (Member (s, m)) (sym all) (post_in order to s m t there) in

@@ -1,6 +1,5 @@
 -- What a pass's own list has of an order, and what a mailbox's history has of it.
-use Rattle.std.proofs.Common.{◌≡◌, inl, inr, ℕ, List, [], ◌∷◌, zero, suc, Some, slice_get, sym, ap, subst}
-use Rattle.std.proofs.lemmas.Option.{none-some, same_Some}
+use Rattle.std.proofs.Common.{◌≡◌, inl, inr, ℕ, List, [], ◌∷◌, sym, ap, subst}
 use Rattle.std.proofs.lemmas.Bool.{cases_eq}
 use Rattle.language.specs.Lists.{Member}
 use Rattle.post_ledger.specs.declared.event.Event.{Event}
@@ -11,18 +10,6 @@ use Rattle.post_ledger.specs.History.{posts, takes}
 use Rattle.post_ledger.specs.Orders.{mailbox_of, event_of, maker_of, part, own}
 use Rattle.post_ledger.proofs.Orders.{part_here, part_else, own_here, own_else}
 use Rattle.procedure_worker.specs.Own.{messages_taken, posted_in}
-
--- what is at a place is a member
-pub member_at : {X : Type 0} (xs : List X) (i : ℕ) (x : X) → slice_get xs i ≡ Some x → Member x xs
-member_at [] i x e = absurd (none-some x e)
-member_at (y ∷ xs) zero x e = inl (sym (same_Some y x e))
-member_at (y ∷ xs) (suc i) x e = inr (member_at xs i x e)
-
--- a member is at some place
-pub place_of : {X : Type 0} (xs : List X) (x : X) → Member x xs → (i : ℕ) × (slice_get xs i ≡ Some x)
-place_of [] x h = absurd h
-place_of (y ∷ xs) x (inl e) = (0, ap Some (sym e))
-place_of (y ∷ xs) x (inr h) = let (i, is) = place_of xs x h in (suc i, is)
 
 module _ {M : Type 0} where
   -- an entry of a pass's own list is one of the order, and the pass made it

@@ -41,20 +41,16 @@ use Rattle.procedure_worker.specs.Own.{messages_taken, posted_in}
 use Rattle.gather.specs.Ends.{HaveEnded}
 use Rattle.gather.specs.Gathered.{NoneFailed}
 use Rattle.gather.specs.Reports.{posted_to, sender_of, AreDueOnce}
-use Rattle.gather.proofs.Lists.{place_of, member_at, in_own, take_there}
+use Rattle.gather.proofs.Lists.{in_own, take_there}
 use Rattle.gather.proofs.Posts.{none_twice_of_map, posted_member, post_there, posted_once, taken_part, own_nothing}
 use Rattle.gather.proofs.Full.{ends_of, Served, outcome_at, served, some_procedure, order_closed, has_tables, table_at, ts, full}
+use Rattle.path_sets.proofs.PlaceLemmas.{at_index, index_of, some_member}
 
 -- the procedure whose flow graph sends a message is its sender
 sends_own : {A : Type 0} (graph : Graph A) (c : ℕ) (M : NumberedMessage → Type 0) (n s : ℕ) (k : NumberedMessage)
     → Sends graph c M s k → c ≡ sender_of n (due_of k)
 sends_own graph c M n s k (asks a m v s' e m' flow reached at enters) = refl
 sends_own graph c M n s k (tells a v s' took reached) = refl
-
--- what is in a list that is not empty
-some_member : {X : Type 0} (xs : List X) (n : ℕ) → n < length xs → (x : X) × Member x xs
-some_member [] n h = absurd (omega (arith, h))
-some_member (x ∷ xs) n h = (x, inl refl)
 
 abbrev post_of : Due → Entry Due → Due
 post_of d (Posted a b c t) = c
@@ -83,7 +79,7 @@ module _ {G A S : Type 0} (members : S → List Triple) (graphs : Graphs G) (lim
       let job = settled.lawful.jobs (suc i) to s m t (omega arith) at in
       let (x, took) = some_member (takes (part s (take (suc i) settled.order))) t job.0 in
       let there = take_there s (take (suc i) settled.order) x took in
-      let (j, where_it_is) = place_of settled.order (Taken s x.0 x.1)
+      let (j, where_it_is) = index_of settled.order (Taken s x.0 x.1)
       (subst (Member (Taken s x.0 x.1)) (take-append-drop (suc i) settled.order)
       (member_left (Taken s x.0 x.1) (take (suc i) settled.order) (drop (suc i) settled.order) there)) in
       settled.lawful.inside j (Taken s x.0 x.1) where_it_is
@@ -95,7 +91,7 @@ module _ {G A S : Type 0} (members : S → List Triple) (graphs : Graphs G) (lim
   once_outside s far =
       let (to, m, rest, is) = settled.lawful.opens in
       let nothing : own s rest ≡ [] = own_nothing s rest (λ e there same.
-      let (i, at) = place_of rest e there in
+      let (i, at) = index_of rest e there in
       let inside = maker_inside i e (subst (λ l. slice_get l (suc i) ≡ Some e) (sym is) at) in
       omega (arith, inside, same, far)) in
       subst (λ l. NoneTwice (posted_in (own s l))) (sym is) (first to m rest nothing)
@@ -150,7 +146,7 @@ module _ {G A S : Type 0} (members : S → List Triple) (graphs : Graphs G) (lim
       let sent = v.served.0 in
       let mine : Member (q, m) (posted_in (own s settled.order)) =
       posted_member (own s settled.order) q s m t
-      (in_own settled.order (Posted q s m t) (member_at settled.order (suc i) (Posted q s m t) at)) in
+      (in_own settled.order (Posted q s m t) (at_index settled.order (Posted q s m t) (suc i) at)) in
       let listed : Member (q, m) v.sent =
       subst (Member (q, m)) sent.0.stands.posts (subst (λ l. Member (q, m) (posted_in l)) (settled.own s v.pass v.at) mine) in
       let answered : Member (mail q m) (answers_of v.table) =
@@ -169,7 +165,7 @@ module _ {G A S : Type 0} (members : S → List Triple) (graphs : Graphs G) (lim
     posted_due k there =
         let (x, among, is) = map_member (λ (y : ℕ × Due). y.1) (posts (part q settled.order)) (due_of k) there in
         let (t, posted) = post_there q settled.order x among in
-        let (i, at) = place_of settled.order (Posted q x.0 x.1 t) posted in
+        let (i, at) = index_of settled.order (Posted q x.0 x.1 t) posted in
         let (o, here) = outcome q near in
         let v = serving q o here in
         let fits = settled.fitting q v.pass v.at i q x.0 x.1 t at in
@@ -198,12 +194,12 @@ module _ {G A S : Type 0} (members : S → List Triple) (graphs : Graphs G) (lim
     pub due_once : AreDueOnce p q (part q settled.order)
     due_once = record {
       once = posted_once q settled.order own_once (λ s s' m t t' a b.
-          let (i, at) = place_of settled.order (Posted q s m t) a in
-          let (j, there) = place_of settled.order (Posted q s' m t') b in
+          let (i, at) = index_of settled.order (Posted q s m t) a in
+          let (j, there) = index_of settled.order (Posted q s' m t') b in
           by_sender q s m t i at ∙ sym (by_sender q s' m t' j there));
       all = λ k. (posted_due k, due_posted k);
       senders = λ s d there.
           let (t, posted) = post_there q settled.order (s, d) there in
-          let (i, at) = place_of settled.order (Posted q s d t) posted in
+          let (i, at) = index_of settled.order (Posted q s d t) posted in
           by_sender q s d t i at ∙ ap (λ n. sender_of n d) drawn.2.0;
     }

@@ -15,7 +15,6 @@ use Rattle.summaries.specs.declared.due.Due.{Due}
 use Rattle.summaries.specs.declared.table.Table.{Table}
 use Rattle.summaries.specs.Effects.{Effect}
 use Rattle.summaries.specs.Together.{AreFull, AreReadOff, HaveLimit}
-use Rattle.summaries.proofs.Steps.{get_map}
 use Rattle.procedure_worker.specs.declared.outcome.End.TheVariants as end
 use Rattle.procedure_worker.specs.declared.outcome.Outcome.{Outcome}
 use Rattle.switchboard.specs.declared.calls.Cause.{Cause}
@@ -26,6 +25,7 @@ use Rattle.gather.specs.Findings.{closed_with, finding_end, ends_in, AreLeftOf}
 use Rattle.gather.specs.Ends.{AreOfBoard}
 use Rattle.gather.specs.Gathered.{NoneFailed, AllClosed, AreRead}
 use Rattle.gather.proofs.Full.{ends_of, outcome_of, tables_all, ts, served, all_closed, shut, full, limits}
+use Rattle.path_sets.proofs.PlaceLemmas.{get_map}
 
 module _ {A : Type 0} where
   ends_more : (fs : List (Finding A)) (f : Finding A) → ends_in (fs ++ f ∷ []) ≡ ends_in fs ++ finding_end f ∷ []

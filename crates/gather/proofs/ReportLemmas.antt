@@ -43,9 +43,10 @@ use Rattle.gather.specs.Ends.{HaveEnded, HaveLeft, AreOfBoard}
 use Rattle.gather.specs.Gathered.{verdict_for, NoneFailed, AllClosed, IsCause, IsGathered}
 use Rattle.gather.specs.Reports.{AreDueOnce, IsFound, IsNoReport, IsTabulated}
 use Rattle.gather.specs.Through.{AreThrough}
-use Rattle.gather.proofs.Full.{ends_of, got_map, through}
+use Rattle.gather.proofs.Full.{ends_of, through}
 use Rattle.gather.proofs.ReadingLemmas.{same_ends}
 use Rattle.gather.proofs.PostedLemmas.{due_once}
+use Rattle.path_sets.proofs.PlaceLemmas.{got_map}
 
 -- if every end is at the close, none names a cause
 none_failed : (ends : List End) → AllClosed ends → NoneFailed ends

@@ -1,6 +1,6 @@
 -- A list whose items come one after the other, and what is pushed for each.
-use Rattle.std.proofs.Common.{◌≡◌, inl, inr, ℕ, zero, suc, ◌<◌, ◌≤◌, List, [], ◌∷◌}
-use Rattle.std.proofs.Common.{◌++◌, Some, slice_get, length, take, refl, sym, ap, ◌∙◌, subst, arith, append_assoc, length-append}
+use Rattle.std.proofs.Common.{◌≡◌, inl, inr, ℕ, ◌<◌, ◌≤◌, List, [], ◌∷◌}
+use Rattle.std.proofs.Common.{◌++◌, Some, slice_get, length, refl, sym, ap, ◌∙◌, subst, arith, append_assoc, length-append}
 use Rattle.std.proofs.lemmas.List.{append-nil}
 use Rattle.std.proofs.lemmas.Option.{same_Some, slice_get_within}
 use Rattle.post_ledger.proofs.Histories.{at_push_cases, at_seam}
@@ -34,12 +34,6 @@ module _ {X : Type 0} where
   pub come_same : (ys rest all : List X) → ys ++ rest ≡ all → length rest ≡ 0 → ys ≡ all
   come_same ys [] all is none = sym (append-nil ys) ∙ is
   come_same ys (x ∷ rest) all is none = absurd (omega (arith, none))
-
-  pub take_whole : (xs : List X) (n : ℕ) → length xs ≤ n → take n xs ≡ xs
-  take_whole [] zero h = refl
-  take_whole [] (suc n) h = refl
-  take_whole (x ∷ xs) zero h = absurd (omega (arith, h))
-  take_whole (x ∷ xs) (suc n) h = ap (λ l. x ∷ l) (take_whole xs n (omega (arith, h)))
 
 -- if R holds for the items of two lists by their places, it holds with one more item of the second, if it
 -- holds for that one

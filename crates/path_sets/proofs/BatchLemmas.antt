@@ -3,13 +3,13 @@ use Rattle.std.proofs.Common.{◌≡◌, ◌⊎◌, ◌<◌, ◌≤◌, ◌+◌,
 use Rattle.std.proofs.Common.{List, [], ◌∷◌, ◌++◌, length}
 use Rattle.std.proofs.Common.{None, Some, slice_get, slice_set, inl, inr, refl, sym, ap, ◌∙◌, subst}
 use Rattle.std.proofs.Common.{true≢false, ◌==◌, ◌%◌, ◌↔◌, arith}
-use Rattle.std.specs.Prelude.{Option, Result, Ok, Err, OnErr, IfSome}
+use Rattle.std.specs.Prelude.{Option}
 use Rattle.std.specs.List.{IsDistinct}
 use Rattle.std.specs.Map.{keys_of, lookup}
 use Rattle.std.specs.Option.{option_map_or}
 use Rattle.std.proofs.lemmas.Nat.Bits.{bit_at-zero}
 use Rattle.std.proofs.lemmas.Bool.{cases_eq}
-use Rattle.std.proofs.lemmas.Option.{none-some, same_Some}
+use Rattle.std.proofs.lemmas.Option.{same_Some, slice_get_past, slice_get_within}
 use Rattle.language.specs.Lists.{Member}
 use Rattle.language.proofs.Members.{member_left, member_right, member_append}
 use Rattle.path_sets.specs.declared.diagrams.batch.Batch.{Batch}
@@ -26,15 +26,17 @@ use Rattle.path_sets.specs.Members.{all_edges, Covers, IsEdgeThere, PutsEdge}
 use Rattle.path_sets.specs.Quads.{points_of}
 use Rattle.path_sets.specs.GatheredKeys.{mask_key_at, mask_key_in, masks_of, gathered_key_eq}
 use Rattle.path_sets.specs.Triples.{Triple}
-use Rattle.path_sets.proofs.InsertionLemmas.{at_index, edges_append, index_of}
+use Rattle.path_sets.proofs.InsertionLemmas.{edges_append}
 use Rattle.path_sets.proofs.EdgesLemmas.{in_group, only_in_group}
 use Rattle.path_sets.proofs.MaskLemmas.{bits_hold, bits_known}
-use Rattle.path_sets.proofs.GatheredKeyLemmas.{at_masks, distinct_masks, in_gathered_key, item_there, key_masks, not_found, one_index}
+use Rattle.path_sets.proofs.GatheredKeyLemmas.{at_masks, distinct_masks, in_gathered_key, key_masks, one_index}
 use Rattle.path_sets.proofs.GatheredKeyLemmas.{one_gathered_key}
 use Rattle.path_sets.proofs.GatheredKeyLemmas.{mask_key_is, masks_key, masks_stay, still_within}
 use Rattle.path_sets.proofs.RootLemmas.{diagram_self}
 use Rattle.path_sets.proofs.TakesLemmas.{takes_nothing, takes_of}
 use Rattle.path_sets.proofs.QuadLemmas.{no_points}
+use Rattle.path_sets.proofs.KeyLemmas.{not_found}
+use Rattle.path_sets.proofs.PlaceLemmas.{at_index, index_of, item_there, set_elsewhere, set_there}
 use Rattle.path_sets.proofs.MembersLemmas.{any_member, member_any, members_stay}
 
 -- the key of an entry is a key
@@ -43,76 +45,40 @@ key_of [] c m = elim m [ ]
 key_of (e ∷ es) c (inl is) = inl (ap (λ h. h.0) is)
 key_of (e ∷ es) c (inr later) = inr (key_of es c later)
 
--- no entries
-pub none_of : {K V : Type 0} (es : List (K × V)) → length es ≡ 0 → es ≡ []
-none_of [] h = refl
-none_of (e ∷ es) h = absurd (omega (arith, h))
-
--- what follows if a call fails, or if there is a value
-pub on_err : {T E P Q : Type 0} (r : Result T E) → (P → Q) → OnErr r P → OnErr r Q
-on_err (Ok x) f h = tt
-on_err (Err e) f h = f h
-
-pub if_some : {T : Type 0} (P Q : T → Type 0) (o : Option T) → ((x : T) → P x → Q x) → IfSome o P → IfSome o Q
-if_some P Q None f h = tt
-if_some P Q (Some x) f h = f x h
-
--- what is there stays there when more is appended
-pub still_there : {X : Type 0} (xs ys : List X) (i : ℕ) (x : X) → slice_get xs i ≡ Some x → slice_get (xs ++ ys) i ≡ Some x
-still_there [] ys i x at = absurd (none-some x at)
-still_there (y ∷ xs) ys zero x at = at
-still_there (y ∷ xs) ys (suc i) x at = still_there xs ys i x at
-
--- what is set is there, and the others stay
-pub set_there : {X : Type 0} (xs : List X) (k : ℕ) (x : X) → k < length xs → slice_get (slice_set xs k x) k ≡ Some x
-set_there [] k x less = absurd (omega (arith, less))
-set_there (y ∷ xs) zero x less = refl
-set_there (y ∷ xs) (suc k) x less = set_there xs k x (omega (arith, less))
-
-set_elsewhere : {X : Type 0} (xs : List X) (k : ℕ) (x : X) (j : ℕ) → (j ≡ k → ⊥)
-    → slice_get (slice_set xs k x) j ≡ slice_get xs j
-set_elsewhere [] k x j ne = refl
-set_elsewhere (y ∷ xs) zero x zero ne = absurd (ne refl)
-set_elsewhere (y ∷ xs) zero x (suc j) ne = refl
-set_elsewhere (y ∷ xs) (suc k) x zero ne = refl
-set_elsewhere (y ∷ xs) (suc k) x (suc j) ne = set_elsewhere xs k x j (λ same. ne (ap suc same))
-
 -- the diagram of a path edge of a key
 pub diagram_of_edge : (r : DiagramKey) (values bit : ℕ) → bit < 64 → diagram_at (edge_at (mask_key_in r values) bit) ≡ r
 diagram_of_edge r values bit small =
     let block : (64 * r.block + bit) / 64 ≡ r.block = omega (arith, small) in
     λ j. record { entry = r.entry; block = block j }
 
+-- so the diagram of a key is that of its path edges
+key_diagram : (diagrams : List DiagramKey) (s : GatheredKey) (bit : ℕ) → s.diagram < length diagrams → bit < 64
+    → slice_get diagrams s.diagram ≡ Some (diagram_at (edge_at (mask_key_at diagrams s) bit))
+key_diagram diagrams s bit inside small =
+    let (r, at) = item_there diagrams s.diagram inside in
+    at ∙ ap Some (sym (ap (λ p. diagram_at (edge_at p bit)) (mask_key_is diagrams s r at) ∙ diagram_of_edge r s.values bit small))
+
 module _ {A : Type 0} where
+  abbrev entries : Option (Batch A) → List (GatheredKey × ℕ)
+  entries batch = option_map_or (λ (b : Batch A). b.masks.entries) batch []
+
   pub gathered_is : (bs : List (Batch A)) (k : ℕ) (b : Batch A) → slice_get bs k ≡ Some b → gathered_at bs k ≡ b.masks.entries
-  gathered_is [] k b at = absurd (none-some b at)
-  gathered_is (c ∷ bs) zero b at = ap (λ (h : Batch A). h.masks.entries) (same_Some c b at)
-  gathered_is (c ∷ bs) (suc k) b at = gathered_is bs k b at
+  gathered_is bs k b at = ap entries at
 
   pub gathered_behind : (bs : List (Batch A)) (k : ℕ) → length bs ≤ k → gathered_at bs k ≡ []
-  gathered_behind [] k behind = refl
-  gathered_behind (c ∷ bs) zero behind = absurd (omega (arith, behind))
-  gathered_behind (c ∷ bs) (suc k) behind = gathered_behind bs k (omega (arith, behind))
+  gathered_behind bs k behind = ap entries (slice_get_past bs k behind)
 
   -- a batch that is set is there, and the others stay
   pub set_within : (bs : List (Batch A)) (k : ℕ) (w : Batch A) → k < length bs → gathered_at (slice_set bs k w) k ≡ w.masks.entries
-  set_within [] k w less = absurd (omega (arith, less))
-  set_within (c ∷ bs) zero w less = refl
-  set_within (c ∷ bs) (suc k) w less = set_within bs k w (omega (arith, less))
+  set_within bs k w less = ap entries (set_there bs k w less)
 
   pub set_here : (bs : List (Batch A)) (k : ℕ) (b w : Batch A) → slice_get bs k ≡ Some b
       → gathered_at (slice_set bs k w) k ≡ w.masks.entries
-  set_here [] k b w at = absurd (none-some b at)
-  set_here (c ∷ bs) zero b w at = refl
-  set_here (c ∷ bs) (suc k) b w at = set_here bs k b w at
+  set_here bs k b w at = set_within bs k w (slice_get_within bs k b at)
 
   pub set_others : (bs : List (Batch A)) (k : ℕ) (w : Batch A) (j : ℕ) → (j ≡ k → ⊥)
       → gathered_at (slice_set bs k w) j ≡ gathered_at bs j
-  set_others [] k w j ne = refl
-  set_others (c ∷ bs) zero w zero ne = absurd (ne refl)
-  set_others (c ∷ bs) zero w (suc j) ne = refl
-  set_others (c ∷ bs) (suc k) w zero ne = refl
-  set_others (c ∷ bs) (suc k) w (suc j) ne = set_others bs k w j (λ same. ne (ap suc same))
+  set_others bs k w j ne = ap entries (set_elsewhere bs k w j ne)
 
   -- one more batch, which is empty, makes no difference
   pub one_more_gathered : (bs : List (Batch A)) (w : Batch A) (k : ℕ) → w.masks.entries ≡ []
@@ -179,22 +145,36 @@ module _ {A : Type 0} where
         ∙ ap (λ ts. mask_edges (masks_of diagrams c.masks.entries) ++ ts) (same_edges bs k b w at same)
         ∙ sym (edges_append (masks_of diagrams c.masks.entries) (masks_in diagrams bs))
 
+    -- a path edge of a batch is of the diagram of one of its keys
+    of_key : (bs : List (Batch A)) → AllWithin diagrams bs → (k : ℕ) (t : Triple)
+        → Member t (mask_edges (masks_of diagrams (gathered_at bs k)))
+        → (s : GatheredKey) × Member s (keys_of (gathered_at bs k)) × (slice_get diagrams s.diagram ≡ Some (diagram_at t))
+    of_key bs within k t m =
+        let (c, mem, is) = in_gathered_key diagrams (gathered_at bs k) t m in
+        let key = key_of (gathered_at bs k) c mem in
+        let (r, at) = item_there diagrams c.0.diagram (within k c.0 key) in
+        let mask_key = mask_key_is diagrams c.0 r at in
+        let same : r ≡ diagram_at t = λ n. record {
+          entry = (ap (λ (p : MaskKey). p.entry) (sym mask_key) ∙ sym is.0) n;
+          block = (ap (λ (p : MaskKey). p.block) (sym mask_key) ∙ sym is.1) n;
+        } in
+        (c.0, key, at ∙ ap Some same)
+
     module _ (homes : List ℕ) (bs : List (Batch A)) (home : AreHome homes bs) (within : AllWithin diagrams bs)
         (distinct : IsDistinct diagram_eq diagrams) where
       -- a path edge of a batch is of a diagram that has this batch, so it is in no other
       pub one_home : (j k i : ℕ) (t : Triple) → Member t (mask_edges (masks_of diagrams (gathered_at bs j)))
           → slice_get diagrams i ≡ Some (diagram_at t) → slice_get homes i ≡ Some k → j ≡ k
       one_home j k i t m there own =
-          let (c, mem, is) = in_gathered_key diagrams (gathered_at bs j) t m in
-          let key = key_of (gathered_at bs j) c mem in
-          let (r, at) = item_there diagrams c.0.diagram (within j c.0 key) in
-          let mask_key = mask_key_is diagrams c.0 r at in
-          let same : r ≡ diagram_at t = λ n. record {
-            entry = (ap (λ (p : MaskKey). p.entry) (sym mask_key) ∙ sym is.0) n;
-            block = (ap (λ (p : MaskKey). p.block) (sym mask_key) ∙ sym is.1) n;
-          } in
-          let diagram = one_index diagrams distinct c.0.diagram i (diagram_at t) (at ∙ ap Some same) there in
-          same_Some j k (sym (home j c.0 key) ∙ ap (slice_get homes) diagram ∙ own)
+          let (s, key, at) = of_key bs within j t m in
+          let diagram = one_index diagrams distinct s.diagram i (diagram_at t) at there in
+          same_Some j k (sym (home j s key) ∙ ap (slice_get homes) diagram ∙ own)
+
+    -- what is taken of a batch is taken of all
+    takes_all : (ss : List (Batch A)) (k : ℕ) (ns ms : List Quad) (rs qs : List (DiagramKey × ℕ))
+        → TakesGiven (λ t. Member t (mask_edges (masks_of diagrams (gathered_at ss k)))) ns ms rs qs
+        → TakesGiven (λ t. Member t (mask_edges (masks_in diagrams ss))) ns ms rs qs
+    takes_all ss k ns ms rs qs = takes_of _ _ ns ms rs qs (of_batch ss k)
 
     -- one batch is replaced by another
     module _ (ss ts : List (Batch A)) (k : ℕ) (others : (j : ℕ) → (j ≡ k → ⊥) → gathered_at ts j ≡ gathered_at ss j) where
@@ -264,10 +244,7 @@ module _ {A : Type 0} where
           → ((t : Triple) → Member t (mask_edges (masks_of diagrams (gathered_at ss k))) → merged_has ms qs t ≡ true)
           → all_edges ms qs (masks_in diagrams ts) ≡ all_edges ns rs (masks_in diagrams ss)
       members_merged ns ms rs qs none takes done =
-          members_stay ns ms rs qs (masks_in diagrams ss) (masks_in diagrams ts)
-          (takes_of (λ t. Member t (mask_edges (masks_of diagrams (gathered_at ss k))))
-          (λ t. Member t (mask_edges (masks_in diagrams ss))) ns ms rs qs
-          (of_batch ss k) takes)
+          members_stay ns ms rs qs (masks_in diagrams ss) (masks_in diagrams ts) (takes_all ss k ns ms rs qs takes)
           (λ t m. elim (new_or_old t m) [
             | inl never ↦ absurd (subst (λ es. Member t (mask_edges (masks_of diagrams es)) → ⊥) (sym none) (λ n. elim n [ ]) never)
             | inr old ↦ old
@@ -279,50 +256,46 @@ module _ {A : Type 0} where
         → TakesGiven (λ t. Member t (mask_edges (masks_of diagrams (gathered_at ss k)))) ns ms rs qs
         → all_edges ms qs (masks_in diagrams ss) ≡ all_edges ns rs (masks_in diagrams ss)
     members_still ss k ns ms rs qs takes =
-        members_stay ns ms rs qs (masks_in diagrams ss) (masks_in diagrams ss)
-        (takes_of (λ t. Member t (mask_edges (masks_of diagrams (gathered_at ss k))))
-        (λ t. Member t (mask_edges (masks_in diagrams ss))) ns ms rs qs
-        (of_batch ss k) takes)
+        members_stay ns ms rs qs (masks_in diagrams ss) (masks_in diagrams ss) (takes_all ss k ns ms rs qs takes)
         (λ t m. m) (λ t m. inr m)
 
   -- one batch is replaced by another
   module _ (ss ts : List (Batch A)) (k : ℕ) (others : (j : ℕ) → (j ≡ k → ⊥) → gathered_at ts j ≡ gathered_at ss j) where
+    -- what holds for the keys of the old batches holds for those of the new ones, if it does for those of the one that is new
+    each_set : (P : ℕ → GatheredKey → Type 0) → ((j : ℕ) (q : GatheredKey) → Member q (keys_of (gathered_at ss j)) → P j q)
+        → ((q : GatheredKey) → Member q (keys_of (gathered_at ts k)) → P k q)
+        → (j : ℕ) (q : GatheredKey) → Member q (keys_of (gathered_at ts j)) → P j q
+    each_set P old new j q m = elim (cases_eq j k) [
+      | inl is ↦ subst (λ n. P n q) (sym is) (new q (subst (λ n. Member q (keys_of (gathered_at ts n))) is m))
+      | inr ne ↦ old j q (subst (λ es. Member q (keys_of es)) (others j ne) m)
+    ]
+
+    abbrev HasHome : List ℕ → ℕ → GatheredKey → Type 0
+    HasHome homes j q = slice_get homes q.diagram ≡ Some j
+
+    abbrev IsWithin : List DiagramKey → ℕ → GatheredKey → Type 0
+    IsWithin diagrams j q = q.diagram < length diagrams
+
     pub home_set : (homes : List ℕ) (s : GatheredKey) → AreHome homes ss → slice_get homes s.diagram ≡ Some k
         → ((q : GatheredKey) → Member q (keys_of (gathered_at ts k)) → Member q (keys_of (gathered_at ss k)) ⊎ (q ≡ s))
         → AreHome homes ts
-    home_set homes s home own keys j q m = elim (cases_eq j k) [
-      | inl is ↦ elim (keys q (subst (λ n. Member q (keys_of (gathered_at ts n))) is m)) [
-        | inl was ↦ home k q was ∙ ap Some (sym is)
-        | inr same ↦ ap (λ (x : GatheredKey). slice_get homes x.diagram) same ∙ own ∙ ap Some (sym is)
-      ]
-      | inr ne ↦ home j q (subst (λ es. Member q (keys_of es)) (others j ne) m)
-    ]
+    home_set homes s home own keys = each_set (HasHome homes) home
+        (λ q m. elim (keys q m) [ inl was ↦ home k q was | inr same ↦ subst (HasHome homes k) (sym same) own ])
 
     pub within_set : (diagrams : List DiagramKey) (s : GatheredKey) → AllWithin diagrams ss → s.diagram < length diagrams
         → ((q : GatheredKey) → Member q (keys_of (gathered_at ts k)) → Member q (keys_of (gathered_at ss k)) ⊎ (q ≡ s))
         → AllWithin diagrams ts
-    within_set diagrams s within own keys j q m = elim (cases_eq j k) [
-      | inl is ↦ elim (keys q (subst (λ n. Member q (keys_of (gathered_at ts n))) is m)) [
-        | inl was ↦ within k q was
-        | inr same ↦ subst (λ (x : GatheredKey). x.diagram < length diagrams) (sym same) own
-      ]
-      | inr ne ↦ within j q (subst (λ es. Member q (keys_of es)) (others j ne) m)
-    ]
+    within_set diagrams s within own keys = each_set (IsWithin diagrams) within
+        (λ q m. elim (keys q m) [ inl was ↦ within k q was | inr same ↦ subst (IsWithin diagrams k) (sym same) own ])
 
     no_key : gathered_at ts k ≡ [] → (q : GatheredKey) → Member q (keys_of (gathered_at ts k)) → ⊥
-    no_key none q m = subst (λ es. Member q (keys_of es) → ⊥) (sym none) (λ never. elim never [ ]) m
+    no_key none q m = subst (λ es. Member q (keys_of es)) none m
 
     pub home_cleared : (homes : List ℕ) → AreHome homes ss → gathered_at ts k ≡ [] → AreHome homes ts
-    home_cleared homes home none j q m = elim (cases_eq j k) [
-      | inl is ↦ absurd (no_key none q (subst (λ n. Member q (keys_of (gathered_at ts n))) is m))
-      | inr ne ↦ home j q (subst (λ es. Member q (keys_of es)) (others j ne) m)
-    ]
+    home_cleared homes home none = each_set (HasHome homes) home (λ q m. absurd (no_key none q m))
 
     pub within_cleared : (diagrams : List DiagramKey) → AllWithin diagrams ss → gathered_at ts k ≡ [] → AllWithin diagrams ts
-    within_cleared diagrams within none j q m = elim (cases_eq j k) [
-      | inl is ↦ absurd (no_key none q (subst (λ n. Member q (keys_of (gathered_at ts n))) is m))
-      | inr ne ↦ within j q (subst (λ es. Member q (keys_of es)) (others j ne) m)
-    ]
+    within_cleared diagrams within none = each_set (IsWithin diagrams) within (λ q m. absurd (no_key none q m))
 
     pub covers_set : (ns : List Quad) (rs : List (DiagramKey × ℕ)) → CoversEach ns rs ss
         → Covers ns rs (masks_of (keys_of rs) (gathered_at ts k)) → CoversEach ns rs ts
@@ -391,11 +364,8 @@ module _ {A : Type 0} where
     puts_in homes ns rs bit home own within distinct inside small added puts =
         let diagrams = keys_of rs in
         let x = edge_at (mask_key_at diagrams s) bit in
-        let (r, here) = item_there diagrams s.diagram inside in
-        let diagram = here ∙ ap Some
-        (sym (ap (λ p. diagram_at (edge_at p bit)) (mask_key_is diagrams s r here) ∙ diagram_of_edge r s.values bit small)) in
         puts_all diagrams bs set k (set_others bs k w) ns rs x
-        (λ j m. one_home diagrams homes bs home within distinct j k s.diagram x m diagram own)
+        (λ j m. one_home diagrams homes bs home within distinct j k s.diagram x m (key_diagram diagrams s bit inside small) own)
         (λ e. same_edges diagrams bs k b w at
         (ap (λ es. mask_edges (masks_of diagrams es)) (sym (set_here bs k b w at)) ∙ e
         ∙ ap (λ es. mask_edges (masks_of diagrams es)) (gathered_is bs k b at)))
@@ -414,9 +384,7 @@ module _ {A : Type 0} where
         | inl was ↦ covers j p bit small key was
         | inr given ↦
             let (s, own, is) = masks_key (keys_of rs) (gathered_at bs j) p key in
-            let (r, at) = item_there (keys_of rs) s.diagram (within j s own) in
-            let mask_key = is ∙ mask_key_is (keys_of rs) s r at in
-            let diagram = at ∙ ap Some (sym (ap (λ x. diagram_at (edge_at x bit)) mask_key ∙ diagram_of_edge r s.values bit small)) in
+            let diagram = key_diagram (keys_of rs) s bit (within j s own) small ∙ ap (λ x. Some (diagram_at (edge_at x bit))) (sym is) in
             let one = one_home (keys_of rs) homes bs home within distinct k j s.diagram (edge_at p bit) given diagram (home j s own) in
             member_any (edge_at p bit) (mask_edges (masks_of (keys_of rs) (gathered_at bs j)))
             (subst (λ n. Member (edge_at p bit) (mask_edges (masks_of (keys_of rs) (gathered_at bs n)))) one given)
@@ -478,11 +446,6 @@ module _ {A : Type 0} where
           (bits_known m bit 64 (only_in_group here found.0 (mask_key_at (keys_of rs) s) m bit small
           (distinct_masks (keys_of rs) distinct (gathered_at bs k) (within k) (gathered_once bs k)) found.1 there)).1
 
-      of_diagram : slice_get (keys_of rs) s.diagram ≡ Some (diagram_at x)
-      of_diagram =
-          let (r, at) = item_there (keys_of rs) s.diagram (within k s key) in
-          at ∙ ap Some (sym (ap (λ p. diagram_at (edge_at p bit)) (mask_key_is (keys_of rs) s r at) ∙ diagram_of_edge r s.values bit small))
-
       pub mask_is : (bit_of m bit ≡ true) ↔ IsEdgeThere ns rs all x
       mask_is = (
         λ set. inr (of_batch (keys_of rs) bs k x
@@ -492,7 +455,8 @@ module _ {A : Type 0} where
               (covers k (mask_key_at (keys_of rs) s) bit small (key_masks (keys_of rs) (gathered_at bs k) s key) merged))
           | inr gathered ↦
               let (j, there) = in_batch (keys_of rs) bs x gathered in
-              let one = one_home (keys_of rs) homes bs home within distinct j k s.diagram x there of_diagram (home k s key) in
+              let one = one_home (keys_of rs) homes bs home within distinct j k s.diagram x there
+              (key_diagram (keys_of rs) s bit (within k s key) small) (home k s key) in
               in_here (subst (λ n. Member x (mask_edges (masks_of (keys_of rs) (gathered_at bs n)))) one there)
         ],
       )
@@ -520,11 +484,5 @@ module _ {A : Type 0} where
     no_diagram x none (inr gathered) =
         let diagrams = keys_of rs in
         let (j, m) = in_batch diagrams bs x gathered in
-        let (c, mem, is) = in_gathered_key diagrams (gathered_at bs j) x m in
-        let (r, at) = item_there diagrams c.0.diagram (within j c.0 (key_of (gathered_at bs j) c mem)) in
-        let mask_key = mask_key_is diagrams c.0 r at in
-        let same : r ≡ diagram_at x = λ n. record {
-          entry = (ap (λ (p : MaskKey). p.entry) (sym mask_key) ∙ sym is.0) n;
-          block = (ap (λ (p : MaskKey). p.block) (sym mask_key) ∙ sym is.1) n;
-        } in
-        not_found diagram_eq diagram_self rs (diagram_at x) none (at_index diagrams (diagram_at x) c.0.diagram (at ∙ ap Some same))
+        let (s, key, at) = of_key diagrams bs within j x m in
+        not_found diagram_eq diagram_self rs (diagram_at x) none (at_index diagrams (diagram_at x) s.diagram at)

@@ -3,6 +3,7 @@ use Rattle.std.proofs.Common.{◌≡◌, ℕ, ◌+◌, ◌<◌, Bool, true, fals
 use Rattle.std.proofs.Common.{sym, ap, ◌∙◌, subst, true≢false}
 use Rattle.std.specs.Map.{keys_of, lookup}
 use Rattle.std.proofs.lemmas.Bool.{cases_eq}
+use Rattle.std.proofs.lemmas.List.{map-append}
 use Rattle.language.specs.Lists.{Member}
 use Rattle.language.proofs.Members.{map_member, member_append, member_left, member_map, member_right}
 use Rattle.path_sets.specs.declared.points.mask_key.MaskKey.{MaskKey}
@@ -15,6 +16,7 @@ use Rattle.path_sets.specs.Inserts.{PutsIn}
 use Rattle.path_sets.specs.Diagrams.{merged_has}
 use Rattle.path_sets.specs.Members.{all_edges, Covers, IsEdgeThere, PutsEdge}
 use Rattle.path_sets.proofs.InsertionLemmas.{edges_append}
+use Rattle.path_sets.proofs.PlaceLemmas.{last_or}
 use Rattle.path_sets.proofs.EdgesLemmas.{absent, Groups, no_edge}
 use Rattle.path_sets.proofs.InsertsLemmas.{is_in, is_new_or_old, stays_in}
 use Rattle.path_sets.proofs.MaskLemmas.{bits_hold, bits_known}
@@ -23,10 +25,7 @@ use Rattle.path_sets.proofs.MembersLemmas.{any_member, Fits, is_member, member_a
 -- a key of entries and one more
 pub one_more_key : {K V : Type 0} (es : List (K × V)) (p q : K) (w : V) → Member q (keys_of (es ++ (p, w) ∷ []))
     → Member q (keys_of es) ⊎ (q ≡ p)
-one_more_key [] p q w (inl is) = inr is
-one_more_key [] p q w (inr later) = elim later [ ]
-one_more_key (e ∷ es) p q w (inl is) = inl (inl is)
-one_more_key (e ∷ es) p q w (inr later) = elim (one_more_key es p q w later) [ inl old ↦ inl (inr old) | inr is ↦ inr is ]
+one_more_key es p q w m = last_or (keys_of es) p q (subst (Member q) (map-append (λ e. e.0) es ((p, w) ∷ [])) m)
 
 module _ (ns : List Quad) (rs : List (DiagramKey × ℕ)) (p : MaskKey) (bit : ℕ) (small : bit < 64) (old new : Groups)
     (covers : Covers ns rs old) where

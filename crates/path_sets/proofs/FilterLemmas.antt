@@ -103,12 +103,13 @@ module _ {A B : Type 0} (f : A → List B) where
       (λ b m later. let r = of_each xs b later in once (subst (λ k. Member k xs) (sym (apart x r.0 b m r.2)) r.1))
 
 -- images of different items are different
-pub map_none_twice : {A B : Type 0} (f : A → B) (xs : List A) → ((x y : A) → f x ≡ f y → x ≡ y) → NoneTwice xs
+pub map_none_twice : {A B : Type 0} (f : A → B) (xs : List A) → ((x y : A) → Member x xs → Member y xs → f x ≡ f y → x ≡ y)
+    → NoneTwice xs
     → NoneTwice (map f xs)
 map_none_twice f [] apart h = tt
 map_none_twice f (x ∷ xs) apart (once, h) = (
-  λ m. let r = map_member f xs (f x) m in once (subst (λ k. Member k xs) (sym (apart x r.0 r.2)) r.1),
-  map_none_twice f xs apart h,
+  λ m. let r = map_member f xs (f x) m in once (subst (λ k. Member k xs) (sym (apart x r.0 (inl refl) (inr r.1) r.2)) r.1),
+  map_none_twice f xs (λ y z m n. apart y z (inr m) (inr n)) h,
 )
 
 -- the numbers below one

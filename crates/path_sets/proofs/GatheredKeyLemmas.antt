@@ -1,12 +1,12 @@
 -- The masks that keys stand for.
-use Rattle.std.proofs.Common.{◌≡◌, ◌⊎◌, ◌<◌, ℕ, zero, suc, Bool, true, false, cond, ◌&&◌}
+use Rattle.std.proofs.Common.{◌≡◌, ◌<◌, ℕ, zero, suc, Bool, true, false, cond}
 use Rattle.std.proofs.Common.{List, [], ◌∷◌, ◌++◌, length}
 use Rattle.std.proofs.Common.{None, Some, map, take, slice_get, inl, inr, refl, sym, ap, ap₂, ◌∙◌}
-use Rattle.std.proofs.Common.{subst, true≢false, eq-eqb, arith}
+use Rattle.std.proofs.Common.{subst, true≢false}
 use Rattle.std.specs.Option.{option_map_or}
 use Rattle.std.specs.List.{AllByRecursion, IsDistinct}
 use Rattle.std.specs.Map.{keys_of, lookup, values_of}
-use Rattle.std.proofs.lemmas.Bool.{cases_eq}
+use Rattle.std.proofs.lemmas.Bool.{false_from_ne_true, cases_order}
 use Rattle.std.proofs.lemmas.Map.Keys.{apart_from_distinct}
 use Rattle.std.proofs.lemmas.Option.{get_or_from_slice_get, none-some, same_Some, slice_get_within}
 use Rattle.indexmap.specs.IndexMap.{set_value_at}
@@ -22,40 +22,16 @@ use Rattle.path_sets.specs.GatheredKeys.{AreWithin, mask_key_at, mask_key_in, ma
 use Rattle.path_sets.specs.Triples.{Triple}
 use Rattle.path_sets.proofs.InsertionLemmas.{in_mask_key, IsOf}
 use Rattle.path_sets.proofs.EdgesLemmas.{pair_at}
-use Rattle.path_sets.proofs.MaskKeyLemmas.{same_mask_key, same_two}
+use Rattle.path_sets.proofs.MaskKeyLemmas.{same_mask_key, same_by_two, two_self}
 use Rattle.path_sets.proofs.RootLemmas.{diagram_self}
 use Rattle.path_sets.proofs.PointLemmas.{settled}
-
--- there is an item at each index
-pub item_there : {X : Type 0} (xs : List X) (i : ℕ) → i < length xs → (x : X) × (slice_get xs i ≡ Some x)
-item_there [] i less = absurd (omega (arith, less))
-item_there (x ∷ xs) zero less = (x, refl)
-item_there (x ∷ xs) (suc i) less = item_there xs i (omega (arith, less))
+use Rattle.path_sets.proofs.PlaceLemmas.{item_there}
 
 pub gathered_key_self : (x : GatheredKey) → gathered_key_eq x x ≡ true
-gathered_key_self x = ap₂ ◌&&◌ (eq-eqb x.diagram x.diagram refl) (eq-eqb x.values x.values refl)
+gathered_key_self x = two_self x.diagram x.values
 
 pub same_gathered_key : (x y : GatheredKey) → gathered_key_eq x y ≡ true → x ≡ y
-same_gathered_key x y h =
-    let (diagram, values) = same_two x.diagram y.diagram x.values y.values h in
-    λ j. record { diagram = diagram j; values = values j }
-
--- a test that is not true
-pub not_true : (b : Bool) → (b ≡ true → ⊥) → b ≡ false
-not_true true h = absurd (h refl)
-not_true false h = refl
-
--- a key that is not found is not one of them
-pub not_found : {K V : Type 0} (eq : K → K → Bool) (self : (k : K) → eq k k ≡ true) (es : List (K × V)) (k : K)
-    → lookup (eq k) es ≡ None → Member k (keys_of es) → ⊥
-not_found eq self [] k none there = elim there [ ]
-not_found eq self (e ∷ es) k none there = by (eq k e.0) refl none there (not_found eq self es k)
-  where
-    by : (b : Bool) → eq k e.0 ≡ b → cond b (Some e.1) (lookup (eq k) es) ≡ None → Member k (keys_of (e ∷ es))
-        → (lookup (eq k) es ≡ None → Member k (keys_of es) → ⊥) → ⊥
-    by true e' h there rest = none-some e.1 (sym h)
-    by false e' h (inl is) rest = true≢false (sym (subst (λ q. eq k q ≡ true) is (self k)) ∙ e')
-    by false e' h (inr later) rest = rest h later
+same_gathered_key x y = same_by_two (λ d v. record { diagram = d; values = v }) x.diagram x.values y.diagram y.values
 
 module _ (diagrams : List DiagramKey) where
   -- the key of a key whose diagram is there
@@ -128,20 +104,11 @@ module _ (diagrams : List DiagramKey) where
         ∙ sym (ap₂ diagram_eq (get_or_from_slice_get diagrams i r r at) (get_or_from_slice_get diagrams j r r at'))
         ∙ apart_from_distinct diagram_eq diagrams i j r distinct less (slice_get_within diagrams j r at'))
 
-    less_or : (i j : ℕ) → (i ≡ j → ⊥) → (i < j) ⊎ (j < i)
-    less_or zero zero ne = absurd (ne refl)
-    less_or zero (suc j) ne = inl (omega arith)
-    less_or (suc i) zero ne = inr (omega arith)
-    less_or (suc i) (suc j) ne = elim (less_or i j (λ same. ne (ap suc same))) [
-      | inl less ↦ inl (omega (arith, less))
-      | inr less ↦ inr (omega (arith, less))
-    ]
-
     -- a diagram is at one index
     pub one_index : (i j : ℕ) (r : DiagramKey) → slice_get diagrams i ≡ Some r → slice_get diagrams j ≡ Some r → i ≡ j
-    one_index i j r at at' = elim (cases_eq i j) [
+    one_index i j r at at' = elim (cases_order i j) [
       | inl same ↦ same
-      | inr ne ↦ absurd (elim (less_or i j ne) [ inl less ↦ apart i j r less at at' | inr less ↦ apart j i r less at' at ])
+      | inr ne ↦ absurd (elim ne [ inl less ↦ apart i j r less at at' | inr less ↦ apart j i r less at' at ])
     ]
 
     -- so keys that differ stand for masks that differ
@@ -159,7 +126,7 @@ module _ (diagrams : List DiagramKey) where
     gathered_key_apart : (x y : GatheredKey) → x.diagram < length diagrams → y.diagram < length diagrams → gathered_key_eq x y ≡ false
         → mask_key_eq (mask_key_at diagrams x) (mask_key_at diagrams y) ≡ false
     gathered_key_apart x y inside inside' differ =
-        not_true (mask_key_eq (mask_key_at diagrams x) (mask_key_at diagrams y)) (λ h.
+        false_from_ne_true (mask_key_eq (mask_key_at diagrams x) (mask_key_at diagrams y)) (λ h.
         let same = one_gathered_key x y inside inside' (same_mask_key (mask_key_at diagrams x) (mask_key_at diagrams y) h) in
         true≢false (sym (subst (λ z. gathered_key_eq x z ≡ true) same (gathered_key_self x)) ∙ differ))
 

@@ -1,14 +1,12 @@
 -- Path edges that are gathered, key by key, and put in by their insertions, run by run.
-use Rattle.std.proofs.Common.{◌≡◌, ℕ, zero, suc, ◌+◌, ◌*◌, ◌/◌, ◌%◌, ◌<◌, true, List, [], ◌++◌}
+use Rattle.std.proofs.Common.{◌≡◌, ℕ, ◌+◌, ◌*◌, ◌/◌, ◌%◌, ◌<◌, true, List, [], ◌++◌}
 use Rattle.std.proofs.Common.{◌∷◌, Some, slice_get, length, ◌⊎◌, inl, inr, refl, sym, ap, ◌∙◌, subst, arith}
-use Rattle.std.proofs.Common.{append_assoc, is_some, take, true≢false}
-use Rattle.std.specs.Prelude.{Result, Ok, Err, OnOk, IsPermutation}
-use Rattle.std.specs.List.{Contains}
+use Rattle.std.proofs.Common.{append_assoc, take}
+use Rattle.std.specs.Prelude.{IsPermutation}
 use Rattle.std.specs.Map.{keys_of}
-use Rattle.std.proofs.lemmas.Bool.{cases_eq}
 use Rattle.std.proofs.lemmas.List.{take_more}
-use Rattle.std.proofs.lemmas.List.Sorted.{Contains-permutation, IsPermutation-sym}
-use Rattle.std.proofs.lemmas.Option.{get_or_from_slice_get, same_Some, slice_get-get_or, slice_get_within}
+use Rattle.std.proofs.lemmas.List.Sorted.{IsPermutation-sym}
+use Rattle.std.proofs.lemmas.Option.{get_or_from_slice_get, same_Some, slice_get_within}
 use Rattle.language.specs.Lists.{Member}
 use Rattle.language.proofs.Members.{member_append, member_left, member_right, member_map, map_member}
 use Rattle.path_sets.specs.declared.diagrams.insertion.Insertion.{Insertion}
@@ -24,7 +22,7 @@ use Rattle.path_sets.proofs.TakesLemmas.{takes_on, takes_of}
 use Rattle.path_sets.proofs.MaskLemmas.{bits_known, bits_hold}
 use Rattle.path_sets.proofs.EdgesLemmas.{Groups}
 use Rattle.path_sets.proofs.RootLemmas.{diagram_within}
-use Rattle.path_sets.proofs.UnionLemmas.{in_first}
+use Rattle.path_sets.proofs.PlaceLemmas.{reordered, last_or}
 
 -- a path edge of a key whose point is in the mask
 abbrev pub IsOf : MaskKey × ℕ → Triple → Type 0
@@ -70,31 +68,11 @@ in_mask_key (g ∷ gs) t h = elim (member_append t (edges_in g.0 g.1) (mask_edge
   | inr later ↦ let r = in_mask_key gs t later in (r.0, inr r.1, r.2)
 ]
 
--- a member is at some index
-pub index_of : {A : Type 0} (xs : List A) (x : A) → Member x xs → (i : ℕ) × (slice_get xs i ≡ Some x)
-index_of [] x h = elim h [ ]
-index_of (y ∷ xs) x (inl is) = (zero, ap Some (sym is))
-index_of (y ∷ xs) x (inr later) = let r = index_of xs x later in (suc r.0, r.1)
-
--- and what is at an index is a member
-pub at_index : {A : Type 0} (xs : List A) (x : A) (i : ℕ) → slice_get xs i ≡ Some x → Member x xs
-at_index [] x i h = absurd (true≢false (sym (ap is_some h)))
-at_index (y ∷ xs) x zero h = inl (sym (same_Some y x h))
-at_index (y ∷ xs) x (suc i) h = inr (at_index xs x i h)
-
 -- the edges of masks and of more masks are the edges of all of them
 pub edges_append : (gs hs : Groups) → mask_edges (gs ++ hs) ≡ mask_edges gs ++ mask_edges hs
 edges_append [] hs = refl
 edges_append (g ∷ gs) hs =
     ap (λ es. edges_in g.0 g.1 ++ es) (edges_append gs hs) ∙ sym (append_assoc (edges_in g.0 g.1) (mask_edges gs) (mask_edges hs))
-
--- what is among items is among them in another order
-pub reordered : {A : Type 0} (xs ys : List A) (x : A) → IsPermutation xs ys → Member x xs → Member x ys
-reordered xs ys x order there =
-    let (i, at) = index_of xs x there in
-    let had : Contains xs x = (i, slice_get_within xs i x at, get_or_from_slice_get xs i x x at) in
-    let (j, within, same) = Contains-permutation xs ys x order had in
-    at_index ys x j (slice_get-get_or ys j x within ∙ ap Some same)
 
 -- insertions in another order are those of the same masks
 pub insertions_reordered : (diagrams : List DiagramKey) (gs : Groups) (cs ds : List Insertion) → IsPermutation cs ds
@@ -136,21 +114,15 @@ module _ (ks ls : List DiagramKey) (gs : Groups) (cs : List Insertion) (p : Mask
     (is : IsInsertionOf ls p c) where
   one_more : AreInsertions ls (gs ++ p ∷ []) (cs ++ c ∷ [])
   one_more = record {
-    each = λ q there. elim (member_append q gs (p ∷ []) there) [
+    each = λ q there. elim (last_or gs p q there) [
       | inl was ↦ let (d, m, own) = are.each q was in
           (d, member_left d cs (c ∷ []) m, (stay d.diagram (diagram_of q.0) own.0, own.1, own.2))
-      | inr new ↦ elim new [
-        | inl same ↦ (c, member_right c cs (c ∷ []) (inl refl), subst (λ r. IsInsertionOf ls r c) (sym same) is)
-        | inr none ↦ elim none [ ]
-      ]
+      | inr same ↦ (c, member_right c cs (c ∷ []) (inl refl), subst (λ r. IsInsertionOf ls r c) (sym same) is)
     ];
-    no_more = λ d there. elim (member_append d cs (c ∷ []) there) [
+    no_more = λ d there. elim (last_or cs c d there) [
       | inl was ↦ let (q, m, own) = are.no_more d was in
           (q, member_left q gs (p ∷ []) m, (stay d.diagram (diagram_of q.0) own.0, own.1, own.2))
-      | inr new ↦ elim new [
-        | inl same ↦ (p, member_right p gs (p ∷ []) (inl refl), subst (IsInsertionOf ls p) (sym same) is)
-        | inr none ↦ elim none [ ]
-      ]
+      | inr same ↦ (p, member_right p gs (p ∷ []) (inl refl), subst (IsInsertionOf ls p) (sym same) is)
     ];
   }
 
@@ -170,16 +142,6 @@ pub next_insertion : (ks ls : List DiagramKey) (gs : Groups) (i : ℕ) (cs ds : 
 next_insertion ks ls gs i cs ds p c at more stay are is =
     subst (λ xs. AreInsertions ls xs ds) (next_item gs i p at)
     (subst (AreInsertions ls (take i gs ++ p ∷ [])) (sym more) (one_more ks ls (take i gs) cs p c stay are is))
-
--- insertions of which the first is of a diagram, and those after it too, are of that diagram
-pub of_diagram : (left : List Insertion) (n : ℕ) (first : Insertion) → slice_get left 0 ≡ Some first
-    → ((i : ℕ) (c : Insertion) → 0 < i → i < n → slice_get left i ≡ Some c → c.diagram ≡ first.diagram)
-    → (c : Insertion) → Member c (take n left) → c.diagram ≡ first.diagram
-of_diagram left n first front all c m =
-    let (i, less, there) = in_first n left c m in elim (cases_eq i 0) [
-      | inl zeroth ↦ ap (λ (d : Insertion). d.diagram) (sym (same_Some first c (sym front ∙ ap (slice_get left) (sym zeroth) ∙ there)))
-      | inr later ↦ all i c (omega (arith, later)) less there
-    ]
 
 -- the path edges of a run are those of its diagram by its insertions
 module _ (diagrams : List DiagramKey) (at : ℕ) (diagram : DiagramKey) (run : List Insertion) (own : slice_get diagrams at ≡ Some diagram)
@@ -231,8 +193,3 @@ module _ (diagrams : List DiagramKey) (insertions left run more : List Insertion
       | inr later ↦ inr later
     ]
   ]
-
--- what follows if a call succeeds
-pub on_ok : {T E : Type 0} (P Q : Type 0) (r : Result T E) → (P → Q) → OnOk r P → OnOk r Q
-on_ok P Q (Ok x) f h = f h
-on_ok P Q (Err e) f h = tt

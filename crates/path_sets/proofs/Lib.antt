@@ -1,3 +1,5 @@
+pub mod PlaceLemmas
+pub mod KeyLemmas
 pub mod InsertsLemmas
 pub mod MaskLemmas
 pub mod MaskKeyLemmas

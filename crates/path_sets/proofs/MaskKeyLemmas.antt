@@ -3,6 +3,7 @@ use Rattle.std.proofs.Common.{◌≡◌, ℕ, ◌+◌, ◌*◌, ◌<◌, Bool, t
 use Rattle.std.proofs.Common.{ap, ap₂, subst, true≢false, eq-eqb, arith}
 use Rattle.std.specs.Bool.{beq}
 use Rattle.std.proofs.lemmas.Map.Views.{exact_unsigned_eq}
+use Rattle.std.proofs.lemmas.Bool.{and_parts}
 use Rattle.language.specs.Lists.{Member}
 use Rattle.language.proofs.Members.{map_member}
 use Rattle.path_sets.specs.declared.points.mask_key.MaskKey.{MaskKey}
@@ -10,11 +11,6 @@ use Rattle.path_sets.specs.Edges.{edge_at, edges_in, mask_key_eq}
 use Rattle.path_sets.specs.Masks.{bits_below}
 use Rattle.path_sets.specs.Triples.{Triple}
 use Rattle.path_sets.proofs.MaskLemmas.{bits_known}
-
--- a conjunction's parts
-pub both : (a b : Bool) → (a && b) ≡ true → (a ≡ true) × (b ≡ true)
-both true b h = (refl, h)
-both false b h = absurd (true≢false (sym h))
 
 -- values that compare as equal are the same
 pub same_flag : (a b : Bool) → beq a b ≡ true → a ≡ b
@@ -26,24 +22,35 @@ same_flag false false h = refl
 -- two or three numbers that compare as equal, each with its own, are the same, and the same compare as equal
 pub same_two : (a a' b b' : ℕ) → (nat_eq a a' && nat_eq b b') ≡ true → (a ≡ a') × (b ≡ b')
 same_two a a' b b' h =
-    let (first, second) = both (nat_eq a a') (nat_eq b b') h in
+    let (first, second) = and_parts (nat_eq a a') (nat_eq b b') h in
     (exact_unsigned_eq a a' first, exact_unsigned_eq b b' second)
 
 pub same_three : (a a' b b' c c' : ℕ) → (nat_eq a a' && (nat_eq b b' && nat_eq c c')) ≡ true
     → (a ≡ a') × (b ≡ b') × (c ≡ c')
 same_three a a' b b' c c' h =
-    let (first, rest) = both (nat_eq a a') (nat_eq b b' && nat_eq c c') h in
+    let (first, rest) = and_parts (nat_eq a a') (nat_eq b b' && nat_eq c c') h in
     let (second, third) = same_two b b' c c' rest in
     (exact_unsigned_eq a a' first, second, third)
 
+pub two_self : (a b : ℕ) → (nat_eq a a && nat_eq b b) ≡ true
+two_self a b = ap₂ ◌&&◌ (eq-eqb a a refl) (eq-eqb b b refl)
+
 pub three_self : (a b c : ℕ) → (nat_eq a a && (nat_eq b b && nat_eq c c)) ≡ true
-three_self a b c = ap₂ ◌&&◌ (eq-eqb a a refl) (ap₂ ◌&&◌ (eq-eqb b b refl) (eq-eqb c c refl))
+three_self a b c = ap₂ ◌&&◌ (eq-eqb a a refl) (two_self b c)
+
+-- values that are made of such numbers are the same
+pub same_by_two : {K : Type 0} (make : ℕ → ℕ → K) (a b a' b' : ℕ) → (nat_eq a a' && nat_eq b b') ≡ true → make a b ≡ make a' b'
+same_by_two make a b a' b' h = let (first, second) = same_two a a' b b' h in ap₂ make first second
+
+pub same_by_three : {K : Type 0} (make : ℕ → ℕ → ℕ → K) (a b c a' b' c' : ℕ) → (nat_eq a a' && (nat_eq b b' && nat_eq c c')) ≡ true
+    → make a b c ≡ make a' b' c'
+same_by_three make a b c a' b' c' h =
+    let (first, second, third) = same_three a a' b b' c c' h in λ j. make (first j) (second j) (third j)
 
 -- masks that compare as equal are the same
 pub same_mask_key : (x y : MaskKey) → mask_key_eq x y ≡ true → x ≡ y
-same_mask_key x y h =
-    let (e, v, b) = same_three x.entry y.entry x.values y.values x.block y.block h in
-    λ j. record { entry = e j; values = v j; block = b j }
+same_mask_key x y =
+    same_by_three (λ e v b. record { entry = e; values = v; block = b }) x.entry x.values x.block y.entry y.values y.block
 
 -- the same key compares as equal
 pub eq_mask_key : (x y : MaskKey) → x ≡ y → mask_key_eq x y ≡ true

@@ -12,9 +12,11 @@ use Rattle.path_sets.specs.Triples.{Triple, triple}
 use Rattle.path_sets.specs.Edges.{mask_edges}
 use Rattle.path_sets.specs.Diagrams.{TakesGiven, merged_has}
 use Rattle.path_sets.specs.Members.{below, each, universe, triple_eq, has_edge, all_edges, IsEdgeThere}
-use Rattle.path_sets.proofs.MaskKeyLemmas.{same_three, three_self}
+use Rattle.path_sets.proofs.MaskKeyLemmas.{three_self, same_by_three}
 use Rattle.path_sets.proofs.FilterLemmas.{kept_is, is_kept, same_kept, kept_none_twice, one_more, in_each}
 use Rattle.path_sets.proofs.FilterLemmas.{of_each, each_none_twice, map_none_twice, in_below, of_below, below_none_twice}
+use Rattle.std.proofs.lemmas.Bool.{false_from_ne_true, or_cases, or_left, or_right}
+use Rattle.path_sets.proofs.KeyLemmas.{found_is_in, is_found}
 
 -- a path edge of words
 pub record Fits (t : Triple) : Type 0 where
@@ -53,51 +55,21 @@ unfolding universe at_entry at_point
 universe_none_twice =
     each_none_twice at_entry (below (2 ^ word_bits)) (below_none_twice (2 ^ word_bits))
     (λ e. each_none_twice (at_point e) (below (2 ^ 64)) (below_none_twice (2 ^ 64))
-    (λ p. map_none_twice (triple e p) (below (2 ^ word_bits)) (λ x y same. ap (λ (k : Triple). k.values) same)
+    (λ p. map_none_twice (triple e p) (below (2 ^ word_bits)) (λ x y m n same. ap (λ (k : Triple). k.values) same)
     (below_none_twice (2 ^ word_bits)))
     (λ p q t a b. sym (point_is e p t a) ∙ point_is e q t b))
     (λ d e t a b. sym (entry_is d t a) ∙ entry_is e t b)
 
 -- path edges that compare as equal are the same
 pub same_triple : (x y : Triple) → triple_eq x y ≡ true → x ≡ y
-same_triple x y h =
-    let (e, p, v) = same_three x.entry y.entry x.point y.point x.values y.values h in
-    λ j. record { entry = e j; point = p j; values = v j }
-
-pub triple_self : (x y : Triple) → x ≡ y → triple_eq x y ≡ true
-triple_self x y is = subst (λ z. triple_eq x z ≡ true) is (three_self x.entry x.point x.values)
+same_triple x y = same_by_three triple x.entry x.point x.values y.entry y.point y.values
 
 -- the test for members of a list
 pub any_member : (t : Triple) (ts : List Triple) → list_any (triple_eq t) ts ≡ true → Member t ts
-any_member t [] h = absurd (true≢false (sym h))
-any_member t (x ∷ xs) h = by (triple_eq t x) refl h (any_member t xs)
-  where
-    by : (b : Bool) → triple_eq t x ≡ b → (b || list_any (triple_eq t) xs) ≡ true
-        → (list_any (triple_eq t) xs ≡ true → Member t xs)
-        → Member t (x ∷ xs)
-    by true e h rest = inl (same_triple t x e)
-    by false e h rest = inr (rest h)
+any_member = found_is_in triple_eq same_triple
 
 pub member_any : (t : Triple) (ts : List Triple) → Member t ts → list_any (triple_eq t) ts ≡ true
-member_any t [] h = elim h [ ]
-member_any t (x ∷ xs) (inl is) = ap (λ b. b || list_any (triple_eq t) xs) (triple_self t x is)
-member_any t (x ∷ xs) (inr later) = by (triple_eq t x) (member_any t xs later)
-  where
-    by : (b : Bool) → list_any (triple_eq t) xs ≡ true → (b || list_any (triple_eq t) xs) ≡ true
-    by true h = refl
-    by false h = h
-
-or_is : (a b : Bool) → (a || b) ≡ true → (a ≡ true) ⊎ (b ≡ true)
-or_is true b h = inl refl
-or_is false b h = inr h
-
-or_left : (a b : Bool) → a ≡ true → (a || b) ≡ true
-or_left true b h = refl
-or_left false b h = absurd (true≢false (sym h))
-
-or_right : (a b : Bool) → b ≡ true → (a || b) ≡ true
-or_right true b h = refl
-or_right false b h = h
+member_any = is_found triple_eq (λ t. three_self t.entry t.point t.values)
 
 -- one that has a path edge exactly if the other has it gives the same
 pub same_test : (a b : Bool) → (a ≡ true → b ≡ true) → (b ≡ true → a ≡ true) → a ≡ b
@@ -110,7 +82,7 @@ module _ (nodes : List Quad) (diagrams : List (DiagramKey × ℕ)) (masks : List
   Has t = IsEdgeThere nodes diagrams masks t
 
   pub has_is : (t : Triple) → has_edge nodes diagrams masks t ≡ true → Has t
-  has_is t h = elim (or_is (merged_has nodes diagrams t) (list_any (triple_eq t) (mask_edges masks)) h) [
+  has_is t h = elim (or_cases (merged_has nodes diagrams t) (list_any (triple_eq t) (mask_edges masks)) h) [
     | inl in_sets ↦ inl in_sets
     | inr gathered ↦ inr (any_member t (mask_edges masks) gathered)
   ]
@@ -187,14 +159,10 @@ module _ (ns : List Quad) (rs : List (DiagramKey × ℕ)) (masks masks' : List (
     ],
   )
 
-  false_or : (b : Bool) → (b ≡ true → ⊥) → b ≡ false
-  false_or true h = absurd (h refl)
-  false_or false h = refl
-
   pub one_longer : (Member x (all_edges ns rs masks) → ⊥) → length (all_edges ns rs masks') ≡ length (all_edges ns rs masks) + 1
   one_longer new =
       one_more (has_edge ns rs masks) (has_edge ns rs masks') universe x universe_none_twice (in_universe x fits)
-      (false_or (has_edge ns rs masks x) (λ had. new (is_member ns rs masks x fits (has_is ns rs masks x had))))
+      (false_from_ne_true (has_edge ns rs masks x) (λ had. new (is_member ns rs masks x fits (has_is ns rs masks x had))))
       (is_had ns rs masks' x ((has_more x).1 (inl refl)))
       (λ t ne. same_test (has_edge ns rs masks' t) (has_edge ns rs masks t)
       (λ had. elim ((has_more t).0 (has_is ns rs masks' t had)) [ inl is ↦ absurd (ne is) | inr was ↦ is_had ns rs masks t was ])

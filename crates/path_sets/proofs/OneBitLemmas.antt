@@ -5,7 +5,7 @@ use Rattle.std.proofs.Common.{List, Some, inl, inr, refl, sym, ap, ◌∙◌, su
 use Rattle.std.specs.Prelude.{Result, Ok, Err, IfOk}
 use Rattle.std.specs.Bool.{beq}
 use Rattle.std.specs.Map.{lookup}
-use Rattle.std.proofs.lemmas.Bool.{cases_eq, eqb-true, ne_eqb}
+use Rattle.std.proofs.lemmas.Bool.{cases_eq, eqb-true, ne_eqb, and_parts}
 use Rattle.std.proofs.lemmas.Nat.Bits.{bit_at_lowest, bit_at-suc, bit_at-zero}
 use Rattle.std.proofs.lemmas.Option.{same_Some}
 use Rattle.language.specs.Words.{word_bits}
@@ -18,7 +18,7 @@ use Rattle.path_sets.specs.Quads.{is_at, levels, points_of, sees, quad_child}
 use Rattle.path_sets.specs.Diagrams.{accepts, child, KeepsNodes, level_of}
 use Rattle.path_sets.specs.OneBitDiagrams.{Solves, AreSolved, subproblem_eq}
 use Rattle.path_sets.proofs.GrowthLemmas.{keeps_on}
-use Rattle.path_sets.proofs.MaskKeyLemmas.{both, same_flag}
+use Rattle.path_sets.proofs.MaskKeyLemmas.{same_flag}
 use Rattle.path_sets.proofs.ShiftLemmas.{down_bit, four_pow, next_rest}
 use Rattle.path_sets.proofs.QuadLemmas.{no_points}
 use Rattle.path_sets.proofs.WalkLemmas.{at_leaf}
@@ -81,8 +81,8 @@ leaf_level ns (suc (suc n)) h = absurd (omega (arith, h))
 -- subproblems that compare as equal are the same
 same_subproblem : (x y : Subproblem) → subproblem_eq x y ≡ true → x ≡ y
 same_subproblem x y h =
-    let (number, rest) = both (nat_eq x.number y.number) (beq x.zero y.zero && nat_eq x.level y.level) h in
-    let (nought, level) = both (beq x.zero y.zero) (nat_eq x.level y.level) rest in
+    let (number, rest) = and_parts (nat_eq x.number y.number) (beq x.zero y.zero && nat_eq x.level y.level) h in
+    let (nought, level) = and_parts (beq x.zero y.zero) (nat_eq x.level y.level) rest in
     λ j. record {
       number = eqb-true x.number y.number number j;
       zero = same_flag x.zero y.zero nought j;

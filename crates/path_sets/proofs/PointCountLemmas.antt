@@ -15,8 +15,8 @@ use Rattle.path_sets.specs.Diagrams.{accepts, merged_has, root_of, TakesGiven}
 use Rattle.path_sets.specs.Members.{all_edges, has_edge, universe}
 use Rattle.path_sets.specs.Suffixes.{Apart, HasNodes, Prefix, SameSuffixes}
 use Rattle.path_sets.proofs.FilterLemmas.{kept_is}
-use Rattle.path_sets.proofs.UnionLemmas.{of_ok}
 use Rattle.path_sets.proofs.MembersLemmas.{Fits, is_member, member_is, values_fit}
+use Rattle.std.proofs.lemmas.Result.{IfOk-weaker}
 
 same_on : (S T : ℕ → Type 0) → ((v : ℕ) → S v ↔ T v) → (l p q : ℕ) → SameSuffixes S l p q → SameSuffixes T l p q
 same_on S T alike l p q same u = (
@@ -65,7 +65,7 @@ pub point_nodes : (qs : List Quad) (rs : List (DiagramKey × ℕ)) (e b i root :
     → IfOk r (HasNodes word_bits (λ v. (v < 2 ^ word_bits) × (accepts ns n v ≡ true)))
     → IfOk r (HasNodes word_bits (λ v. (v < 2 ^ word_bits) × (merged_has qs rs (triple e (64 * b + i) v) ≡ true)))
 point_nodes qs rs e b i root ns n r small at same has =
-    of_ok (HasNodes word_bits S) (HasNodes word_bits T) r
+    IfOk-weaker r (HasNodes word_bits S) (HasNodes word_bits T)
     (λ k. alike_nodes word_bits k S T (λ v. (λ h. (h.0, is v h.0 ∙ h.1), λ h. (h.0, sym (is v h.0) ∙ h.1)))) has
   where
     S : ℕ → Type 0
@@ -115,7 +115,7 @@ pub member_nodes : (ns ms os : List Quad) (rs ss ts : List (DiagramKey × ℕ)) 
     → IfOk r (HasNodes word_bits (λ v. (v < 2 ^ word_bits) × (merged_has os ts (triple e (64 * mask_key.block + i) v) ≡ true)))
     → IfOk r (HasNodes word_bits (λ v. Member (triple e p v) (all_edges ns rs masks)))
 member_nodes ns ms os rs ss ts masks mask_key i e p v r entry point small at alone takes all has =
-    of_ok (HasNodes word_bits S) (HasNodes word_bits T) r
+    IfOk-weaker r (HasNodes word_bits S) (HasNodes word_bits T)
     (λ n. alike_nodes word_bits n S T (members_there ns ms os rs ss ts masks e p entry point alone' takes all))
     (subst (λ q. IfOk r (HasNodes word_bits (λ v. (v < 2 ^ word_bits) × (merged_has os ts (triple e q v) ≡ true)))) there has)
   where

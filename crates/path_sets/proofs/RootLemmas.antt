@@ -1,9 +1,8 @@
 -- The numbers of diagrams after one is given, and their indexes.
-use Rattle.std.proofs.Common.{◌≡◌, ℕ, zero, suc, ◌<◌, Bool, true, false, cond, ◌&&◌, List, [], ◌∷◌, ◌++◌}
+use Rattle.std.proofs.Common.{◌≡◌, ℕ, ◌<◌, Bool, true, false, cond, List, [], ◌∷◌, ◌++◌}
 use Rattle.std.proofs.Common.{Option, None}
-use Rattle.std.proofs.Common.{Some, IfSome, get_or, length, is_some, ◌⊎◌, inl, inr, subst, arith}
-use Rattle.std.proofs.Common.{slice_get, position, refl, sym, ap, ap₂, ◌∙◌, true≢false, eq-eqb}
-use Rattle.std.specs.List.{AllZip}
+use Rattle.std.proofs.Common.{Some, IfSome, get_or, length, ◌⊎◌, inl, inr, subst, arith}
+use Rattle.std.proofs.Common.{slice_get, position, refl, sym, ap, ◌∙◌, true≢false}
 use Rattle.std.specs.Option.{option_map, option_map_or}
 use Rattle.std.proofs.lemmas.Bool.{cases_eq}
 use Rattle.std.specs.Map.{keys_of, lookup}
@@ -12,8 +11,11 @@ use Rattle.path_sets.specs.declared.diagrams.roots.DiagramKey.{DiagramKey}
 use Rattle.path_sets.specs.Diagrams.{diagram_eq, root_of, GivesRoot}
 use Rattle.path_sets.specs.Insertions.{RootsStay}
 use Rattle.std.proofs.lemmas.List.Quantifiers.{position-Some}
-use Rattle.std.proofs.lemmas.Option.{slice_get-get_or}
-use Rattle.path_sets.proofs.MaskKeyLemmas.{same_two}
+use Rattle.std.proofs.lemmas.Map.Entries.{length-keys_of}
+use Rattle.std.proofs.lemmas.List.{map-append}
+use Rattle.std.proofs.lemmas.Option.{slice_get-get_or, slice_get-map, slice_get_within}
+use Rattle.path_sets.proofs.MaskKeyLemmas.{same_by_two, two_self}
+use Rattle.path_sets.proofs.PlaceLemmas.{item_there, still_there}
 
 -- a test that tells values apart is an equivalence
 module _ {K : Type 0} (eq : K → K → Bool) (self : (x : K) → eq x x ≡ true) (same : (x y : K) → eq x y ≡ true → x ≡ y) where
@@ -40,12 +42,10 @@ module _ {K : Type 0} (eq : K → K → Bool) (self : (x : K) → eq x x ≡ tru
   found_if ks k (Some i) h = found ks i k h
 
 pub diagram_self : (x : DiagramKey) → diagram_eq x x ≡ true
-diagram_self x = ap₂ ◌&&◌ (eq-eqb x.entry x.entry refl) (eq-eqb x.block x.block refl)
+diagram_self x = two_self x.entry x.block
 
 pub same_diagram : (x y : DiagramKey) → diagram_eq x y ≡ true → x ≡ y
-same_diagram x y h =
-    let (entry, block) = same_two x.entry y.entry x.block y.block h in
-    λ j. record { entry = entry j; block = block j }
+same_diagram x y = same_by_two (λ e b. record { entry = e; block = b }) x.entry x.block y.entry y.block
 
 pub diagram_laws : IsEquivalence diagram_eq
 diagram_laws = equivalence diagram_eq diagram_self same_diagram
@@ -80,32 +80,19 @@ is_diagram e b diagram = elim (cases_eq e diagram.entry) [
   | inl same ↦ elim (cases_eq b diagram.block) [ inr ne ↦ inr (λ h. ne h.1) | inl same' ↦ inl (same, same') ]
 ]
 
--- a key is where it was when entries are appended
-still_at : {K V : Type 0} (es fs : List (K × V)) (i : ℕ) (k : K) → slice_get (keys_of es) i ≡ Some k
-    → slice_get (keys_of (es ++ fs)) i ≡ Some k
-still_at [] fs i k h = absurd (true≢false (ap is_some (sym h)))
-still_at (e ∷ es) fs zero k h = h
-still_at (e ∷ es) fs (suc i) k h = still_at es fs i k h
-
 -- the key of an entry
 pub key_at : {K V : Type 0} (es : List (K × V)) (i : ℕ) (e : K × V) → slice_get es i ≡ Some e
     → slice_get (keys_of es) i ≡ Some e.0
-key_at [] i e h = absurd (true≢false (ap is_some (sym h)))
-key_at (x ∷ xs) zero e h = ap (λ (o : Option _). option_map (λ y. y.0) o) h
-key_at (x ∷ xs) (suc i) e h = key_at xs i e h
+key_at es i e h = slice_get-map (λ p. p.0) es i ∙ ap (option_map (λ p. p.0)) h
 
 -- there is a diagram at each index
 pub diagram_there : (rs : List (DiagramKey × ℕ)) (i : ℕ) → i < length rs
     → (diagram : DiagramKey) × (slice_get (keys_of rs) i ≡ Some diagram)
-diagram_there [] i less = absurd (omega (arith, less))
-diagram_there (r ∷ rs) zero less = (r.0, refl)
-diagram_there (r ∷ rs) (suc i) less = diagram_there rs i (omega (arith, less))
+diagram_there rs i less = item_there (keys_of rs) i (omega (arith, less, length-keys_of rs))
 
 -- and at no other
 pub diagram_within : (rs : List (DiagramKey × ℕ)) (i : ℕ) (diagram : DiagramKey) → slice_get (keys_of rs) i ≡ Some diagram → i < length rs
-diagram_within [] i diagram h = absurd (true≢false (ap is_some (sym h)))
-diagram_within (r ∷ rs) zero diagram h = omega arith
-diagram_within (r ∷ rs) (suc i) diagram h = let less = diagram_within rs i diagram h in omega (arith, less)
+diagram_within rs i diagram h = omega (arith, slice_get_within (keys_of rs) i diagram h, length-keys_of rs)
 
 -- a diagram that had no diagram gets the one with nothing, and each diagram has the number that it had
 pub diagram_begins : (old new : List (DiagramKey × ℕ)) (diagram : DiagramKey) → lookup (diagram_eq diagram) old ≡ None
@@ -113,7 +100,8 @@ pub diagram_begins : (old new : List (DiagramKey × ℕ)) (diagram : DiagramKey)
     → GivesRoot old diagram 0 new
     → RootsStay old new
 diagram_begins old new diagram none is given = record {
-  indexes = λ i r h. subst (λ es. slice_get (keys_of es) i ≡ Some r) (sym is) (still_at old ((diagram, 0) ∷ []) i r h);
+  indexes = λ i r h. subst (λ es. slice_get (keys_of es) i ≡ Some r) (sym is) (subst (λ ks. slice_get ks i ≡ Some r) (sym (map-append (λ (p : DiagramKey × ℕ). p.0) old ((diagram, 0) ∷ [])))
+      (still_there (keys_of old) (diagram ∷ []) i r h));
   numbers = λ e b. elim (is_diagram e b diagram) [
     | inl (at, at') ↦
         (λ j. root_of new (at j) (at' j)) ∙ given.here ∙ sym (ap (λ o. option_map_or (λ n. n) o 0) none)
@@ -127,10 +115,3 @@ pub same_within : (rs ss : List (DiagramKey × ℕ)) (i : ℕ) → keys_of ss �
 same_within rs ss i same less =
     let (diagram, there) = diagram_there rs i less in
     diagram_within ss i diagram (ap (λ ks. slice_get ks i) same ∙ there)
-
--- a clone's entries are the same
-pub same_clone : {K V : Type 0} (es fs : List (K × V)) → AllZip (λ p q. (q.0 ≡ p.0) × (q.1 ≡ p.1)) es fs → fs ≡ es
-same_clone [] [] h = refl
-same_clone [] (f ∷ fs) h = elim h [ ]
-same_clone (e ∷ es) [] h = elim h [ ]
-same_clone (e ∷ es) (f ∷ fs) (h, rest) = λ j. (h.0 j, h.1 j) ∷ same_clone es fs rest j

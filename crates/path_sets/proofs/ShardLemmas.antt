@@ -2,6 +2,7 @@
 use Rattle.std.proofs.Common.{◌≡◌, ◌⊎◌, ℕ, zero, suc, Bool, true, false, nat_eq, List, [], ◌∷◌, ◌++◌}
 use Rattle.std.proofs.Common.{None, Some, Result, Ok, Err, OnErr, slice_get, slice_set, inl, inr, refl, sym, ap, ◌∙◌, subst}
 use Rattle.std.specs.Map.{lookup}
+use Rattle.std.specs.Option.{option_map_or}
 use Rattle.std.proofs.lemmas.Option.{none-some, same_Some}
 use Rattle.language.specs.Lists.{Member}
 use Rattle.language.proofs.Members.{member_left, member_right, member_append}
@@ -15,9 +16,7 @@ use Rattle.path_sets.proofs.InsertsLemmas.{behind, before, is_new_or_old}
 module _ {A : Type 0} where
   -- a shard's path edges are those of its masks
   pub at_is : (ss : List (Shard A)) (k : ℕ) (s : Shard A) → slice_get ss k ≡ Some s → edges_at ss k ≡ mask_edges s.masks.entries
-  at_is [] k s at = absurd (none-some s at)
-  at_is (r ∷ ss) zero s at = ap (λ (h : Shard A). mask_edges h.masks.entries) (same_Some r s at)
-  at_is (r ∷ ss) (suc k) s at = at_is ss k s at
+  at_is ss k s at = ap (λ o. option_map_or (λ (h : Shard A). mask_edges h.masks.entries) o []) at
 
   -- a path edge of a shard is one of all
   pub at_all : (ss : List (Shard A)) (k : ℕ) (t : Triple) → Member t (edges_at ss k) → Member t (all_in ss)
@@ -74,6 +73,13 @@ module _ {A : Type 0} where
   one_more_at (s ∷ ss) w zero none = refl
   one_more_at (s ∷ ss) w (suc k) none = one_more_at ss w k none
 
+  -- each path edge is in its entry's shard still, if those of the new shard are of entries that have it
+  home_if : (homes : List (ℕ × ℕ)) (ss : List (Shard A)) → AreHome homes ss → (k : ℕ) (w : Shard A)
+      → ((t : Triple) → Member t (mask_edges w.masks.entries) → lookup (nat_eq t.entry) homes ≡ Some k)
+      → AreHome homes (slice_set ss k w)
+  home_if homes ss home k w own j t m =
+      elim (was_at ss k w j t m) [ inl new ↦ own t new.1 ∙ ap Some (sym new.0) | inr old ↦ home j t old ]
+
   module _ (homes : List (ℕ × ℕ)) (ss : List (Shard A)) (home : AreHome homes ss) (k : ℕ) (s : Shard A) (x : Triple)
       (own : lookup (nat_eq x.entry) homes ≡ Some k) (at : slice_get ss k ≡ Some s) where
     -- a path edge of an entry is one of its shard
@@ -101,26 +107,16 @@ module _ {A : Type 0} where
       -- and each path edge is in its entry's shard still
       pub home_stays : (added : Bool) → PutsIn x (mask_edges s.masks.entries) (mask_edges w.masks.entries) added
           → AreHome homes (slice_set ss k w)
-      home_stays added settles j t m =
-          elim (was_at ss k w j t m) [
-            | inl new ↦ elim (old_or_new added settles t new.1) [
-              | inl is ↦ subst (λ n. lookup (nat_eq t.entry) homes ≡ Some n) (sym new.0)
-                  (subst (λ (y : Triple). lookup (nat_eq y.entry) homes ≡ Some k) (sym is) own)
-              | inr old ↦ subst (λ n. lookup (nat_eq t.entry) homes ≡ Some n) (sym new.0)
-                  (home k t (subst (Member t) (sym (at_is ss k s at)) old))
-            ]
-            | inr old ↦ home j t old
-          ]
+      home_stays added settles = home_if homes ss home k w (λ t m. elim (old_or_new added settles t m) [
+        | inl is ↦ ap (λ (y : Triple). lookup (nat_eq y.entry) homes) is ∙ own
+        | inr old ↦ home k t (subst (Member t) (sym (at_is ss k s at)) old)
+      ])
 
   -- the same if the new shard has the path edges of the old one
   pub home_same : (homes : List (ℕ × ℕ)) (ss : List (Shard A)) → AreHome homes ss → (k : ℕ) (s w : Shard A)
       → slice_get ss k ≡ Some s → mask_edges w.masks.entries ≡ mask_edges s.masks.entries → AreHome homes (slice_set ss k w)
-  home_same homes ss home k s w at same j t m =
-      elim (was_at ss k w j t m) [
-        | inl new ↦ subst (λ n. lookup (nat_eq t.entry) homes ≡ Some n) (sym new.0)
-            (home k t (subst (Member t) (sym (at_is ss k s at)) (subst (Member t) same new.1)))
-        | inr old ↦ home j t old
-      ]
+  home_same homes ss home k s w at same =
+      home_if homes ss home k w (λ t m. home k t (subst (Member t) (same ∙ sym (at_is ss k s at)) m))
 
   -- no path edge is one of an entry that has no shard
   pub none_without : (homes : List (ℕ × ℕ)) (ss : List (Shard A)) → AreHome homes ss → (t : Triple)

@@ -3,7 +3,6 @@ use Rattle.std.proofs.Common.{bit_or, ◌≡◌, ℕ, zero, suc, ◌+◌, ◌/�
 use Rattle.std.proofs.Common.{◌==◌}
 use Rattle.std.proofs.Common.{List, [], ◌∷◌, ◌++◌, take, drop, length, Some, slice_get, ◌⊎◌, ◌↔◌, inl, inr}
 use Rattle.std.proofs.Common.{refl, sym, ap, ◌∙◌, subst, arith, true≢false, is_some}
-use Rattle.std.specs.Prelude.{Result, Ok, Err, IfOk}
 use Rattle.std.specs.Int.{bit_at}
 use Rattle.std.proofs.lemmas.Bool.{cases_eq}
 use Rattle.std.proofs.lemmas.Nat.Bits.{bit_at-lt, bit_at_or}
@@ -19,22 +18,26 @@ use Rattle.path_sets.specs.Quads.{AreInside, IsInserted, Joins, KeepQuads, point
 use Rattle.path_sets.proofs.ShiftLemmas.{next_rest}
 use Rattle.path_sets.proofs.QuadLemmas.{further, here_sees, quad_child_inside, quad_child_same}
 
--- what follows if a call succeeds
-pub of_ok : {T E : Type 0} (P Q : T → Type 0) (r : Result T E) → ((x : T) → P x → Q x) → IfOk r P → IfOk r Q
-of_ok P Q (Ok x) f h = f x h
-of_ok P Q (Err e) f h = tt
-
 -- a list begins with its first item
 pub first_and_rest : {A : Type 0} (xs : List A) (x : A) → slice_get xs 0 ≡ Some x → xs ≡ x ∷ drop 1 xs
 first_and_rest [] x h = absurd (true≢false (sym (ap is_some h)))
 first_and_rest (y ∷ ys) x h = ap (λ z. z ∷ ys) (same_Some y x h)
 
 -- the first items are at the first indexes
-pub in_first : {A : Type 0} (n : ℕ) (xs : List A) (x : A) → Member x (take n xs) → (i : ℕ) × (i < n) × (slice_get xs i ≡ Some x)
+in_first : {A : Type 0} (n : ℕ) (xs : List A) (x : A) → Member x (take n xs) → (i : ℕ) × (i < n) × (slice_get xs i ≡ Some x)
 in_first zero xs x h = elim h [ ]
 in_first (suc n) [] x h = elim h [ ]
 in_first (suc n) (y ∷ ys) x (inl is) = (zero, omega arith, ap Some (sym is))
 in_first (suc n) (y ∷ ys) x (inr later) = let r = in_first n ys x later in let less = r.1 in (suc r.0, omega (arith, less), r.2)
+
+-- what holds for the first of all, and for those after it, holds for each of the first items
+pub all_first : {A : Type 0} (P : A → Type 0) (xs : List A) (n : ℕ) (first : A) → slice_get xs 0 ≡ Some first → P first
+    → ((i : ℕ) (x : A) → 0 < i → i < n → slice_get xs i ≡ Some x → P x) → (x : A) → Member x (take n xs) → P x
+all_first P xs n first at is all x m =
+    let (i, less, there) = in_first n xs x m in elim (cases_eq i 0) [
+      | inl zeroth ↦ subst P (same_Some first x (sym at ∙ ap (slice_get xs) (sym zeroth) ∙ there)) is
+      | inr later ↦ all i x (omega (arith, later)) less there
+    ]
 
 -- one fact instead of another
 pub iff_on : (A B C : Type 0) → A ↔ B → B ↔ C → A ↔ C
@@ -205,19 +208,6 @@ module _ (ns ms : List Quad) (x y : Quad) (run more : List Insertion) (l rest ch
   pub goes_on : (v i : ℕ) → ((bit_of (sees ms y v) i ≡ true) ⊎ IsInserted more l v i)
       ↔ ((bit_of (sees ns x v) i ≡ true) ⊎ IsInserted (run ++ more) l v i)
   goes_on v i = regroup _ _ _ _ _ (node_led v i) (run_given run more l v i)
-
--- the first insertions continue alike: the first of all, and those after it
-pub all_alike : (left : List Insertion) (n l way : ℕ) (first : Insertion) → slice_get left 0 ≡ Some first
-    → ContinuesBy (valuation_of first) l way
-    → ((i : ℕ) (c : Insertion) → 0 < i → i < n → slice_get left i ≡ Some c → ContinuesBy (valuation_of c) l way)
-    → (c : Insertion) → Member c (take n left) → ContinuesBy (valuation_of c) l way
-all_alike left n l way first at is all c m =
-    let (i, less, there) = in_first n left c m in elim (cases_eq i 0) [
-      | inl zeroth ↦
-          let same : first ≡ c = same_Some first c (sym at ∙ ap (slice_get left) (sym zeroth) ∙ there) in
-          subst (λ d. ContinuesBy (valuation_of d) l way) same is
-      | inr later ↦ all i c (omega (arith, later)) less there
-    ]
 
 -- if no insertion is left, all are put in
 pub all_put : (left : List Insertion) → length left ≡ 0 → (l v i new seen : ℕ) → new ≡ seen → (Q : Type 0)

@@ -1,6 +1,7 @@
 -- The masks that are gathered for the diagrams, in batches; those of a diagram are in one batch.
-use Rattle.std.specs.Prelude.{◌≡◌, ◌<◌, ℕ, zero, suc, List, [], ◌∷◌, ◌++◌, Some, length, slice_get}
+use Rattle.std.specs.Prelude.{◌≡◌, ◌<◌, ℕ, List, [], ◌∷◌, ◌++◌, Some, length, slice_get}
 use Rattle.std.specs.Map.{keys_of}
+use Rattle.std.specs.Option.{option_map_or}
 use Rattle.language.specs.Lists.{Member}
 use Rattle.path_sets.specs.declared.diagrams.batch.Batch.{Batch}
 use Rattle.path_sets.specs.declared.points.mask_key.MaskKey.{MaskKey}
@@ -12,9 +13,7 @@ use Rattle.path_sets.specs.GatheredKeys.{AreWithin, masks_of}
 
 -- the masks of the batch with this number, with their keys; none after the last
 abbrev pub gathered_at : {A : Type 0} → List (Batch A) → ℕ → List (GatheredKey × ℕ)
-gathered_at [] k = []
-gathered_at (batch ∷ batches) zero = batch.masks.entries
-gathered_at (batch ∷ batches) (suc k) = gathered_at batches k
+gathered_at batches k = option_map_or (λ batch. batch.masks.entries) (slice_get batches k) []
 
 -- the masks of all batches
 abbrev pub masks_in : {A : Type 0} → List DiagramKey → List (Batch A) → List (MaskKey × ℕ)

@@ -1,6 +1,7 @@
 -- The path edges of masks in shards; those of an entry are in one shard.
-use Rattle.std.specs.Prelude.{◌≡◌, ◌<◌, ℕ, zero, suc, nat_eq, List, [], ◌∷◌, ◌++◌, Some, length}
+use Rattle.std.specs.Prelude.{◌≡◌, ◌<◌, ℕ, nat_eq, List, [], ◌∷◌, ◌++◌, Some, length, slice_get}
 use Rattle.std.specs.Map.{lookup}
+use Rattle.std.specs.Option.{option_map_or}
 use Rattle.language.specs.Lists.{Member}
 use Rattle.path_sets.specs.declared.ordered.shard.Shard.{Shard}
 use Rattle.path_sets.specs.Edges.{mask_edges}
@@ -8,9 +9,7 @@ use Rattle.path_sets.specs.Triples.{Triple}
 
 -- the path edges of the shard with this number; none after the last
 abbrev pub edges_at : {A : Type 0} → List (Shard A) → ℕ → List Triple
-edges_at [] k = []
-edges_at (shard ∷ shards) zero = mask_edges shard.masks.entries
-edges_at (shard ∷ shards) (suc k) = edges_at shards k
+edges_at shards k = option_map_or (λ shard. mask_edges shard.masks.entries) (slice_get shards k) []
 
 -- the path edges of all shards
 abbrev pub all_in : {A : Type 0} → List (Shard A) → List Triple

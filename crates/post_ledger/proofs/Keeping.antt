@@ -1,6 +1,6 @@
 -- What each call of a mailbox keeps.
 use Rattle.std.proofs.Common.{◌≡◌, ℕ, zero, suc, ◌+◌, ◌^◌, ◌<◌, ◌≤◌, List, [], ◌∷◌, ◌++◌, Some, true, false, length, slice_get, Contains}
-use Rattle.std.proofs.Common.{refl, sym, ◌∙◌, ap, ap₂, subst, arith, ◌-◌, ◌⊎◌, inl, inr, nat_eq, ltb, get_or, take, add-one}
+use Rattle.std.proofs.Common.{refl, sym, ◌∙◌, ap, ap₂, subst, arith, ◌-◌, ◌⊎◌, inl, inr, nat_eq, ltb, get_or}
 use Rattle.std.proofs.lemmas.List.{append-nil, length_push}
 use Rattle.std.proofs.lemmas.List.Concat.{flat_map-append}
 use Rattle.std.proofs.lemmas.Option.{none-some, same_Some, slice_get_read, slice_get_within}
@@ -17,7 +17,7 @@ use Rattle.post_ledger.specs.History.{posts, takes, dones}
 use Rattle.post_ledger.specs.declared.mailbox.NumberedEvent.{NumberedEvent}
 use Rattle.post_ledger.specs.declared.mailbox.NumberedEvent.TheVariants as by_number
 use Rattle.post_ledger.specs.Kept.{AreNumbered, HistoryCounts, IsNumbered, MailboxCounts, event_of, events_of, post_of, take_of}
-use Rattle.post_ledger.proofs.Histories.{posts-append, takes-append, dones-append, legal_push, split_at_element, at_seam, element_at}
+use Rattle.post_ledger.proofs.Histories.{posts-append, takes-append, dones-append, legal_push, at_seam, element_at}
 
 -- the lists of a history with one more event
 takes_post : {M : Type 0} (h : List (Event M)) (s : ℕ) (m : M) → takes (h ++ Post s m ∷ []) ≡ takes h

@@ -25,10 +25,6 @@ front_kept : {X : Type 0} (b : Bool) (x : X) (l m r : List X) → r ≡ l ++ m �
 front_kept true x l m r e = ap (λ t. x ∷ t) e
 front_kept false x l m r e = e
 
-take_front : {X : Type 0} (a b : List X) → take (length a) (a ++ b) ≡ a
-take_front [] b = refl
-take_front (x ∷ a) b = ap (λ r. x ∷ r) (take_front a b)
-
 module _ {M : Type 0} where
   pub part-append : (q : ℕ) (a b : List (Entry M)) → part q (a ++ b) ≡ part q a ++ part q b
   part-append q [] b = refl
@@ -81,58 +77,39 @@ module _ {M : Type 0} where
       omega (arith, more, length_push (dones h) t)
 
   pub sizes_push : (h : List (Event M)) (e : Event M) → Sizes h → MayFollow h e → Sizes (h ++ e ∷ [])
-  sizes_push h (Post s m) z may = record {
-    fewer =
-        omega (
+  sizes_push h (Post s m) z may =
+      let taken = takes-append h (Post s m ∷ []) ∙ append-nil (takes h) in
+      let done = dones-append h (Post s m ∷ []) ∙ append-nil (dones h) in record {
+        fewer = omega (arith, ap length taken, ap length (posts-append h (Post s m ∷ [])), length_push (posts h) (s, m), z.fewer);
+        once = subst (IsDistinct nat_eq) (sym done) z.once;
+        earlier = λ t found. omega (arith, z.earlier t (subst (λ l. list_any (nat_eq t) l ≡ true) done found), ap length taken);
+      }
+  sizes_push h (Take s m) z may =
+      let taken = takes-append h (Take s m ∷ []) in
+      let done = dones-append h (Take s m ∷ []) ∙ append-nil (dones h) in
+      let longer = length_push (takes h) (s, m) in record {
+        fewer =
+            omega (
+              arith,
+              slice_get_within (posts h) (length (takes h)) (s, m) may,
+              ap length taken,
+              longer,
+              ap length (posts-append h (Take s m ∷ []) ∙ append-nil (posts h)),
+            );
+        once = subst (IsDistinct nat_eq) (sym done) z.once;
+        earlier = λ t found. omega (arith, z.earlier t (subst (λ l. list_any (nat_eq t) l ≡ true) done found), ap length taken, longer);
+      }
+  sizes_push h (Done q) z may =
+      let taken = takes-append h (Done q ∷ []) ∙ append-nil (takes h) in
+      let done = dones-append h (Done q ∷ []) in record {
+        fewer = omega (arith, ap length taken, ap length (posts-append h (Done q ∷ []) ∙ append-nil (posts h)), z.fewer);
+        once = subst (IsDistinct nat_eq) (sym done) (IsDistinct-push nat_eq_equiv (dones h) q z.once (not_found (dones h) q may.1));
+        earlier = λ t found. omega (
           arith,
-          ap length (takes-append h (Post s m ∷ [])),
-          ap length (append-nil (takes h)),
-          ap length (posts-append h (Post s m ∷ [])),
-          length_push (posts h) (s, m),
-          z.fewer,
+          more_earlier (dones h) (length (takes h)) q z.earlier may.0 t (subst (λ l. list_any (nat_eq t) l ≡ true) done found),
+          ap length taken,
         );
-    once = subst (IsDistinct nat_eq) (sym (dones-append h (Post s m ∷ []) ∙ append-nil (dones h))) z.once;
-    earlier =
-        λ t found.
-        (let old = z.earlier t (subst (λ l. list_any (nat_eq t) l ≡ true) (dones-append h (Post s m ∷ []) ∙ append-nil (dones h)) found) in
-        omega (arith, old, ap length (takes-append h (Post s m ∷ [])), ap length (append-nil (takes h))));
-  }
-  sizes_push h (Take s m) z may = record {
-    fewer =
-        omega (
-          arith,
-          slice_get_within (posts h) (length (takes h)) (s, m) may,
-          ap length (takes-append h (Take s m ∷ [])),
-          length_push (takes h) (s, m),
-          ap length (posts-append h (Take s m ∷ [])),
-          ap length (append-nil (posts h)),
-        );
-    once = subst (IsDistinct nat_eq) (sym (dones-append h (Take s m ∷ []) ∙ append-nil (dones h))) z.once;
-    earlier =
-        λ t found.
-        (let old = z.earlier t (subst (λ l. list_any (nat_eq t) l ≡ true) (dones-append h (Take s m ∷ []) ∙ append-nil (dones h)) found) in
-        omega (arith, old, ap length (takes-append h (Take s m ∷ [])), length_push (takes h) (s, m)));
-  }
-  sizes_push h (Done q) z may = record {
-    fewer =
-        omega (
-          arith,
-          ap length (takes-append h (Done q ∷ [])),
-          ap length (append-nil (takes h)),
-          ap length (posts-append h (Done q ∷ [])),
-          ap length (append-nil (posts h)),
-          z.fewer,
-        );
-    once =
-        subst (IsDistinct nat_eq) (sym (dones-append h (Done q ∷ [])))
-        (IsDistinct-push nat_eq_equiv (dones h) q z.once (not_found (dones h) q may.1));
-    earlier =
-        λ t found.
-        (let old =
-        more_earlier (dones h) (length (takes h)) q z.earlier may.0 t
-        (subst (λ l. list_any (nat_eq t) l ≡ true) (dones-append h (Done q ∷ [])) found) in
-        omega (arith, old, ap length (takes-append h (Done q ∷ [])), ap length (append-nil (takes h))));
-  }
+      }
 
   pub sizes_to : (h : List (Event M)) → IsLegal h → (n : ℕ) → n ≤ length h → Sizes (take n h)
   sizes_to h legal zero le = record { fewer = omega arith; once = unfold IsDistinct in tt; earlier = λ t found. cc }
@@ -340,11 +317,11 @@ module _ {M : Type 0} where
       subst (λ l. slice_get l (length (part q order)) ≡ Some (event_of e)) (sym whole)
       (at_seam (part q order) (event_of e) (part q rest) (length (part q order)) refl) in
       let before : take (length (part q order)) (part q (order ++ e ∷ rest)) ≡ part q order = ap (take (length (part q order))) whole
-      ∙ take_front (part q order) (event_of e ∷ part q rest) in (
+      ∙ take_at (part q order) (event_of e ∷ part q rest) (length (part q order)) refl in (
         subst (λ l. MayFollow l (event_of e)) before (law.legal q (length (part q order)) (event_of e) at),
         job e
             (λ to s m t is.
-            subst (λ l. HasJob s t l) (take_front order (e ∷ rest))
+            subst (λ l. HasJob s t l) (take_at order (e ∷ rest) (length order) refl)
             (law.jobs (length order) to s m t later (at_seam order e rest (length order) refl ∙ ap Some is))),
       )
     where

@@ -13,25 +13,15 @@ pub enum Side {
 }
 
 /// The message of the event, if it is one of this sender at this side.
-fn message_of<M: Copy>(event: Event<M>, sender: u8, side: Side) -> Option<M>
-    ensures { MatchOption result (on_side side sender (event ∷ []) ≡ [])
-        (λ m. on_side side sender (event ∷ []) ≡ m ∷ []) }
+fn message_of<M: Copy>(event: Event<M>, from: u8, side: Side) -> Option<M>
+    ensures { MatchOption result (on_side side from (event ∷ []) ≡ [])
+        (λ m. on_side side from (event ∷ []) ≡ m ∷ []) }
 {
-    match side {
-        Side::Posts => match event {
-            Event::Post {
-                sender: from,
-                message,
-            } if from == sender => Some(message),
-            _ => None,
-        },
-        Side::Takes => match event {
-            Event::Take {
-                sender: from,
-                message,
-            } if from == sender => Some(message),
-            _ => None,
-        },
+    match (side, event) {
+        (Side::Posts, Event::Post { sender, message })
+        | (Side::Takes, Event::Take { sender, message })
+            if sender == from => { Some(message) }
+        _ => None,
     }
 }
 

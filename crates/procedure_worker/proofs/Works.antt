@@ -2,7 +2,7 @@
 use Rattle.std.proofs.Common.{◌≡◌, ◌≢◌, ◌⊎◌, inl, inr, ℕ, ◌<◌, ◌∷◌, ◌++◌, [], List, Some, None, Ok, Err}
 use Rattle.std.proofs.Common.{length, slice_get, refl, sym, ap, ◌∙◌, subst, arith, false, MatchOption}
 use Rattle.std.specs.Prelude.{◌↔◌, Option, Result, IsSome, IsErrAnd, MatchResult}
-use Rattle.std.specs.Option.{ForSome, IfNone}
+use Rattle.std.specs.Option.{IfNone}
 use Rattle.atomic_table.specs.Seated.{TableId}
 use Rattle.ticket_lock.specs.Proved.Facts.{StartsWith-trans}
 use Rattle.std.proofs.lemmas.Option.{slice_get_within}
@@ -11,7 +11,7 @@ use Rattle.post_ledger.specs.declared.entry.Entry.{Entry}
 use Rattle.post_ledger.specs.declared.entry.Entry.TheVariants.{Posted, Taken, Completed}
 use Rattle.post_ledger.specs.Orders.{own, HasJob}
 use Rattle.language.specs.Step.{Program}
-use Rattle.language.proofs.Members.{member_left, member_right, member_append}
+use Rattle.language.proofs.Members.{member_left, member_right}
 use Rattle.language.proofs.Entering.{due_there}
 use Rattle.path_sets.specs.Triples.{Triple}
 use Rattle.flow_graph.specs.declared.graph.Graphs.{Graphs}
@@ -40,7 +40,7 @@ use Rattle.switchboard.proofs.Opening.{sound_open}
 use Rattle.post_ledger.proofs.Orders.{own_else}
 use Rattle.path_sets.specs.declared.edge_limit.EdgeLimit.{EdgeLimit}
 use Rattle.procedure_worker.specs.Works.{begun}
-use Rattle.switchboard.specs.Promises.{GoesOn, MadeNone, Added, WasSpent, WasPosted, WasDone, MadeAbort}
+use Rattle.switchboard.specs.Promises.{GoesOn, MadeNone, Added, WasPosted, WasDone, MadeAbort}
 use Rattle.switchboard.specs.Promises as promises
 use Rattle.switchboard.proofs.Jobs.{kept_none, kept_added, job_new, no_done_post}
 use Rattle.procedure_worker.specs.declared.outcome.End.{End}
@@ -54,6 +54,7 @@ use Rattle.procedure_worker.specs.Works.{Start, IsPassOf, IsFresh, HasStood, Has
 use Rattle.procedure_worker.specs.Works.{IsDealing, IsSending, IsStopped, HasStopped, Failed, Completes, StopsSo, StoppedFor, IsAtFault}
 use Rattle.procedure_worker.specs.Works.{IsFounded, MayGoOn, HasAnswered, HasDealt, HasTurned, cause_for, took_by}
 use Rattle.procedure_worker.proofs.Lists.{taken_post, taken_take, taken_done, posted_post, posted_take, posted_done}
+use Rattle.path_sets.proofs.PlaceLemmas.{last_or}
 
 -- what is said of an error holds for an answer that is this error
 pub match_err : {T E : Type 0} (r : Result T E) (e : E) (P : T → Type 0) (Q : E → Type 0)
@@ -157,89 +158,74 @@ module _ {G : Type 0} (b : Start G) where
   fit_due d s p fit = subst (λ world. FitsIn world b.number d) p.world fit
 
   module _ {A S : Type 0} (members : S → List Triple) where
-    stands_same : (s t : Sight Due (Graphs G)) (x : Table G A S) (took : List Due) (sent : List (ℕ × Due))
-        → Stands b members s x took sent →
-        GoesOn FitsIn s t → own b.number t.seen.order ≡ own b.number s.seen.order → Stands b members t x took sent
-    stands_same s t x took sent k g same = record {
-      pass = pass_on s t k.pass g;
-      table = k.table;
-      limit = k.limit;
-      only = k.only;
-      takes = ap messages_taken same ∙ k.takes;
-      posts = ap posted_in same ∙ k.posts;
-    }
+    module _ (s t : Sight Due (Graphs G)) (x : Table G A S) (took : List Due) (sent : List (ℕ × Due))
+        (k : Stands b members s x took sent) where
+      stands_same : GoesOn FitsIn s t → own b.number t.seen.order ≡ own b.number s.seen.order → Stands b members t x took sent
+      stands_same g same = record {
+        pass = pass_on s t k.pass g;
+        table = k.table;
+        limit = k.limit;
+        only = k.only;
+        takes = ap messages_taken same ∙ k.takes;
+        posts = ap posted_in same ∙ k.posts;
+      }
 
-    -- no event was made
-    stands_none : (s t : Sight Due (Graphs G)) (x : Table G A S) (took : List Due) (sent : List (ℕ × Due))
-        → Stands b members s x took sent →
-        MadeNone FitsIn s t → Stands b members t x took sent
-    stands_none s t x took sent k m = stands_same s t x took sent k m.goes (own_none s t k.pass m)
+      -- no event was made
+      stands_none : MadeNone FitsIn s t → Stands b members t x took sent
+      stands_none m = stands_same m.goes (own_none s t k.pass m)
 
-    -- a message was completed
-    stands_done : (job : ℕ) (s t : Sight Due (Graphs G)) (x : Table G A S) (took : List Due) (sent : List (ℕ × Due)) →
-        Stands b members s x took sent → WasDone FitsIn job s t → Stands b members t x took sent
-    stands_done job s t x took sent k a =
-        let longer = own_added (Completed s.number job) s t k.pass a in record {
-          pass = pass_on s t k.pass a.goes;
-          table = k.table;
-          limit = k.limit;
-          only = k.only;
-          takes = taken_done (own b.number s.seen.order) (own b.number t.seen.order) s.number job longer ∙ k.takes;
-          posts = posted_done (own b.number s.seen.order) (own b.number t.seen.order) s.number job longer ∙ k.posts;
-        }
+      -- a message was completed
+      stands_done : (job : ℕ) → WasDone FitsIn job s t → Stands b members t x took sent
+      stands_done job a =
+          let longer = own_added (Completed s.number job) s t k.pass a in record {
+            pass = pass_on s t k.pass a.goes;
+            table = k.table;
+            limit = k.limit;
+            only = k.only;
+            takes = taken_done (own b.number s.seen.order) (own b.number t.seen.order) s.number job longer ∙ k.takes;
+            posts = posted_done (own b.number s.seen.order) (own b.number t.seen.order) s.number job longer ∙ k.posts;
+          }
 
-    -- an abort was made
-    stands_abort : (c : Cause) (s t : Sight Due (Graphs G)) (x : Table G A S) (took : List Due)
-        (sent : List (ℕ × Due)) →
-        Stands b members s x took sent → MadeAbort FitsIn (record { by = s.number; cause = c }) s t
-        → Stands b members t x took sent
-    stands_abort c s t x took sent k m =
-        stands_same s t x took sent k m.goes (subst (λ n. own n t.seen.order ≡ own n s.seen.order) k.pass.number m.own)
+      -- an abort was made
+      stands_abort : (c : Cause) → MadeAbort FitsIn (record { by = s.number; cause = c }) s t → Stands b members t x took sent
+      stands_abort c m = stands_same m.goes (subst (λ n. own n t.seen.order ≡ own n s.seen.order) k.pass.number m.own)
 
-    -- a message was posted
-    stands_post : (job to : ℕ) (d : Due) (s t : Sight Due (Graphs G)) (x : Table G A S) (took : List Due)
-        (sent : List (ℕ × Due)) →
-        Stands b members s x took sent → WasPosted FitsIn job to d s t → Stands b members t x took
-        (sent ++ (to, d) ∷ [])
-    stands_post job to d s t x took sent k p =
-        let longer = own_added (Posted to s.number d job) s t k.pass p.0 in
-        let mine = own b.number s.seen.order in
-        let now = own b.number t.seen.order in record {
-          pass = pass_on s t k.pass p.0.goes;
-          table = k.table;
-          limit = k.limit;
-          only = k.only;
-          takes = taken_post mine now to s.number d job longer ∙ k.takes;
-          posts = posted_post mine now to s.number d job longer ∙ ap (λ l. l ++ (to, d) ∷ []) k.posts;
-        }
+      -- a message was posted
+      stands_post : (job to : ℕ) (d : Due) → WasPosted FitsIn job to d s t → Stands b members t x took (sent ++ (to, d) ∷ [])
+      stands_post job to d p =
+          let longer = own_added (Posted to s.number d job) s t k.pass p.0 in
+          let mine = own b.number s.seen.order in
+          let now = own b.number t.seen.order in record {
+            pass = pass_on s t k.pass p.0.goes;
+            table = k.table;
+            limit = k.limit;
+            only = k.only;
+            takes = taken_post mine now to s.number d job longer ∙ k.takes;
+            posts = posted_post mine now to s.number d job longer ∙ ap (λ l. l ++ (to, d) ∷ []) k.posts;
+          }
 
-    -- a message was taken
-    stands_take : (job : ℕ) (d : Due) (s t : Sight Due (Graphs G)) (x : Table G A S) (took : List Due)
-        (sent : List (ℕ × Due)) →
-        Stands b members s x took sent → promises.TookOldest FitsIn job d s t → Stands b members t x
-        (took ++ d ∷ []) sent
-    stands_take job d s t x took sent k m =
-        let longer = own_added (Taken s.number m.sender d) s t k.pass m.added in
-        let mine = own b.number s.seen.order in
-        let now = own b.number t.seen.order in record {
-          pass = pass_on s t k.pass m.added.goes;
-          table = k.table;
-          limit = k.limit;
-          only = λ i h. member_left (due_of i) took (d ∷ []) (k.only i h);
-          takes = taken_take mine now s.number m.sender d longer ∙ ap (λ l. l ++ d ∷ []) k.takes;
-          posts = posted_take mine now s.number m.sender d longer ∙ k.posts;
-        }
+      -- a message was taken
+      stands_take : (job : ℕ) (d : Due) → promises.TookOldest FitsIn job d s t → Stands b members t x (took ++ d ∷ []) sent
+      stands_take job d m =
+          let longer = own_added (Taken s.number m.sender d) s t k.pass m.added in
+          let mine = own b.number s.seen.order in
+          let now = own b.number t.seen.order in record {
+            pass = pass_on s t k.pass m.added.goes;
+            table = k.table;
+            limit = k.limit;
+            only = λ i h. member_left (due_of i) took (d ∷ []) (k.only i h);
+            takes = taken_take mine now s.number m.sender d longer ∙ ap (λ l. l ++ d ∷ []) k.takes;
+            posts = posted_take mine now s.number m.sender d longer ∙ k.posts;
+          }
 
-    -- The worker aborted the board.
-    failed_ends : (why : Reason) (e : WorkerEnd) (s t : Sight Due (Graphs G)) (x : Table G A S) (took : List Due)
-        (sent : List (ℕ × Due)) →
-        Stands b members s x took sent → s.made ≡ false → HasStood b (cause_of why) s
-        → IsAtFault (end.Failed (cause_of why)) x → Failed FitsIn why e s t
-        → ((took : List Due) × (sent : List (ℕ × Due)) × EndsSo b members (end_of e) t x took sent) × IsAtFault (end_of e) x
-    failed_ends why e s t x took sent k made stood fault f =
-        let c = cause_of why in
-        subst (λ z. ((l : List Due) × (m : List (ℕ × Due)) × EndsSo b members (end_of z) t x l m) × IsAtFault (end_of z) x) (sym f.0)
-        ((took, sent, (stands_abort c s t x took sent k f.1, has_failed c s t k.pass made stood f.1)), fault)
+      -- The worker aborted the board.
+      failed_ends : (why : Reason) (e : WorkerEnd) → s.made ≡ false → HasStood b (cause_of why) s
+          → IsAtFault (end.Failed (cause_of why)) x → Failed FitsIn why e s t
+          → ((took : List Due) × (sent : List (ℕ × Due)) × EndsSo b members (end_of e) t x took sent) × IsAtFault (end_of e) x
+      failed_ends why e made stood fault f =
+          let c = cause_of why in
+          subst (λ z. ((l : List Due) × (m : List (ℕ × Due)) × EndsSo b members (end_of z) t x l m) × IsAtFault (end_of z) x) (sym f.0)
+          ((took, sent, (stands_abort c f.1, has_failed c s t k.pass made stood f.1)), fault)
 
     -- The message is completed, and all that is implied was posted: the worker is ready, or was without a call.
     pub complete_ends : {P : Type 0} (job : ℕ) (r : Option WorkerEnd) (s t : Sight Due (Graphs G)) (w : Worker P G A S) (pass : P)
@@ -253,7 +239,7 @@ module _ {G : Type 0} (b : Start G) where
           served = (
             (
               record {
-                stands = stands_done job s t w.table d.took d.posts g.stands done;
+                stands = stands_done s t w.table d.took d.posts g.stands job done;
                 made = done.made ∙ g.made;
                 whole = g.whole;
                 all = g.all;
@@ -265,7 +251,7 @@ module _ {G : Type 0} (b : Start G) where
         }
     complete_ends job (Some e) s t w pass d quiet failed =
         let g = d.sent.0 in
-        failed_ends reason.Spent e s t w.table d.took d.posts g.stands g.made failed.0
+        failed_ends s t w.table d.took d.posts g.stands reason.Spent e g.made failed.0
         (not_at_fault (end.Failed cause.Spent) w.table g.whole) failed.1
 
     -- The worker stops, for its reason.
@@ -278,14 +264,14 @@ module _ {G : Type 0} (b : Start G) where
           k.took,
           k.posts,
           (
-            stands_done job s t w.table k.took k.posts k.stands done.1,
+            stands_done s t w.table k.took k.posts k.stands job done.1,
             done.1.made ∙ k.made,
             abort_stays done.1.goes,
           ),
         ),
         k.fault,
       )
-      | inr failed ↦ failed_ends reason.Spent e s t w.table k.took k.posts k.stands k.made failed.0
+      | inr failed ↦ failed_ends s t w.table k.took k.posts k.stands reason.Spent e k.made failed.0
           (not_at_abort (end.Failed cause.Spent) w.table k.fault) failed.1
     ]
       where
@@ -297,7 +283,7 @@ module _ {G : Type 0} (b : Start G) where
         abort_stays g = let z = known s.seen.aborted k.reason in ap Rattle.std.specs.Prelude.is_some
             (g.before.aborted z.0 z.1)
     stopped_ends job (Some why) e s t w k so =
-        failed_ends why e s t w.table k.took k.posts k.stands k.made k.reason k.fault so
+        failed_ends s t w.table k.took k.posts k.stands why e k.made k.reason k.fault so
 
     -- A table that has kept what it took is that of the procedure still.
     table_keeps : (f : Option TableFault) (p : Program) (q : ℕ) (x y : Table G A S) → IsTableOf members p q x
@@ -342,133 +328,120 @@ module _ {G : Type 0} (b : Start G) where
       all = λ i h. same_taken x.found y.found keeps.taken i (g.all i h);
     }
 
-    -- The table has answered a message, which is due and is posted next.
-    pub answered_sending : {P : Type 0} (job to : ℕ) (d : Due) (s : Sight Due (Graphs G)) (w : Worker P G A S) (y : Table G A S) →
-        IsDealing b members job s w → KeepsTable members None w.table y → IsAnswer w.table y to d →
-        IsSending b members job to d s (record w { table = y })
-    answered_sending job to d s w y deals keeps answer =
-        let g = deals.sent.0 in
-        let stands = stands_keeps None s w.table y deals.took deals.posts g.stands keeps in
-        let pass = g.stands.pass in
-        let p = pass.drawn.0 in
-        let due : IsDueFor p to d = answer_due members p b.number y (stands.table p pass.drawn.1) w.table to d answer in
-        record {
+    module _ {P : Type 0} (job : ℕ) (s : Sight Due (Graphs G)) (w : Worker P G A S) (y : Table G A S) (deals : IsDealing b members job s w) where
+      -- The table has answered a message, which is due and is posted next.
+      pub answered_sending : (to : ℕ) (d : Due) → KeepsTable members None w.table y → IsAnswer w.table y to d
+          → IsSending b members job to d s (record w { table = y })
+      answered_sending to d keeps answer =
+          let g = deals.sent.0 in
+          let stands = stands_keeps None s w.table y deals.took deals.posts g.stands keeps in
+          let pass = g.stands.pass in
+          let p = pass.drawn.0 in
+          let due : IsDueFor p to d = answer_due members p b.number y (stands.table p pass.drawn.1) w.table to d answer in
+          record {
+            took = deals.took;
+            posts = deals.posts;
+            goes = goes_keeps s w.table y deals.took deals.posts g keeps;
+            but = ap (λ l. l ++ mail to d ∷ []) deals.sent.1 ∙ sym answer.behind;
+            near = receiver_there s to d pass due;
+            fits = subst (λ world. FitsIn world to d) (sym g.stands.pass.world)
+                (λ p drawn. answer_due members p b.number y (stands.table p drawn) w.table to d answer);
+            has = deals.has;
+          }
+
+      -- The table has failed.
+      table_stops : (f : TableFault) (why : Reason) → cause_of why ≡ cause_for f → KeepsTable members (Some f) w.table y
+          → IsStopped b members job (Some why) s (record w { table = y })
+      table_stops f why same keeps =
+          let g = deals.sent.0 in
+          let stands = stands_keeps (Some f) s w.table y deals.took deals.posts g.stands keeps in record {
+            took = deals.took;
+            posts = deals.posts;
+            stands = stands;
+            made = g.made;
+            has = deals.has;
+            reason = subst (λ c. HasStood b c s) (sym same)
+                (fault_stood f s s y deals.took deals.posts stands keeps.fault);
+            fault = subst (λ c. IsAtFault (end.Failed c) y) (sym same) (at_fault f y keeps.fault);
+          }
+
+      pub answered_fault : (why : Reason) → FailsFor why (λ f. KeepsTable members (Some f) w.table y)
+          → IsStopped b members job (Some why) s (record w { table = y })
+      answered_fault reason.Spent failed = absurd failed
+      answered_fault reason.EdgeLimit failed = table_stops fault.EdgeLimit reason.EdgeLimit refl failed
+      answered_fault (reason.OutOfMemory witness) failed = table_stops fault.Memory (reason.OutOfMemory witness) refl failed
+
+      -- The table owed no message: all that it answered is posted still.
+      pub answered_none : KeepsTable members None w.table y → answers_of y ≡ answers_of w.table → IsQuiet members y
+          → HasAnswered b members job false s s (record w { table = y })
+      answered_none keeps same quiet = record {
+        dealing = record {
           took = deals.took;
           posts = deals.posts;
-          goes = goes_keeps s w.table y deals.took deals.posts g keeps;
-          but = ap (λ l. l ++ mail to d ∷ []) deals.sent.1 ∙ sym answer.behind;
-          near = receiver_there s to d pass due;
-          fits = subst (λ world. FitsIn world to d) (sym g.stands.pass.world)
-              (λ p drawn. answer_due members p b.number y (stands.table p drawn) w.table to d answer);
+          sent = (goes_keeps s w.table y deals.took deals.posts deals.sent.0 keeps, deals.sent.1 ∙ sym same);
           has = deals.has;
-        }
+        };
+        none = quiet;
+        takes = refl;
+      }
 
-    -- The table has failed.
-    table_stops : {P : Type 0} (job : ℕ) (f : TableFault) (why : Reason) (s : Sight Due (Graphs G)) (w : Worker P G A S)
-        (y : Table G A S) → cause_of why ≡ cause_for f → IsDealing b members job s w → KeepsTable members (Some f) w.table y →
-        IsStopped b members job (Some why) s (record w { table = y })
-    table_stops job f why s w y same deals keeps =
-        let g = deals.sent.0 in
-        let stands = stands_keeps (Some f) s w.table y deals.took deals.posts g.stands keeps in record {
-          took = deals.took;
-          posts = deals.posts;
-          stands = stands;
-          made = g.made;
-          has = deals.has;
-          reason = subst (λ c. HasStood b c s) (sym same)
-              (fault_stood f s s y deals.took deals.posts stands keeps.fault);
-          fault = subst (λ c. IsAtFault (end.Failed c) y) (sym same) (at_fault f y keeps.fault);
-        }
+    module _ {P : Type 0} (job to : ℕ) (d : Due) (s t : Sight Due (Graphs G)) (v w : Worker P G A S) (k : IsSending b members job to d s v)
+        (table : w.table ≡ v.table) where
+      -- The message is posted.
+      pub sent_dealing : WasPosted FitsIn job to d s t → IsDealing b members job t w
+      sent_dealing p =
+          let g = k.goes in
+          let still = stands_post s t v.table k.took k.posts g.stands job to d p in
+          let whole : HasSent b members t v.table k.took (k.posts ++ (to, d) ∷ []) = (
+            record { stands = still; made = p.0.made ∙ g.made; whole = g.whole; all = g.all },
+            map-append (λ (x : ℕ × Due). mail x.0 x.1) k.posts ((to, d) ∷ []) ∙ k.but,
+          ) in record {
+            took = k.took;
+            posts = k.posts ++ (to, d) ∷ [];
+            sent = subst (λ x. HasSent b members t x k.took (k.posts ++ (to, d) ∷ [])) (sym table) whole;
+            has = job_of_pass t job still.pass (kept_added FitsIn s t job (Posted to s.number d job) p.0
+                (no_done_post s.number to s.number d job)
+                (job_to_pass s job g.stands.pass k.has));
+          }
 
-    pub answered_fault : {P : Type 0} (job : ℕ) (why : Reason) (s : Sight Due (Graphs G)) (w : Worker P G A S) (y : Table G A S) →
-        IsDealing b members job s w → FailsFor why (λ f. KeepsTable members (Some f) w.table y) →
-        IsStopped b members job (Some why) s (record w { table = y })
-    answered_fault job reason.Spent s w y deals failed = absurd failed
-    answered_fault job reason.EdgeLimit s w y deals failed =
-        table_stops job fault.EdgeLimit reason.EdgeLimit s w y refl deals failed
-    answered_fault job (reason.OutOfMemory witness) s w y deals failed =
-        table_stops job fault.Memory (reason.OutOfMemory witness) s w y refl deals failed
+      -- The worker stops before the post, or at a post that made no event.
+      sending_stopped : (why : StopReason) → StoppedFor b why s → IsStopped b members job why s w
+      sending_stopped why stopped = record {
+        took = k.took;
+        posts = k.posts;
+        stands = subst (λ x. Stands b members s x k.took k.posts) (sym table) k.goes.stands;
+        made = k.goes.made;
+        has = k.has;
+        reason = stopped;
+        fault = not_at_fault (end_at why) w.table (ap failure table ∙ k.goes.whole);
+      }
 
-    -- The table owed no message: all that it answered is posted still.
-    pub answered_none : {P : Type 0} (job : ℕ) (s : Sight Due (Graphs G)) (w : Worker P G A S) (y : Table G A S) →
-        IsDealing b members job s w → KeepsTable members None w.table y → answers_of y ≡ answers_of w.table → IsQuiet members y →
-        HasAnswered b members job false s s (record w { table = y })
-    answered_none job s w y deals keeps same quiet = record {
-      dealing = record {
-        took = deals.took;
-        posts = deals.posts;
-        sent = (goes_keeps s w.table y deals.took deals.posts deals.sent.0 keeps, deals.sent.1 ∙ sym same);
-        has = deals.has;
-      };
-      none = quiet;
-      takes = refl;
-    }
+      sending_none : (why : StopReason) → MadeNone FitsIn s t → StoppedFor b why t → IsStopped b members job why t w
+      sending_none why m stopped =
+          let g = k.goes in record {
+            took = k.took;
+            posts = k.posts;
+            stands = subst (λ x. Stands b members t x k.took k.posts) (sym table) (stands_none s t v.table k.took k.posts g.stands m);
+            made = m.made ∙ g.made;
+            has = job_none job s t g.stands.pass m k.has;
+            reason = stopped;
+            fault = not_at_fault (end_at why) w.table (ap failure table ∙ g.whole);
+          }
 
-    -- The message is posted.
-    pub sent_dealing : {P : Type 0} (job to : ℕ) (d : Due) (s t : Sight Due (Graphs G)) (v w : Worker P G A S)
-        → IsSending b members job to d s v →
-        WasPosted FitsIn job to d s t → w.table ≡ v.table → IsDealing b members job t w
-    sent_dealing job to d s t v w k p table =
-        let g = k.goes in
-        let still = stands_post job to d s t v.table k.took k.posts g.stands p in
-        let whole : HasSent b members t v.table k.took (k.posts ++ (to, d) ∷ []) = (
-          record { stands = still; made = p.0.made ∙ g.made; whole = g.whole; all = g.all },
-          map-append (λ (x : ℕ × Due). mail x.0 x.1) k.posts ((to, d) ∷ []) ∙ k.but,
-        ) in record {
-          took = k.took;
-          posts = k.posts ++ (to, d) ∷ [];
-          sent = subst (λ x. HasSent b members t x k.took (k.posts ++ (to, d) ∷ [])) (sym table) whole;
-          has = job_of_pass t job still.pass (kept_added FitsIn s t job (Posted to s.number d job) p.0
-              (no_done_post s.number to s.number d job)
-              (job_to_pass s job g.stands.pass k.has));
-        }
-
-    -- The worker stops before the post, or at a post that made no event.
-    sending_stopped : {P : Type 0} (job to : ℕ) (d : Due) (why : StopReason) (s : Sight Due (Graphs G)) (v w : Worker P G A S)
-        → IsSending b members job to d s v → StoppedFor b why s → w.table ≡ v.table → IsStopped b members job why s w
-    sending_stopped job to d why s v w k stopped table = record {
-      took = k.took;
-      posts = k.posts;
-      stands = subst (λ x. Stands b members s x k.took k.posts) (sym table) k.goes.stands;
-      made = k.goes.made;
-      has = k.has;
-      reason = stopped;
-      fault = not_at_fault (end_at why) w.table (ap failure table ∙ k.goes.whole);
-    }
-
-    sending_none : {P : Type 0} (job to : ℕ) (d : Due) (why : StopReason) (s t : Sight Due (Graphs G)) (v w : Worker P G A S)
-        → IsSending b members job to d s v →
-        MadeNone FitsIn s t → StoppedFor b why t → w.table ≡ v.table → IsStopped b members job why t w
-    sending_none job to d why s t v w k m stopped table =
-        let g = k.goes in record {
-          took = k.took;
-          posts = k.posts;
-          stands = subst (λ x. Stands b members t x k.took k.posts) (sym table)
-              (stands_none s t v.table k.took k.posts g.stands m);
-          made = m.made ∙ g.made;
-          has = job_none job s t g.stands.pass m k.has;
-          reason = stopped;
-          fault = not_at_fault (end_at why) w.table (ap failure table ∙ g.whole);
-        }
-
-    -- The post was refused.
-    pub sending_refused : {P : Type 0} (job to : ℕ) (d : Due) (why : StopReason) (s t : Sight Due (Graphs G)) (v w : Worker P G A S)
-        → IsSending b members job to d s v → RefusedFor FitsIn why s t → w.table ≡ v.table → IsStopped b members job why t w
-    sending_refused job to d None s t v w k refused table =
-        sending_none job to d None s t v w k refused.0.0 refused.1 table
-    sending_refused job to d (Some reason.Spent) s t v w k spent table =
-        subst (λ z. IsStopped b members job (Some reason.Spent) z w) (sym spent.1)
-        (sending_stopped job to d (Some reason.Spent) s v w k spent.0 table)
-    sending_refused job to d (Some reason.EdgeLimit) s t v w k refused table = absurd refused
-    sending_refused job to d (Some (reason.OutOfMemory witness)) s t v w k refused table =
-        sending_none job to d (Some (reason.OutOfMemory witness)) s t v w k refused.0.0 tt table
+      -- The post was refused.
+      pub sending_refused : (why : StopReason) → RefusedFor FitsIn why s t → IsStopped b members job why t w
+      sending_refused None refused = sending_none None refused.0.0 refused.1
+      sending_refused (Some reason.Spent) spent =
+          subst (λ z. IsStopped b members job (Some reason.Spent) z w) (sym spent.1) (sending_stopped (Some reason.Spent) spent.0)
+      sending_refused (Some reason.EdgeLimit) refused = absurd refused
+      sending_refused (Some (reason.OutOfMemory witness)) refused = sending_none (Some (reason.OutOfMemory witness)) refused.0.0 tt
 
     -- The pass took a message, which the table is to take.
     pub took_taking : {P : Type 0} (job : ℕ) (d : Due) (s t : Sight Due (Graphs G)) (v w : Worker P G A S) → IsReady b members s v
         → promises.TookOldest FitsIn job d s t → w.table ≡ v.table → IsTaking b members job d t w
     took_taking job d s t v w ready m table =
         let g = ready.served.0.0 in
-        let still = stands_take job d s t v.table ready.took ready.sent g.stands m in record {
+        let still = stands_take s t v.table ready.took ready.sent g.stands job d m in record {
           before = ready.took;
           posts = ready.sent;
           stands = subst (λ x. Stands b members t x (ready.took ++ d ∷ []) ready.sent) (sym table) still;
@@ -481,80 +454,71 @@ module _ {G : Type 0} (b : Start G) where
           has = job_of_pass t job still.pass (job_new FitsIn s t job d m);
         }
 
-    -- The table was given the message, with this result.
-    given_stands : {P : Type 0} (d : Due) {T : Type 0} (answer : Result T TableFault) (job : ℕ) (s : Sight Due (Graphs G))
-        (w : Worker P G A S) (y : Table G A S) →
-        (k : IsTaking b members job d s w) → TableTakes members d answer w.table y
-        → Stands b members s y (k.before ++ d ∷ []) k.posts
-    given_stands d answer job s w y k given = record {
-      pass = k.stands.pass;
-      table = λ p drawn.
-          let is = k.stands.table p drawn in record {
-            fit = is.fit;
-            in_order = is.in_order;
-            graph = subst (IsGraph p b.number) (sym given.stays.graph) is.graph;
-            number = given.stays.procedure ∙ is.number;
-            table = given.table;
-            due = λ i h. elim
-                (given.only i h) [
-                  | inl this ↦ fit_due d s k.stands.pass k.fits p drawn i this
-                  | inr old ↦ is.due i
-                      old
-                ];
-          };
-      limit = ap most_of given.stays.limit ∙ k.stands.limit;
-      only = λ i h. elim (given.only i h) [
-        | inl this ↦ member_right (due_of i) k.before (d ∷ []) (inl this)
-        | inr old ↦ k.stands.only i old
-      ];
-      takes = k.stands.takes;
-      posts = k.stands.posts;
-    }
+    module _ {P : Type 0} (d : Due) (job : ℕ) (s : Sight Due (Graphs G)) (w : Worker P G A S) (y : Table G A S)
+        (k : IsTaking b members job d s w) where
+      -- The table was given the message, with this result.
+      given_stands : {T : Type 0} (answer : Result T TableFault) → TableTakes members d answer w.table y
+          → Stands b members s y (k.before ++ d ∷ []) k.posts
+      given_stands answer given = record {
+        pass = k.stands.pass;
+        table = λ p drawn.
+            let is = k.stands.table p drawn in record {
+              fit = is.fit;
+              in_order = is.in_order;
+              graph = subst (IsGraph p b.number) (sym given.stays.graph) is.graph;
+              number = given.stays.procedure ∙ is.number;
+              table = given.table;
+              due = λ i h. elim
+                  (given.only i h) [
+                    | inl this ↦ fit_due d s k.stands.pass k.fits p drawn i this
+                    | inr old ↦ is.due i
+                        old
+                  ];
+            };
+        limit = ap most_of given.stays.limit ∙ k.stands.limit;
+        only = λ i h. elim (given.only i h) [
+          | inl this ↦ member_right (due_of i) k.before (d ∷ []) (inl this)
+          | inr old ↦ k.stands.only i old
+        ];
+        takes = k.stands.takes;
+        posts = k.stands.posts;
+      }
 
-    -- The table took the message.
-    pub given_dealing : {P : Type 0} (d : Due) {T : Type 0} (x : T) (job : ℕ) (s : Sight Due (Graphs G)) (w : Worker P G A S)
-        (y : Table G A S) →
-        IsTaking b members job d s w → TableTakes members d (Ok x) w.table y → IsDealing b members job s
-        (record w { table = y })
-    given_dealing d x job s w y k given = record {
-      took = k.before ++ d ∷ [];
-      posts = k.posts;
-      sent = (
-        record {
-          stands = given_stands d (Ok x) job s w y k given;
-          made = k.made;
-          whole = given.fault;
-          all = λ i h. (given.taken i).1
-              (elim (member_append (due_of i) k.before (d ∷ []) h) [
-                | inl old ↦ inr (k.all i old)
-                | inr last ↦ elim last [ inl this ↦ inl this | inr none ↦ absurd none ]
-              ]);
-        },
-        k.sent ∙ sym given.answers,
-      );
-      has = k.has;
-    }
+      -- The table took the message.
+      pub given_dealing : {T : Type 0} (x : T) → TableTakes members d (Ok x) w.table y → IsDealing b members job s (record w { table = y })
+      given_dealing x given = record {
+        took = k.before ++ d ∷ [];
+        posts = k.posts;
+        sent = (
+          record {
+            stands = given_stands (Ok x) given;
+            made = k.made;
+            whole = given.fault;
+            all = λ i h. (given.taken i).1
+                (elim (last_or k.before d (due_of i) h) [ inl old ↦ inr (k.all i old) | inr this ↦ inl this ]);
+          },
+          k.sent ∙ sym given.answers,
+        );
+        has = k.has;
+      }
 
-    -- The table failed at the message.
-    taking_stops : {P : Type 0} (d : Due) {T : Type 0} (f : TableFault) (why : Reason) (job : ℕ) (e : WorkerEnd)
-        (s t : Sight Due (Graphs G)) (w : Worker P G A S) (y : Table G A S) → cause_of why ≡ cause_for f →
-        IsTaking b members job d s w → TableTakes members d {Returned = T} (Err f) w.table y → Failed FitsIn why e s t →
-        HasStopped b members e t (record w { table = y })
-    taking_stops d {T} f why job e s t w y same k given failed =
-        let stands = given_stands d {T = T} (Err f) job s w y k given in
-        failed_ends why e s t y (k.before ++ d ∷ []) k.posts stands k.made
-        (subst (λ c. HasStood b c s) (sym same) (fault_stood f s s y (k.before ++ d ∷ []) k.posts stands given.fault))
-        (subst (λ c. IsAtFault (end.Failed c) y) (sym same) (at_fault f y given.fault)) failed
+      -- The table failed at the message.
+      module _ (e : WorkerEnd) (t : Sight Due (Graphs G)) where
+        taking_stops : {T : Type 0} (f : TableFault) (why : Reason) → cause_of why ≡ cause_for f
+            → TableTakes members d {Returned = T} (Err f) w.table y → Failed FitsIn why e s t
+            → HasStopped b members e t (record w { table = y })
+        taking_stops {T} f why same given failed =
+            let stands = given_stands {T = T} (Err f) given in
+            failed_ends s t y (k.before ++ d ∷ []) k.posts stands why e k.made
+            (subst (λ c. HasStood b c s) (sym same) (fault_stood f s s y (k.before ++ d ∷ []) k.posts stands given.fault))
+            (subst (λ c. IsAtFault (end.Failed c) y) (sym same) (at_fault f y given.fault)) failed
 
-    pub given_fault : {P : Type 0} (d : Due) (T : Type 0) (why : Reason) (job : ℕ) (e : WorkerEnd) (s t : Sight Due (Graphs G))
-        (w : Worker P G A S) (y : Table G A S) →
-        IsTaking b members job d s w → TakesOrFails members {T = T} d (Err why) w.table y → Failed FitsIn why e s t →
-        HasStopped b members e t (record w { table = y })
-    given_fault d T reason.Spent job e s t w y k given failed = absurd given
-    given_fault d T reason.EdgeLimit job e s t w y k given failed =
-        taking_stops d {T = T} fault.EdgeLimit reason.EdgeLimit job e s t w y refl k given failed
-    given_fault d T (reason.OutOfMemory witness) job e s t w y k given failed =
-        taking_stops d {T = T} fault.Memory (reason.OutOfMemory witness) job e s t w y refl k given failed
+        pub given_fault : (T : Type 0) (why : Reason) → TakesOrFails members {T = T} d (Err why) w.table y → Failed FitsIn why e s t
+            → HasStopped b members e t (record w { table = y })
+        given_fault T reason.Spent given failed = absurd given
+        given_fault T reason.EdgeLimit given failed = taking_stops {T = T} fault.EdgeLimit reason.EdgeLimit refl given failed
+        given_fault T (reason.OutOfMemory witness) given failed =
+            taking_stops {T = T} fault.Memory (reason.OutOfMemory witness) refl given failed
 
     -- A new worker is ready.
     pub fresh_ready : {P : Type 0} (s : Sight Due (Graphs G)) (w : Worker P G A S) → (p : Program) × AreDrawnFrom p

@@ -62,10 +62,7 @@ module _ {M : Type 1} {𝓤 : Ura M} (𝓛 : Logic 𝓤) (at_mem : Memory → SP
 
   pub Regain-goes : ent 𝓤 (sep 𝓤 (sem 𝓛 (hidden_shr counter.the_row κ d c.0 c.1)) (A.lft κ q))
       ((Regain 𝓛 at_mem run).pre (at_regain 𝓛 at_mem run κ q c d))
-  Regain-goes =
-      qed 𝓛 (‵ (hidden_shr counter.the_row κ d c.0 c.1) ∷ ‵ (flft κ q) ∷ []) ∵ feq_i ! (List Val) (vptr c.0 c.1 ∷ [])
-      (vptr c.0 c.1 ∷ []) refl $ fjoin ! $
-      nothing ! $ move ! (1 ∷ []) $ fjoin ! $ nothing ! $ move ! (2 ∷ []) $ join ! $ join ! $ nothing ! $ move ! (1 ∷ []) $ join ! $ done !
+  Regain-goes = Permit-goes
 
   pub Regain-gives : (v : Val)
       → ent 𝓤 ((Regain 𝓛 at_mem run).post (at_regain 𝓛 at_mem run κ q c d) v) (H.⇛ (guard 𝓤 (v ≡ vunit) (A.lft κ q)))

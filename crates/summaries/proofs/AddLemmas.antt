@@ -3,25 +3,25 @@ use Rattle.std.proofs.Common.{◌≡◌, ◌⊎◌, ◌&&◌, Bool, true, false,
 use Rattle.std.proofs.Common.{nat_eq}
 use Rattle.std.specs.Bool.{beq}
 use Rattle.std.proofs.lemmas.Map.Views.{exact_unsigned_eq}
+use Rattle.std.proofs.lemmas.Bool.{and_parts}
 use Rattle.language.specs.Lists.{Member, NoneTwice}
-use Rattle.language.proofs.Members.{member_left, member_right, member_append}
+use Rattle.language.proofs.Members.{member_left, member_right}
 use Rattle.summaries.specs.declared.edge.CallKey.{CallKey}
 use Rattle.summaries.specs.declared.pair.Pair.{Pair}
 use Rattle.summaries.specs.Found.{call, call_eq, pair_eq}
-use Rattle.path_sets.proofs.MaskKeyLemmas.{both, same_flag, same_two}
+use Rattle.path_sets.proofs.MaskKeyLemmas.{same_flag, same_by_two}
 use Rattle.summaries.proofs.Mails.{none_twice_with}
+use Rattle.path_sets.proofs.PlaceLemmas.{last_or}
 
 -- calls that compare as equal are the same
 pub same_call : (x y : CallKey) → call_eq x y ≡ true → x ≡ y
-same_call x y e =
-    let (callee, entered) = same_two x.callee y.callee x.entered y.entered e in
-    λ j. call (callee j) (entered j)
+same_call x y = same_by_two call x.callee x.entered y.callee y.entered
 
 -- pairs that compare as equal are the same
 pub same_pair : (x y : Pair) → pair_eq x y ≡ true → x ≡ y
 same_pair x y e =
-    let (a, more) = both (nat_eq x.a y.a) (nat_eq x.b y.b && beq x.r y.r) e in
-    let (b, r) = both (nat_eq x.b y.b) (beq x.r y.r) more in
+    let (a, more) = and_parts (nat_eq x.a y.a) (nat_eq x.b y.b && beq x.r y.r) e in
+    let (b, r) = and_parts (nat_eq x.b y.b) (beq x.r y.r) more in
     λ j. record { a = exact_unsigned_eq x.a y.a a j; b = exact_unsigned_eq x.b y.b b j; r = same_flag x.r y.r r j }
 
 module _ {K V : Type 0} (eq : K → K → Bool) (same : (x y : K) → eq x y ≡ true → x ≡ y) (before after : K → List V) (key : K) (value : V)
@@ -33,10 +33,8 @@ module _ {K V : Type 0} (eq : K → K → Bool) (same : (x y : K) → eq x y ≡
       by : (b : Bool) → eq key k ≡ b → Member v (before k) ⊎ ((key ≡ k) × (value ≡ v))
       by true e =
           let is = same key k e in
-          elim (member_append v (before key) (value ∷ []) (subst (Member v) added (subst (λ j. Member v (after j)) (sym is) m))) [
-            | inl was ↦ inl (subst (λ j. Member v (before j)) is was)
-            | inr last ↦ elim last [ inl this ↦ inr (is, sym this) | inr none ↦ elim none [ ] ]
-          ]
+          elim (last_or (before key) value v (subst (Member v) added (subst (λ j. Member v (after j)) (sym is) m)))
+          [ inl was ↦ inl (subst (λ j. Member v (before j)) is was) | inr this ↦ inr (is, sym this) ]
       by false e = inl (subst (Member v) (others k e) m)
 
   -- each value from before stays

@@ -9,7 +9,7 @@ use Rattle.std.proofs.lemmas.Option.{same_Some, slice_get_within, get_or_from_sl
 use Rattle.indexmap.specs.IndexMap.{keys}
 use Rattle.indexmap.specs.IndexSet.{insert_key}
 use Rattle.language.specs.Lists.{Member, NoneTwice}
-use Rattle.language.proofs.Members.{member_append, member_map}
+use Rattle.language.proofs.Members.{member_map}
 use Rattle.path_sets.specs.Triples.{Triple, triple}
 use Rattle.flow_graph.specs.Flows.{entered_by}
 use Rattle.flow_graph.specs.Returns.{resumed_at}
@@ -38,7 +38,8 @@ use Rattle.summaries.specs.Grows.{EntersAt, Grows, AddsTo, OfSome, IsBehind, tri
 use Rattle.summaries.proofs.AddLemmas.{same_call, added_or, added_keeps, added_is}
 use Rattle.summaries.proofs.Dues.{due_told}
 use Rattle.summaries.proofs.StepLemmas.{Step, taken_as}
-use Rattle.summaries.proofs.Keys.{is_found}
+use Rattle.path_sets.proofs.KeyLemmas.{is_found}
+use Rattle.path_sets.proofs.PlaceLemmas.{last_or}
 use Rattle.summaries.proofs.Mails.{none_twice_with}
 use Rattle.summaries.proofs.PlaceLemmas.{HasMoreBehind, none_behind, placed_still, mails_still}
 use Rattle.summaries.proofs.TellLemmas.{gives_kept, gives_one, gives_known}
@@ -220,12 +221,9 @@ module _ {A : Type 0} (q : ℕ) (f : Found A) (given : Outbox A) (sites : Groups
       → IsPlaced ds ps x
   placed_in true same more x m = still x (subst (Member x) same m)
   placed_in false same more x m =
-      elim (member_append x f.outbox.sent.items (EntryFor at ∷ []) (subst (Member x) more m)) [
+      elim (last_or f.outbox.sent.items (EntryFor at) x (subst (Member x) more m)) [
         | inl was ↦ still x was
-        | inr last ↦ elim last [
-          | inl is ↦ subst (IsPlaced ds ps) (sym is) (slice_get_within ds at k here)
-          | inr none ↦ elim none [ ]
-        ]
+        | inr is ↦ subst (IsPlaced ds ps) (sym is) (slice_get_within ds at k here)
       ]
 
   pub asked_indexed : IsIndexed there

@@ -1,12 +1,12 @@
 -- What holds for some item of a list.
-use Rattle.std.proofs.Common.{ℕ, ◌+◌, ◌<◌, ◌≡◌, ◌≢◌, Bool, true, false, List, [], ◌∷◌, ◌++◌, ◌⊎◌}
+use Rattle.std.proofs.Common.{ℕ, ◌+◌, ◌<◌, ◌≡◌, ◌≢◌, Bool, true, false, List, [], ◌∷◌, ◌++◌, ◌⊎◌, sym, ap, ◌∙◌}
 use Rattle.std.proofs.Common.{inl, inr, refl, subst, length, take, drop, get_or}
 use Rattle.std.specs.Bool.{OnTrue, OnFalse}
-use Rattle.std.proofs.lemmas.List.{take-append-drop}
+use Rattle.std.proofs.lemmas.List.{take-append-drop, take_more}
 use Rattle.language.specs.Lists.{Member}
-use Rattle.language.proofs.Members.{member_left, member_right, member_append}
+use Rattle.language.proofs.Members.{member_left, member_right}
 use Rattle.summaries.specs.Grows.{OfSome}
-use Rattle.summaries.proofs.Firsts.{whole}
+use Rattle.path_sets.proofs.PlaceLemmas.{last_or}
 
 module _ {X T : Type 0} (W : X → T → Type 0) where
   -- for a part of the items, so for all
@@ -20,10 +20,7 @@ module _ {X T : Type 0} (W : X → T → Type 0) where
   -- for the items before the last, or for the last
   pub each_or_last : (xs : List X) (x : X) (t : T) → OfSome W (xs ++ x ∷ []) t → OfSome W xs t ⊎ W x t
   each_or_last xs x t w =
-      elim (member_append w.0 xs (x ∷ []) w.1) [
-        | inl n ↦ inl (w.0, n, w.2)
-        | inr last ↦ elim last [ inl e ↦ inr (subst (λ y. W y t) e w.2) | inr none ↦ elim none [ ] ]
-      ]
+      elim (last_or xs x w.0 w.1) [ inl n ↦ inl (w.0, n, w.2) | inr e ↦ inr (subst (λ y. W y t) e w.2) ]
 
   module _ (xs : List X) (i : ℕ) where
     -- for the first items, so for all
@@ -33,7 +30,7 @@ module _ {X T : Type 0} (W : X → T → Type 0) where
     -- for the item at a place, so for all
     pub each_at : (d : X) → i < length xs → (t : T) → W (get_or xs i d) t → OfSome W xs t
     each_at d within t w =
-        subst (λ l. OfSome W l t) (whole xs i d within)
+        subst (λ l. OfSome W l t) (ap (λ l. l ++ drop (i + 1) xs) (sym (take_more xs i d within)) ∙ take-append-drop (i + 1) xs)
         (each_left (take i xs ++ get_or xs i d ∷ []) (drop (i + 1) xs) t (each_last (take i xs) (get_or xs i d) t w))
 
   -- for the item at a place, or before it, or otherwise, so for all or otherwise

@@ -26,8 +26,9 @@ use Rattle.summaries.specs.Tables.{TookAlso}
 use Rattle.summaries.proofs.AddLemmas.{added_or, added_keeps, added_is, added_once}
 use Rattle.summaries.proofs.Dues.{who, who_is, due_told, same_entry, apart}
 use Rattle.summaries.proofs.StepLemmas.{Step, grown_to, grown_reached, grown_step}
-use Rattle.summaries.proofs.PlaceLemmas.{member_got, adds_mapped}
+use Rattle.summaries.proofs.PlaceLemmas.{adds_mapped}
 use Rattle.summaries.proofs.TellLemmas.{gives_kept, gives_as, told_mail, mail_told}
+use Rattle.path_sets.proofs.PlaceLemmas.{at_index}
 
 -- a message is the summary of an exit of this entry, for the caller
 abbrev pub IsExitTold : {A : Type 0} → ℕ → Found A → ℕ → rust.Caller → AddressedMail → Type 0
@@ -156,7 +157,7 @@ module _ {A : Type 0} (q : ℕ) (f : Found A) (old : IsIndexed f) (given : Outbo
       (λ m (x, (at, is_in, w), is).
       let (b, here) = old.exit a at (subst (Member at) same is_in) in (
         b,
-        member_got f.pairs.keys (pair a b) at here,
+        at_index f.pairs.keys (pair a b) at here,
         subst (IsSummaryTold q a b from) (sym is) (told_mail q cs f.pairs.keys a b at here from x w),
       ))
       (λ m (b, exit, w).

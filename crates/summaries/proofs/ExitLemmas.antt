@@ -6,7 +6,7 @@ use Rattle.std.proofs.lemmas.List.{get_or_append_left}
 use Rattle.std.proofs.lemmas.Option.{slice_get_within, get_or_from_slice_get}
 use Rattle.std.proofs.lemmas.Map.Views.{exact_unsigned_eq}
 use Rattle.language.specs.Lists.{Member, NoneTwice}
-use Rattle.language.proofs.Members.{member_left, member_right, member_append}
+use Rattle.language.proofs.Members.{member_left, member_right}
 use Rattle.path_sets.specs.Triples.{Triple, triple}
 use Rattle.flow_graph.specs.Returns.{left_by}
 use Rattle.flow_graph.specs.Numbers.{NumberedMessage, GraphReaches, Leaves}
@@ -28,8 +28,9 @@ use Rattle.summaries.proofs.AddLemmas.{added_or, added_keeps, added_is, added_on
 use Rattle.summaries.proofs.Dues.{due_told}
 use Rattle.summaries.proofs.StepLemmas.{Step, taken_as}
 use Rattle.summaries.proofs.Mails.{none_twice_with}
-use Rattle.summaries.proofs.PlaceLemmas.{member_at, got_still, adds_mapped, HasMoreBehind, none_behind, placed_still, mails_still}
+use Rattle.summaries.proofs.PlaceLemmas.{member_at, adds_mapped, HasMoreBehind, none_behind, placed_still, mails_still}
 use Rattle.summaries.proofs.TellLemmas.{gives_kept, gives_as, told_mail, mail_told}
+use Rattle.path_sets.proofs.PlaceLemmas.{still_there, last_or}
 
 -- g has other exits, pairs and messages given
 module _ {A G : Type 0} (graph : Graph G) (q : ℕ) (f g : Found A) where
@@ -52,10 +53,8 @@ module _ {A G : Type 0} (graph : Graph G) (q : ℕ) (f g : Found A) where
     reached = reaches_more graph (TookMessage f) M taken_left a 0 v (sound.edge a 0 v there)
 
     exit_or : (x : ℕ) (y : Exit) → HasExit left_to x y → HasExit f x y ⊎ (pair a b ≡ pair x y)
-    exit_or x y m = elim (member_append (pair x y) f.pairs.keys (pair a b ∷ []) (subst (Member (pair x y)) keys m)) [
-      | inl was ↦ inl was
-      | inr last ↦ elim last [ inl is ↦ inr (sym is) | inr none ↦ elim none [ ] ]
-    ]
+    exit_or x y m = elim (last_or f.pairs.keys (pair a b) (pair x y) (subst (Member (pair x y)) keys m))
+        [ inl was ↦ inl was | inr is ↦ inr (sym is) ]
 
     exit_keeps : (x : ℕ) (y : Exit) → HasExit f x y → HasExit left_to x y
     exit_keeps x y m = subst (Member (pair x y)) (sym keys) (member_left (pair x y) f.pairs.keys (pair a b ∷ []) m)
@@ -140,7 +139,7 @@ module _ {A : Type 0} (q : ℕ) (f g : Found A) (a : ℕ) (b : Exit) (at : ℕ) 
   exit_or_new = added_or nat_eq exact_unsigned_eq (under nat_eq f.exits.by_key) (under nat_eq g.exits.by_key) a at added others
 
   got : (i : ℕ) (p : Pair) → slice_get f.pairs.keys i ≡ Some p → slice_get g.pairs.keys i ≡ Some p
-  got i p is = subst (λ l. slice_get l i ≡ Some p) (sym keys) (got_still f.pairs.keys (pair a b ∷ []) p i is)
+  got i p is = subst (λ l. slice_get l i ≡ Some p) (sym keys) (still_there f.pairs.keys (pair a b ∷ []) i p is)
 
   pub left_indexed : IsIndexed there
   left_indexed = record {
@@ -158,22 +157,19 @@ module _ {A : Type 0} (q : ℕ) (f g : Found A) (a : ℕ) (b : Exit) (at : ℕ) 
       | inl was ↦ let (y, is) = old.exit x i was in (y, got i (pair x y) is)
       | inr is ↦ (b, subst (λ n. slice_get g.pairs.keys n ≡ Some (pair x b)) is.1 (here ∙ λ j. Some (pair (is.0 j) b)))
     ];
-    listed = λ x y m. elim (member_append (pair x y) f.pairs.keys (pair a b ∷ []) (subst (Member (pair x y)) keys m)) [
+    listed = λ x y m. elim (last_or f.pairs.keys (pair a b) (pair x y) (subst (Member (pair x y)) keys m)) [
       | inl was ↦
           let (i, listed, is) = old.listed x y was in (
             i,
             added_keeps nat_eq exact_unsigned_eq (under nat_eq f.exits.by_key) (under nat_eq g.exits.by_key) a at added others x i listed,
             got i (pair x y) is,
           )
-      | inr last ↦ elim last [
-        | inl is ↦ (
-          at,
-          subst (λ (p : Pair). Member at (under nat_eq g.exits.by_key p.a)) (sym is)
-              (added_is nat_eq exact_unsigned_eq (under nat_eq f.exits.by_key) (under nat_eq g.exits.by_key) a at added others),
-          here ∙ ap Some (sym is),
-        )
-        | inr none ↦ elim none [ ]
-      ]
+      | inr is ↦ (
+        at,
+        subst (λ (p : Pair). Member at (under nat_eq g.exits.by_key p.a)) (sym is)
+            (added_is nat_eq exact_unsigned_eq (under nat_eq f.exits.by_key) (under nat_eq g.exits.by_key) a at added others),
+        here ∙ ap Some (sym is),
+      )
     ];
   }
 

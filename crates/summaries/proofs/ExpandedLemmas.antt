@@ -1,12 +1,11 @@
 -- Edges that are remembered as led.
 use Rattle.std.proofs.Common.{◌≡◌, ◌≤◌, ◌⊎◌, ℕ, Bool, true, false, Some, List, [], ◌∷◌, ◌++◌}
-use Rattle.std.proofs.Common.{inl, inr, refl, sym, ap, ◌∙◌, subst}
+use Rattle.std.proofs.Common.{inl, refl, sym, ap, ◌∙◌, subst}
 use Rattle.std.proofs.Common.{slice_get, if◌then◌else◌, nat_eq, ◌&&◌}
 use Rattle.std.specs.List.{list_any}
 use Rattle.std.proofs.lemmas.Option.{same_Some}
 use Rattle.indexmap.specs.IndexSet.{insert_key}
 use Rattle.language.specs.Lists.{Member}
-use Rattle.language.proofs.Members.{member_append}
 use Rattle.path_sets.specs.Triples.{Triple, triple}
 use Rattle.flow_graph.specs.Flows.{last_of, next_of}
 use Rattle.flow_graph.specs.declared.flow.Flow.{Flow}
@@ -16,7 +15,8 @@ use Rattle.summaries.specs.declared.edge.PathEdge.{PathEdge}
 use Rattle.summaries.specs.declared.found.Found.{Found}
 use Rattle.summaries.specs.Found.{path_edge, IsExpanded}
 use Rattle.summaries.specs.Grows.{IsNext, IsExpansionKey}
-use Rattle.path_sets.proofs.MaskKeyLemmas.{same_three}
+use Rattle.path_sets.proofs.PlaceLemmas.{last_or}
+use Rattle.path_sets.proofs.MaskKeyLemmas.{same_by_three}
 use Rattle.summaries.proofs.StepLemmas.{Step, taken_as, indexed_as}
 
 -- whether two are the same
@@ -25,9 +25,7 @@ led_eq x y = nat_eq x.entry y.entry && (nat_eq x.point y.point && nat_eq x.value
 
 -- they then are
 pub same_led : (x y : PathEdge) → led_eq x y ≡ true → x ≡ y
-same_led x y e =
-    let (entry, point, values) = same_three x.entry y.entry x.point y.point x.values y.values e in
-    λ j. path_edge (entry j) (point j) (values j)
+same_led x y = same_by_three path_edge x.entry x.point x.values y.entry y.point y.values
 
 -- if an edge was led that choice 0 leads to the same, each choice leads to an edge
 pub all_led : {G : Type 0} (graph : Graph G) (es : List Triple) (e : PathEdge) (x : PathEdge) (flow : Flow G)
@@ -94,7 +92,4 @@ inserted_or {K} eq ks ls k x is m = by (list_any (eq k) ks) is
   where
     by : (b : Bool) → ls ≡ (if b then ks else ks ++ k ∷ []) → Member x ks ⊎ (x ≡ k)
     by true same = inl (subst (Member x) same m)
-    by false more = elim (member_append x ks (k ∷ []) (subst (Member x) more m)) [
-      | inl was ↦ inl was
-      | inr last ↦ elim last [ inl this ↦ inr this | inr none ↦ elim none [ ] ]
-    ]
+    by false more = last_or ks k x (subst (Member x) more m)

@@ -5,11 +5,11 @@ use Rattle.std.proofs.Common.{Option, Some, ◌≤◌, eq-or-lt_of_le, ◌≡◌
 use Rattle.std.proofs.Common.{◌++◌, ◌⊎◌, inl, inr, sym, ap, subst, ◌∙◌, ℕ, ◌+◌, Result, Ok, Err, length}
 use Rattle.std.proofs.Common.{if◌then◌else◌, arith, length-append, ◌<◌, take, get_or}
 use Rattle.std.proofs.Math.Seq.{take-length}
-use Rattle.summaries.proofs.Firsts.{take_more}
 use Rattle.summaries.proofs.Eaches.{each_left, each_last, each_or_last, each_at, each_until}
 use Rattle.std.proofs.lemmas.Option.{same_Some}
+use Rattle.std.proofs.lemmas.List.{take_more}
 use Rattle.language.specs.Lists.{Member}
-use Rattle.language.proofs.Members.{member_left, member_right, member_append}
+use Rattle.language.proofs.Members.{member_left, member_right}
 use Rattle.path_sets.specs.Triples.{Triple, triple}
 use Rattle.summaries.specs.declared.edge.PathEdge.{PathEdge}
 use Rattle.flow_graph.specs.Flows.{last_of, next_of}
@@ -17,6 +17,7 @@ use Rattle.flow_graph.specs.declared.flow.Flow.{Flow}
 use Rattle.summaries.specs.declared.table_fault.TableFault.{TableFault}
 use Rattle.summaries.specs.declared.table_fault.TableFault.TheVariants.{Memory, EdgeLimit}
 use Rattle.summaries.specs.Grows.{Grows, Adds, OfSome, IsAt, IsNextBefore, IsNext, triple_of, edge_of}
+use Rattle.path_sets.proofs.PlaceLemmas.{last_or}
 
 -- an edge that was there adds nothing
 pub known : (e : PathEdge) (old new : List Triple) (before : List PathEdge) (answer : Bool) → answer ≡ false
@@ -48,10 +49,7 @@ added e old new before members longer = record {
     | inl is ↦ inr (member_right (edge_of t) before (e ∷ []) (inl (ap edge_of is)))
     | inr was ↦ inl was
   ];
-  edges = λ x m. elim (member_append x before (e ∷ []) m) [
-    | inl was ↦ inl was
-    | inr last ↦ elim last [ inl is ↦ inr ((members (triple_of x)).1 (inl (ap triple_of is))) | inr none ↦ elim none [ ] ]
-  ];
+  edges = λ x m. elim (last_or before e x m) [ inl was ↦ inl was | inr is ↦ inr ((members (triple_of x)).1 (inl (ap triple_of is))) ];
   more = let l = length-append before (e ∷ []) in omega (arith, l, longer);
   longer = omega (arith, longer);
 }
@@ -89,7 +87,7 @@ each_more W xs x old mid new before between after first second =
     (λ t w. elim w [ inl n ↦ each_left W xs (x ∷ []) t n | inr l ↦ each_last W xs x t l ])
 
 -- what holds for an error holds for the one that is answered
-pub fault_of : {F : Type 0} (P : F → Type 0) (r : Result (Unit {0}) F) (fault : F) → IsErrAnd r P → r ≡ Err fault → P fault
+pub fault_of : {T F : Type 0} (P : F → Type 0) (r : Result T F) (fault : F) → IsErrAnd r P → r ≡ Err fault → P fault
 fault_of P r fault told is = subst (λ s. IsErrAnd s P) is told
 
 -- a new edge makes the list longer by one

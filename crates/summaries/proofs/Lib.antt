@@ -1,8 +1,6 @@
 pub mod Quiet
-pub mod Keys
 pub mod Mails
 pub mod PlaceLemmas
-pub mod Firsts
 pub mod Eaches
 pub mod FrontierLemmas
 pub mod ReachLemmas

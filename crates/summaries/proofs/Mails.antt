@@ -6,13 +6,14 @@ use Rattle.std.proofs.lemmas.List.{take-append-drop, take-append-le, length-take
 use Rattle.std.specs.List.{list_any}
 use Rattle.std.proofs.lemmas.Map.Views.{exact_unsigned_eq}
 use Rattle.language.specs.Lists.{Member, NoneTwice}
-use Rattle.language.proofs.Members.{member_left, member_right, member_append}
-use Rattle.summaries.proofs.Keys.{found_is_in, is_found}
+use Rattle.language.proofs.Members.{member_left, member_right}
+use Rattle.path_sets.proofs.KeyLemmas.{found_is_in, is_found}
 use Rattle.indexmap.specs.IndexSet.{insert_key}
 use Rattle.summaries.specs.declared.due.Caller.{Caller}
 use Rattle.summaries.specs.declared.due.Caller.TheVariants.{Starter, Proc}
 use Rattle.summaries.specs.contracts.due.CallerPartialEq.TheImpl.{eq-value}
 use Rattle.summaries.specs.contracts.due.CallerEq.TheImpl.Laws.{laws-law}
+use Rattle.path_sets.proofs.PlaceLemmas.{last_or}
 
 -- callers that compare as equal are the same
 same_caller : (x y : Caller) → eq-value.it x y ≡ true → x ≡ y
@@ -60,13 +61,8 @@ module _ {K : Type 0} (eq : K → K → Bool) (k : K) (ks after : List K) (added
 -- nothing occurs twice in a list with one more that was not in it
 pub none_twice_with : {K : Type 0} (k : K) (ks : List K) → (Member k ks → ⊥) → NoneTwice ks → NoneTwice (ks ++ k ∷ [])
 none_twice_with k [] new once = (λ m. elim m [ ], tt)
-none_twice_with k (x ∷ xs) new (x_once, once) = (
-  λ m. elim (member_append x xs (k ∷ []) m) [
-    | inl old ↦ x_once old
-    | inr last ↦ elim last [ inl e ↦ new (inl (sym e)) | inr none ↦ elim none [ ] ]
-  ],
-  none_twice_with k xs (λ m. new (inr m)) once,
-)
+none_twice_with k (x ∷ xs) new (x_once, once) =
+    (λ m. elim (last_or xs k x m) [ inl old ↦ x_once old | inr e ↦ new (inl (sym e)) ], none_twice_with k xs (λ m. new (inr m)) once)
 
 -- what is among the first is in the list
 member_first : {K : Type 0} (x : K) (n : ℕ) (ks : List K) → Member x (take n ks) → Member x ks

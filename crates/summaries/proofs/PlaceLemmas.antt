@@ -1,9 +1,8 @@
 -- What is kept by its place, and the messages that are given by places.
-use Rattle.std.proofs.Common.{◌≡◌, ◌<◌, ℕ, zero, suc, false, List, [], ◌∷◌, ◌++◌, Some, map, length}
-use Rattle.std.proofs.Common.{get_or, slice_get, inl, inr, refl, sym, ap, subst, ◌∙◌, arith}
+use Rattle.std.proofs.Common.{◌≡◌, ◌<◌, ℕ, zero, suc, false, List, [], ◌∷◌, ◌++◌, map, length}
+use Rattle.std.proofs.Common.{get_or, inl, inr, refl, sym, ap, subst, ◌∙◌, arith}
 use Rattle.std.proofs.Common.{length-append}
 use Rattle.std.proofs.lemmas.List.{append-nil, get_or_append_left, map-append}
-use Rattle.std.proofs.lemmas.Option.{slice_get_within, slice_get-get_or, get_or_from_slice_get}
 use Rattle.language.specs.Lists.{Member, NoneTwice}
 use Rattle.language.proofs.Members.{member_map, map_member}
 use Rattle.summaries.specs.declared.due.Caller.TheVariants.{Proc}
@@ -14,6 +13,7 @@ use Rattle.summaries.specs.declared.pair.Pair.{Pair}
 use Rattle.summaries.specs.Found.{call, pair, left, entry_mail, summary_mail, mail_of, IsPlaced}
 use Rattle.summaries.specs.Grows.{AddsTo}
 use Rattle.summaries.proofs.Dues.{same_entry, same_summary, apart}
+use Rattle.path_sets.proofs.FilterLemmas.{map_none_twice}
 
 module _ {X : Type 0} where
   -- what is at a place is in the list
@@ -21,25 +21,6 @@ module _ {X : Type 0} where
   member_at [] d i near = absurd (omega (arith, near))
   member_at (x ∷ xs) d zero near = inl refl
   member_at (x ∷ xs) d (suc i) near = inr (member_at xs d i (omega (arith, near)))
-
-  -- so does what is got there
-  pub member_got : (xs : List X) (x : X) (i : ℕ) → slice_get xs i ≡ Some x → Member x xs
-  member_got xs x i is =
-      subst (λ y. Member y xs) (get_or_from_slice_get xs i x x is) (member_at xs x i (slice_get_within xs i x is))
-
-  -- what is in the list is at a place
-  pub place_of : (xs : List X) (x : X) → Member x xs → (i : ℕ) × (slice_get xs i ≡ Some x)
-  place_of [] x m = absurd m
-  place_of (y ∷ xs) x (inl e) = (0, ap Some (sym e))
-  place_of (y ∷ xs) x (inr m) = let (i, is) = place_of xs x m in (suc i, is)
-
-  -- it is there with others appended
-  pub got_still : (xs ys : List X) (x : X) (i : ℕ) → slice_get xs i ≡ Some x → slice_get (xs ++ ys) i ≡ Some x
-  got_still xs ys x i is =
-      let near = slice_get_within xs i x is in
-      let longer = length-append xs ys in
-      slice_get-get_or (xs ++ ys) i x (omega (arith, near, longer))
-      ∙ ap Some (get_or_append_left xs ys x i near ∙ get_or_from_slice_get xs i x x is)
 
   -- two places do not hold the same, if nothing occurs twice
   pub one_place : (xs : List X) (d : X) (i j : ℕ) → NoneTwice xs → i < length xs → j < length xs
@@ -72,17 +53,6 @@ module _ {X Y : Type 0} (f : X → Y) where
         ];
     behind = (map f adds.behind.0, ap (map f) adds.behind.1 ∙ map-append f old adds.behind.0);
   }
-
-  -- images occur twice only if two items have the same
-  pub once_mapped : (xs : List X) → ((x y : X) → Member x xs → Member y xs → f x ≡ f y → x ≡ y) → NoneTwice xs
-      → NoneTwice (map f xs)
-  once_mapped [] one once = tt
-  once_mapped (x ∷ xs) one once = (
-    λ m.
-        let (y, there, is) = map_member f xs (f x) m in
-        once.0 (subst (λ z. Member z xs) (sym (one x y (inl refl) (inr there) is)) there),
-    once_mapped xs (λ y z m n. one y z (inr m) (inr n)) once.1,
-  )
 
 -- others come after those of a list
 abbrev pub HasMoreBehind : {X : Type 0} → List X → List X → Type 0
@@ -141,4 +111,4 @@ module _ (q : ℕ) (cs : List CallKey) (ps : List Pair) where
   pub mails_once : NoneTwice cs → NoneTwice ps → (xs : List Outgoing) → ((x : Outgoing) → Member x xs → IsPlaced cs ps x)
       → NoneTwice xs → NoneTwice (map (mail_of cs ps q) xs)
   mails_once calls pairs xs placed once =
-      once_mapped (mail_of cs ps q) xs (λ x y m n e. one_sent calls pairs x y (placed x m) (placed y n) e) once
+      map_none_twice (mail_of cs ps q) xs (λ x y m n e. one_sent calls pairs x y (placed x m) (placed y n) e) once

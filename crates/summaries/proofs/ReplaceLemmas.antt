@@ -1,16 +1,10 @@
 -- A list in which one item is replaced, or that has one more.
-use Rattle.std.proofs.Common.{◌≡◌, ◌<◌, ◌⊎◌, ℕ, zero, suc, List, [], ◌∷◌, ◌++◌, map, length, Some, slice_get, slice_set, inl, inr, refl}
+use Rattle.std.proofs.Common.{◌≡◌, ◌⊎◌, ℕ, zero, suc, List, [], ◌∷◌, ◌++◌, map, length, Some, slice_get, slice_set, inl, inr, refl}
 use Rattle.std.proofs.Common.{sym, ap, subst, arith}
 use Rattle.std.proofs.lemmas.Option.{none-some, same_Some}
-use Rattle.language.specs.Lists.{Member}
+use Rattle.post_ledger.proofs.Histories.{at_push_cases}
 
 module _ {A : Type 0} where
-  -- the item is there
-  pub get_set : (xs : List A) (i : ℕ) (y : A) → i < length xs → slice_get (slice_set xs i y) i ≡ Some y
-  get_set [] i y h = absurd (omega (arith, h))
-  get_set (x ∷ xs) zero y h = refl
-  get_set (x ∷ xs) (suc i) y h = get_set xs i y (omega (arith, h))
-
   -- what is there is the item, or was there before
   pub set_get : (xs : List A) (i q : ℕ) (y x : A) → slice_get (slice_set xs i y) q ≡ Some x
       → ((q ≡ i) × (x ≡ y)) ⊎ ((q ≡ i → ⊥) × (slice_get xs q ≡ Some x))
@@ -26,28 +20,17 @@ module _ {A : Type 0} where
       → (q : ℕ) (x : A) → slice_get (slice_set xs i y) q ≡ Some x → P q x
   each_then P xs i y each new q x e =
       elim (set_get xs i q y x e) [
-        | inl h ↦ move q x h.0 h.1
+        | inl h ↦ subst (λ m. P m x) (sym h.0) (subst (P i) (sym h.1) new)
         | inr h ↦ each q x h.1
       ]
-    where
-      move : (n : ℕ) (z : A) → n ≡ i → z ≡ y → P n z
-      move n z a b = subst (λ m. P m z) (sym a) (subst (P i) (sym b) new)
-
-  -- what is there in a list with one more item is that item, or was there before
-  pub pushed_get : (xs : List A) (y : A) (q : ℕ) (x : A) → slice_get (xs ++ y ∷ []) q ≡ Some x
-      → ((q ≡ length xs) × (x ≡ y)) ⊎ (slice_get xs q ≡ Some x)
-  pushed_get [] y zero x e = inl (refl, sym (same_Some y x e))
-  pushed_get [] y (suc q) x e = absurd (none-some x e)
-  pushed_get (z ∷ zs) y zero x e = inr e
-  pushed_get (z ∷ zs) y (suc q) x e = elim (pushed_get zs y q x e) [ inl h ↦ inl (ap suc h.0, h.1) | inr h ↦ inr h ]
 
   -- what holds for each item and for one more holds for each item then
   pub each_pushed : (P : ℕ → A → Type 0) (xs : List A) (y : A) → ((q : ℕ) (x : A) → slice_get xs q ≡ Some x → P q x) → P (length xs) y
       → (q : ℕ) (x : A) → slice_get (xs ++ y ∷ []) q ≡ Some x → P q x
   each_pushed P xs y each new q x e =
-      elim (pushed_get xs y q x e) [
-        | inl h ↦ subst (λ m. P m x) (sym h.0) (subst (P (length xs)) (sym h.1) new)
-        | inr h ↦ each q x h
+      elim (at_push_cases xs y x q e) [
+        | inl h ↦ each q x h
+        | inr h ↦ subst (λ m. P m x) (sym h.0) (subst (P (length xs)) h.1 new)
       ]
 
   -- a list whose images are at the places of another one of the same length has that one as its images
@@ -60,14 +43,3 @@ module _ {A : Type 0} where
       let first : f x ≡ y = sym (same_Some y (f x) (each 0 x refl)) in
       let rest : map f xs ≡ ys = map_is f xs ys (omega (arith, long)) (λ q z e. each (suc q) z e) in
       λ j. first j ∷ rest j
-
-  -- an item that is there is a member
-  pub got_member : (xs : List A) (q : ℕ) (x : A) → slice_get xs q ≡ Some x → Member x xs
-  got_member [] q x e = absurd (none-some x e)
-  got_member (y ∷ ys) zero x e = inl (sym (same_Some y x e))
-  got_member (y ∷ ys) (suc q) x e = inr (got_member ys q x e)
-
-  pub member_got : (xs : List A) (x : A) → Member x xs → (q : ℕ) × (slice_get xs q ≡ Some x) × (q < length xs)
-  member_got [] x m = absurd m
-  member_got (y ∷ ys) x (inl e) = (0, ap Some (sym e), omega arith)
-  member_got (y ∷ ys) x (inr m) = let (q, is, below) = member_got ys x m in (suc q, is, omega (arith, below))

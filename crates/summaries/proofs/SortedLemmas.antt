@@ -1,15 +1,15 @@
 -- Lists that are sorted, and the members that they keep.
-use Rattle.std.proofs.Common.{◌≡◌, ◌<◌, ◌+◌, ◌↔◌, ◌⊎◌, ℕ, zero, suc, Bool, true, false, not, cond, ◌&&◌, ◌==◌, nat_eq, List, [], ◌∷◌}
+use Rattle.std.proofs.Common.{◌≡◌, ◌<◌, ◌+◌, ◌↔◌, ◌⊎◌, ℕ, suc, Bool, true, false, not, cond, ◌&&◌, ◌==◌, nat_eq, List, [], ◌∷◌}
 use Rattle.std.proofs.Common.{length, get_or, Some, inl, inr, refl, sym, ap, ◌∙◌, subst, arith, true≢false, Ordering}
-use Rattle.std.specs.List.{filter, IsDistinct, Contains, AllByRecursion}
+use Rattle.std.specs.List.{filter, IsDistinct, AllByRecursion}
 use Rattle.std.specs.List.Sorted.{IsPermutation, IsSortedBy, IsSorted}
 use Rattle.std.specs.Bool.{beq}
 use Rattle.std.specs.Ordering.{is_lt, nat_cmp, bool_cmp, ordering_then}
 use Rattle.std.specs.declared.cmp.Ordering.TheVariants.{Less, Equal, Greater}
 use Rattle.std.specs.Map.{keys_of, lookup}
 use Rattle.summaries.specs.declared.values.Values.{Values}
-use Rattle.std.proofs.lemmas.List.Sorted.{Contains-permutation, IsPermutation-sym}
-use Rattle.std.proofs.lemmas.Map.Keys.{IsDistinct-head, IsDistinct-tail, IsDistinct-cons, IsDistinct-IsPermutation, ge_from_not_lt}
+use Rattle.std.proofs.lemmas.List.Sorted.{IsPermutation-sym}
+use Rattle.std.proofs.lemmas.Map.Keys.{IsDistinct-head, IsDistinct-tail, IsDistinct-cons, ge_from_not_lt}
 use Rattle.std.proofs.lemmas.Cmp.{tied_itself, nat_cmp_total}
 use Rattle.std.proofs.lemmas.Map.Lookups.{exact_unsigned}
 use Rattle.std.proofs.lemmas.Map.Views.{exact_unsigned_eq}
@@ -18,41 +18,17 @@ use Rattle.language.specs.Lists.{Member}
 use Rattle.summaries.specs.declared.pair.Pair.{Pair}
 use Rattle.summaries.specs.Tabulated.{IsAscending, IsPairBefore, ArePairsAscending}
 use Rattle.summaries.specs.Under.{values_if_any}
+use Rattle.path_sets.proofs.PlaceLemmas.{reordered}
+use Rattle.path_sets.proofs.FilterLemmas.{kept_is, is_kept}
 
 module _ {X : Type 0} where
-  -- a member is somewhere in the list
-  member_contains : (x : X) (xs : List X) → Member x xs → Contains xs x
-  member_contains x [] m = absurd m
-  member_contains x (y ∷ ys) (inl e) = (0, omega arith, sym e)
-  member_contains x (y ∷ ys) (inr m) = let (k, below, is) = member_contains x ys m in (suc k, omega (arith, below), is)
-
-  contains_member : (x : X) (xs : List X) (k : ℕ) → k < length xs → get_or xs k x ≡ x → Member x xs
-  contains_member x [] k below is = absurd (omega (arith, below))
-  contains_member x (y ∷ ys) zero below is = inl (sym is)
-  contains_member x (y ∷ ys) (suc k) below is = inr (contains_member x ys k (omega (arith, below)) is)
-
   -- the same members in another order
   pub same_members : (xs ys : List X) → IsPermutation xs ys → (x : X) → Member x ys ↔ Member x xs
-  same_members xs ys moved x = (there ys xs (IsPermutation-sym xs ys moved), there xs ys moved)
-    where
-      there : (us vs : List X) → IsPermutation us vs → Member x us → Member x vs
-      there us vs h m = let (k, below, is) = Contains-permutation us vs x h (member_contains x us m) in contains_member x vs k below is
+  same_members xs ys moved x = (reordered ys xs x (IsPermutation-sym xs ys moved), reordered xs ys x moved)
 
   -- what passes is a member that passes
   pub member_filter : (p : X → Bool) (x : X) (xs : List X) → Member x (filter p xs) ↔ (Member x xs × (p x ≡ true))
-  member_filter p x [] = (λ m. absurd m, λ h. h.0)
-  member_filter p x (y ∷ ys) = by (p y) refl (member_filter p x ys)
-    where
-      by : (b : Bool) → p y ≡ b → (Member x (filter p ys) ↔ (Member x ys × (p x ≡ true)))
-          → Member x (cond b (y ∷ filter p ys) (filter p ys)) ↔ (Member x (y ∷ ys) × (p x ≡ true))
-      by true e rest = (
-        λ m. elim m [ inl same ↦ (inl same, ap p same ∙ e) | inr n ↦ (inr (rest.0 n).0, (rest.0 n).1) ],
-        λ h. elim h.0 [ inl same ↦ inl same | inr n ↦ inr (rest.1 (n, h.1)) ],
-      )
-      by false e rest = (
-        λ m. (inr (rest.0 m).0, (rest.0 m).1),
-        λ h. elim h.0 [ inl same ↦ absurd (true≢false (sym h.1 ∙ ap p same ∙ e)) | inr n ↦ rest.1 (n, h.1) ],
-      )
+  member_filter p x xs = (kept_is p xs x, λ h. is_kept p xs x h.0 h.1)
 
   all_filter : (P : X → Type 0) (p : X → Bool) (xs : List X) → AllByRecursion P xs → AllByRecursion P (filter p xs)
   all_filter P p [] all = all
@@ -146,11 +122,6 @@ pairs_ascend (x ∷ y ∷ zs) sorted once = (
   pair_less x y (sorted 0 x (omega arith) (omega arith)) (IsDistinct-head pair_eq x (y ∷ zs) once).0,
   pairs_ascend (y ∷ zs) (sorted_tail (λ a b. is_lt (pair_cmp a b)) x (y ∷ zs) sorted) (IsDistinct-tail pair_eq x (y ∷ zs) once),
 )
-
--- a sort keeps each member once
-pub still_distinct : {X : Type 0} (eq : X → X → Bool) → ((x y : X) → eq x y ≡ eq y x) → (xs ys : List X) → IsPermutation xs ys
-    → IsDistinct eq xs → IsDistinct eq ys
-still_distinct eq flips xs ys moved once = IsDistinct-IsPermutation eq flips xs ys moved once
 
 -- whether a list has a member
 abbrev pub has_any : {X : Type 0} → List X → Bool

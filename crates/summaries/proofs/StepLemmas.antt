@@ -5,7 +5,7 @@ use Rattle.std.specs.Result.{OnOk}
 use Rattle.std.specs.Prelude.{Vec}
 use Rattle.language.specs.Sequential.{Caller, caller}
 use Rattle.language.specs.Lists.{Member, NoneTwice}
-use Rattle.language.proofs.Members.{member_left, member_right, member_append}
+use Rattle.language.proofs.Members.{member_left, member_right}
 use Rattle.path_sets.specs.Triples.{Triple, triple}
 use Rattle.flow_graph.specs.Returns.{left_by, resumed_at}
 use Rattle.flow_graph.specs.Numbers.{NumberedMessage, numbered_entry, numbered_summary, GraphReaches, Leaves}
@@ -27,6 +27,7 @@ use Rattle.summaries.specs.Found.{HasExit, HasGiven, IsPlaced, IsIndexed, IsOwed
 use Rattle.summaries.specs.Found.{IsExpanded}
 use Rattle.summaries.specs.Grows.{EntersAt, Grows, triple_of}
 use Rattle.summaries.specs.Tables.{HasMore}
+use Rattle.path_sets.proofs.PlaceLemmas.{last_or}
 
 -- A step of the table of procedure q from f, with the edges es, to g, with the edges ds: what comes to be held is
 -- reached and sent, nothing goes, and what is then to be held beside it is held.
@@ -309,10 +310,7 @@ module _ {A G : Type 0} (graph : Graph G) (q : ℕ) (f : Found A) (es : List Tri
 
   -- what was pending is pending or is the edge
   was : (x : PathEdge) → Member x f.pending.items → Member x pending.items ⊎ (x ≡ e)
-  was x m = elim (member_append x pending.items (e ∷ []) (subst (Member x) popped m)) [
-    | inl there ↦ inl there
-    | inr last ↦ elim last [ inl is ↦ inr is | inr none ↦ elim none [ ] ]
-  ]
+  was x m = last_or pending.items e x (subst (Member x) popped m)
 
   pub popped_grounded : IsGrounded graph q f es → IsGrounded graph q popped_to es
   popped_grounded old = record {

@@ -1,10 +1,8 @@
 -- The steps of a tabulation.
-use Rattle.std.proofs.Common.{◌≡◌, ◌<◌, ◌≤◌, ◌+◌, ◌-◌, ◌*◌, ◌++◌, ℕ, List, [], ◌∷◌, Some, None, map, option_map, slice_get, slice_set}
+use Rattle.std.proofs.Common.{◌≡◌, ◌<◌, ◌≤◌, ◌+◌, ◌-◌, ◌*◌, ◌++◌, ℕ, List, [], ◌∷◌, Some, None, map, slice_get, slice_set}
 use Rattle.std.proofs.Common.{length, inl, inr, refl, sym, ap, ◌∙◌, subst, arith, length-append, get_or}
-use Rattle.std.proofs.Common.{Result, Ok, Err, OnOk}
-use Rattle.std.specs.Result.{IsErrAnd}
 use Rattle.std.specs.List.{sum_by}
-use Rattle.std.proofs.lemmas.Option.{none-some, get_or_from_slice_get, slice_get_within, slice_get-map}
+use Rattle.std.proofs.lemmas.Option.{none-some, get_or_from_slice_get, slice_get_within}
 use Rattle.std.proofs.lemmas.List.{length-map}
 use Rattle.std.proofs.lemmas.Nat.{mul-add-lt}
 use Rattle.std.proofs.Math.Nat.{mul_comm}
@@ -16,7 +14,6 @@ use Rattle.flow_graph.specs.Drawn.{graphs_of}
 use Rattle.summaries.specs.Fitting.{FitsIn}
 use Rattle.language.specs.Sequential.{starter, caller, Valuation, entry, IsZero, IsDue}
 use Rattle.language.specs.Lists.{Member}
-use Rattle.language.proofs.Members.{member_append}
 use Rattle.language.proofs.Entering.{due_there}
 use Rattle.path_sets.specs.Triples.{Triple}
 use Rattle.flow_graph.specs.Flows.{code}
@@ -38,9 +35,10 @@ use Rattle.summaries.specs.Tables.{graph_of, answers_of, IsTable, IsQuiet, IsAns
 use Rattle.summaries.specs.Tabulated.{no_verdict, HasMoreEdges}
 use Rattle.summaries.specs.Together.{opening, IsReceived, IsTaken, HaveLimit, IsTableOf, AreNew, AreTables, AreQuietBefore}
 use Rattle.summaries.proofs.TableLemmas.{over_limit, answer_due}
-use Rattle.summaries.proofs.ReplaceLemmas.{get_set, set_get}
+use Rattle.summaries.proofs.ReplaceLemmas.{set_get}
 use Rattle.summaries.proofs.SweepLemmas.{same_taken, same_taken_back, Becomes, replaced}
 use Rattle.path_sets.specs.EdgeLimits.{most_of}
+use Rattle.path_sets.proofs.PlaceLemmas.{last_or, get_map, set_there}
 
 -- the numbers of a message
 pub number_of_due : (d : Due) → (k : NumberedMessage) × (due_of k ≡ d)
@@ -69,10 +67,6 @@ pub opening_fits : {G : Type 0} (graphs : Graphs G) → 0 < length (graphs_of gr
 opening_fits graphs some_of p drawn k e =
     let (graph, there) = element_at (graphs_of graphs) 0 some_of in
     let (routine, is) = there_too (graphs_of graphs) p.routines 0 graph drawn.2.0 there in starter_due p routine is k e
-
--- the image of what is there is there
-pub get_map : {X Y : Type 0} (f : X → Y) (xs : List X) (q : ℕ) (x : X) → slice_get xs q ≡ Some x → slice_get (map f xs) q ≡ Some (f x)
-get_map f xs q x e = slice_get-map f xs q ∙ ap (option_map f) e
 
 module _ {G A S : Type 0} (members : S → List Triple) (p : Program) (Aside : AddressedMail → Type 0) (ts : List (Table G A S))
     (are : AreTables members p Aside ts) where
@@ -160,8 +154,7 @@ pub answered : {G A S : Type 0} (members : S → List Triple) (p : Program) (ts 
     → (x : AddressedMail) → answers_of t' ≡ answers_of t ++ x ∷ [] → AreTables members p (λ y. y ≡ x) (slice_set ts q t')
 answered members p ts are q t t' is table whole stays same x more =
     replaced members p (λ y. ⊥) (λ y. y ≡ x) ts q t t' are is (goes_on members p (λ y. ⊥) ts are q t t' is table whole stays same)
-    (λ y m. elim (member_append y (answers_of t) (x ∷ []) (subst (Member y) more m))
-    [ inl old ↦ inl old | inr last ↦ elim last [ inl e ↦ inr e | inr none ↦ absurd none ] ])
+    (λ y m. last_or (answers_of t) x y (subst (Member y) more m))
     (λ y h. absurd h)
 
 -- a table has nothing to answer
@@ -194,7 +187,7 @@ delivered {G} {A} {S} members p s d ts are t t' is table whole stays also only n
     }
 
     taken : IsReceived (slice_set ts s t') (mail s d)
-    taken k e = subst (λ o. IsTaken o k) (sym (get_set ts s t' (slice_get_within ts s t is))) ((also k).1 (inl e))
+    taken k e = subst (λ o. IsTaken o k) (sym (set_there ts s t' (slice_get_within ts s t is))) ((also k).1 (inl e))
 
 module _ {G A S : Type 0} (members : S → List Triple) where
   -- one more table that owes nothing
@@ -262,14 +255,6 @@ fewer_rooms r s n i j h =
 
 pub nearer : (r n i : ℕ) → i < n → steps_left r n (i + 1) < steps_left r n i
 nearer r n i h = omega (arith, h)
-
--- what an answer that failed says
-pub fault_told : {T F : Type 0} (P : F → Type 0) (r : Result T F) (fault : F) → IsErrAnd r P → r ≡ Err fault → P fault
-fault_told P r fault told is = subst (λ s. IsErrAnd s P) is told
-
-pub refused : {F : Type 0} (P : Type 0) (Q : F → Type 0) (r : Result (Unit {0}) F) → IsErrAnd r Q → OnOk r P
-refused P Q (Ok _) told = absurd told
-refused P Q (Err _) told = tt
 
 -- the table for whose limit there is no verdict, and its fault
 pub limit_told : (procedure q : ℕ) (fault : TableFault) → no_verdict procedure fault ≡ verdict.EdgeLimit q

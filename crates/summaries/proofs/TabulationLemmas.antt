@@ -1,7 +1,7 @@
 -- If no table owes a message, the tables have the entries, the pairs and the path edges of their procedures.
-use Rattle.std.proofs.Common.{◌≡◌, ◌<◌, ◌↔◌, ℕ, nat_eq, zero, suc, true, List, [], ◌∷◌, Option, Some, None, map, slice_get, length, inl}
+use Rattle.std.proofs.Common.{◌≡◌, ◌<◌, ◌↔◌, ℕ, nat_eq, true, List, [], ◌∷◌, Option, Some, None, map, slice_get, length, inl}
 use Rattle.std.proofs.Common.{inr, refl, sym, subst, arith}
-use Rattle.std.proofs.lemmas.Option.{none-some, slice_get_within, same_Some}
+use Rattle.std.proofs.lemmas.Option.{none-some, slice_get_within}
 use Rattle.language.specs.Step.{Program}
 use Rattle.language.specs.Sequential.{Caller, starter, caller, Valuation, IsDue, Entered, SomeBad}
 use Rattle.language.specs.Lists.{Member}
@@ -15,7 +15,7 @@ use Rattle.flow_graph.specs.declared.graph.Graph.{Graph}
 use Rattle.flow_graph.specs.declared.exit.Exit.{Exit}
 use Rattle.flow_graph.proofs.DueLemmas.{there_too, taken_due, edges_taken}
 use Rattle.flow_graph.proofs.Pairs.{edge_numbers, pairs_left, bad_left, entries_taken}
-use Rattle.path_sets.proofs.GatheredKeyLemmas.{item_there}
+use Rattle.path_sets.proofs.PlaceLemmas.{get_map, got_map, item_there, some_member}
 use Rattle.summaries.specs.declared.due.Caller as callers
 use Rattle.summaries.specs.declared.due.Caller.TheVariants.{Starter, Proc}
 use Rattle.summaries.specs.declared.table.Table.{Table}
@@ -28,7 +28,7 @@ use Rattle.summaries.specs.Effects.{Effect}
 use Rattle.summaries.specs.Tabulated.{IsSummary, HasMoreEdges}
 use Rattle.summaries.specs.Together.{IsTaken, HaveLimit, IsReadOff, AreReadOff, AreTables, AreQuietBefore}
 use Rattle.summaries.proofs.Once.{no_longer}
-use Rattle.summaries.proofs.Steps.{get_map, as_many}
+use Rattle.summaries.proofs.Steps.{as_many}
 
 -- each caller has its number
 caller_is : (by : callers.Caller) → (from : Caller) × (caller_of from ≡ by)
@@ -39,18 +39,6 @@ caller_is (Proc q) = (caller q, refl)
 first_too : {X : Type 0} (xs : List X) (q : ℕ) (x : X) → slice_get xs q ≡ Some x → (y : X) × (slice_get xs 0 ≡ Some y)
 first_too [] q x e = absurd (none-some x e)
 first_too (y ∷ ys) q x e = (y, refl)
-
--- what is among the images at a place is the image of what is there
-got_map : {X Y : Type 0} (f : X → Y) (xs : List X) (q : ℕ) (y : Y) → slice_get (map f xs) q ≡ Some y
-    → (x : X) × (slice_get xs q ≡ Some x) × (y ≡ f x)
-got_map f [] q y e = absurd (none-some y e)
-got_map f (x ∷ xs) zero y e = (x, refl, sym (same_Some (f x) y e))
-got_map f (x ∷ xs) (suc q) y e = got_map f xs q y e
-
--- a list that is longer than a number has a member
-has_one : {X : Type 0} (n : ℕ) (xs : List X) → n < length xs → (x : X) × Member x xs
-has_one n [] h = absurd (omega (arith, h))
-has_one n (x ∷ xs) h = (x, inl refl)
 
 module _ {G A S : Type 0} (members : S → List Triple) (p : Program) (ts : List (Table G A S)) (are : AreTables members p (λ x. ⊥) ts) where
   -- if a procedure is entered its table is there
@@ -64,7 +52,7 @@ module _ {G A S : Type 0} (members : S → List Triple) (p : Program) (ts : List
   -- a procedure with edges has a table
   pub edge_table : (q n : ℕ) → HasMoreEdges p q n → q < length ts
   edge_table q n (xs, once, more, all) =
-      let (x, is) = has_one n xs more in
+      let (x, is) = some_member xs n more in
       let (a, v, point, edge, ea, en, ev) = all x is in
       entered_table q a edge.0
 
@@ -96,7 +84,7 @@ module _ {G A S : Type 0} (members : S → List Triple) (p : Program) (ts : List
         let by_table : Sends t.graph.now t.procedure (TookMessage t.found) s k =
         subst (λ n. Sends t.graph.now n (TookMessage t.found) s k) (sym (are.number q t is))
         (subst (λ (o : Option (Table G A S)). Sends t.graph.now q (IsTaken o) s k) is
-        (subst (λ (g : Graph G). Sends g q (T q) s k) same sends)) in
+        (subst (λ (g : Graph G). Sends g q (T q) s k) (sym same) sends)) in
         elim (are.answers q t (mail s (due_of k)) is (((quiet_at q t is).sends s k).0 by_table))
         [ inl none ↦ absurd none | inr received ↦ received k refl ]
 

@@ -2,10 +2,11 @@
 use Rattle.std.proofs.Common.{◌≡◌, ◌<◌, ◌+◌, ℕ, false, List, [], ◌∷◌, ◌++◌, ◌⊎◌, Some, take, length, get_or}
 use Rattle.std.proofs.Common.{slice_get}
 use Rattle.std.proofs.Common.{inl, inr, refl, sym, subst, ap, ◌∙◌, arith}
-use Rattle.std.proofs.lemmas.List.{append-nil, append_assoc, length-map}
+use Rattle.std.proofs.lemmas.List.{append-nil, append_assoc, length-map, take_more}
 use Rattle.std.proofs.lemmas.Option.{get_or_from_slice_get}
+use Rattle.std.proofs.Math.Seq.{take-length}
 use Rattle.language.specs.Lists.{Member, NoneTwice}
-use Rattle.language.proofs.Members.{member_left, member_right, member_append}
+use Rattle.language.proofs.Members.{member_left, member_right}
 use Rattle.flow_graph.specs.declared.exit.Exit.{Exit}
 use Rattle.summaries.specs.declared.due.Caller.{Caller}
 use Rattle.summaries.specs.declared.due.Caller.TheVariants.{Proc}
@@ -18,17 +19,14 @@ use Rattle.summaries.specs.declared.found.Found.{Found}
 use Rattle.summaries.specs.Found.{pair, left, summary_mail, mail_of, calls_in, mails_in, answers_in}
 use Rattle.summaries.specs.Grows.{AddsTo, OfSome, IsTold, IsSummaryTold}
 use Rattle.summaries.proofs.Eaches.{each_at, each_left, each_last, each_or_last}
-use Rattle.summaries.proofs.Firsts.{take_more}
 use Rattle.summaries.proofs.Mails.{next_new, answers_still}
+use Rattle.path_sets.proofs.PlaceLemmas.{last_or}
 
 -- one message is given
 pub gives_one : {X : Type 0} (m : X) (old new : List X) → new ≡ old ++ m ∷ [] → AddsTo (λ x. x ≡ m) old new
 gives_one m old new more = record {
   all = λ x w. subst (Member x) (sym more) (member_right x old (m ∷ []) (inl w));
-  only = λ x n. elim (member_append x old (m ∷ []) (subst (Member x) more n)) [
-    | inl was ↦ inr was
-    | inr last ↦ elim last [ inl e ↦ inl e | inr none ↦ elim none [ ] ]
-  ];
+  only = λ x n. elim (last_or old m x (subst (Member x) more n)) [ inl was ↦ inr was | inr e ↦ inl e ];
   behind = (m ∷ [], more);
 }
 
@@ -71,24 +69,32 @@ gives_both V W U old mid new first second from to = record {
   );
 }
 
--- one more item
-pub gives_more : {X T : Type 0} (W : X → T → Type 0) (xs : List X) (y : X) (old mid new : List T) → AddsTo (OfSome W xs) old mid
-    → AddsTo (W y) mid new → AddsTo (OfSome W (xs ++ y ∷ [])) old new
-gives_more W xs y old mid new first second =
-    gives_both (OfSome W xs) (W y) (OfSome W (xs ++ y ∷ [])) old mid new first second
-    (λ x w. each_or_last W xs y x w)
-    (λ x w. elim w [ inl n ↦ each_left W xs (y ∷ []) x n | inr l ↦ each_last W xs y x l ])
+-- the items of a list, one after the other
+module _ {X T : Type 0} (W : X → T → Type 0) (xs : List X) (i : ℕ) (old mid : List T) (first : AddsTo (OfSome W (take i xs)) old mid) where
+  -- What is given for an item was not given for those before it, if no item occurs twice and each is given its own.
+  pub still_new : ((y z : X) (x : T) → W y x → W z x → y ≡ z) → (d : X) → i < length xs → NoneTwice xs
+      → ((x : T) → OfSome W xs x → Member x old → ⊥) → (x : T) → W (get_or xs i d) x → Member x mid → ⊥
+  still_new same d within once new x w m = elim (first.only x m) [
+    | inl told ↦ next_new xs i (i + 1) (get_or xs i d) (take_more xs i d within) once
+        (subst (λ y. Member y (take i xs)) (same told.0 (get_or xs i d) x told.2 w) told.1)
+    | inr was ↦ new x (each_at W xs i d within x w) was
+  ]
 
--- What is given for an item was not given for those before it, if no item occurs twice and each is given its own.
-pub still_new : {X T : Type 0} (W : X → T → Type 0) → ((y z : X) (x : T) → W y x → W z x → y ≡ z) →
-    (xs : List X) (i : ℕ) (d : X) → i < length xs → NoneTwice xs → (old mid : List T) →
-    ((x : T) → OfSome W xs x → Member x old → ⊥) →
-    AddsTo (OfSome W (take i xs)) old mid → (x : T) → W (get_or xs i d) x → Member x mid → ⊥
-still_new W same xs i d within once old mid new gives x w m = elim (gives.only x m) [
-  | inl told ↦ next_new xs i (i + 1) (get_or xs i d) (take_more xs i d within) once
-      (subst (λ y. Member y (take i xs)) (same told.0 (get_or xs i d) x told.2 w) told.1)
-  | inr was ↦ new x (each_at W xs i d within x w) was
-]
+  -- with the next one
+  pub gives_next : (d : X) → i < length xs → (new : List T) → AddsTo (W (get_or xs i d)) mid new
+      → AddsTo (OfSome W (take (i + 1) xs)) old new
+  gives_next d within new second =
+      let y = get_or xs i d in
+      gives_both _ (W y) _ old mid new first second
+      (λ x w. each_or_last W (take i xs) y x (subst (λ l. OfSome W l x) (take_more xs i d within) w))
+      (λ x w. subst (λ l. OfSome W l x) (sym (take_more xs i d within)) (elim w [
+        | inl n ↦ each_left W (take i xs) (y ∷ []) x n
+        | inr l ↦ each_last W (take i xs) y x l
+      ]))
+
+  -- all of them
+  pub gives_all : i ≡ length xs → AddsTo (OfSome W xs) old mid
+  gives_all end = subst (λ l. AddsTo (OfSome W l) old mid) (ap (λ n. take n xs) end ∙ take-length xs) first
 
 -- the caller that a message is told to, and the place of the pair
 to_in : Outgoing → ℕ

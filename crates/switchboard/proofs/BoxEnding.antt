@@ -1,5 +1,5 @@
 -- The passes of a board with a lock for each mailbox are gathered in one seat, and what is left of the board then.
-use Rattle.std.proofs.Common.{◌≡◌, ◌≢◌, inl, inr, ℕ, zero, suc, ◌+◌, ◌^◌, ◌%◌, ◌<◌, ◌≤◌, ◌||◌, Bool}
+use Rattle.std.proofs.Common.{◌≡◌, ◌≢◌, inl, inr, ℕ, zero, suc, ◌+◌, ◌^◌, ◌%◌, ◌<◌, ◌≤◌, Bool}
 use Rattle.std.proofs.Common.{true, false, List, [], ◌∷◌, ◌++◌, map, length, get_or, slice_get, Some, None, refl, sym, ap}
 use Rattle.std.proofs.Common.{◌∙◌, subst, arith, Option, append_assoc, length-append, eq-eqb, ne_eqb, nat_eq, lt_of_not-le}
 use Rattle.std.specs.Prelude.{◌↔◌}

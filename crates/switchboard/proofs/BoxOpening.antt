@@ -14,6 +14,7 @@ use Rattle.ticket_lock.specs.Count.{times}
 use Rattle.ticket_lock.specs.Core.{Fits, TicketCore}
 use Rattle.ticket_lock.specs.Proved.Facts.{times-one, StartsWith-refl}
 use Rattle.ticket_lock.proofs.HistoryFacts.{times-other}
+use Rattle.ticket_lock.proofs.HandLemmas.{Divides, divides_new}
 use Rattle.post_ledger.specs.declared.event.Event.{Event}
 use Rattle.post_ledger.specs.declared.entry.Entry.{Entry}
 use Rattle.post_ledger.specs.declared.entry.Entry.TheVariants.{Posted}
@@ -24,10 +25,10 @@ use Rattle.switchboard.specs.declared.lock_per_box.knowing.Own.{Own}
 use Rattle.switchboard.specs.Sights.{Sight, IsSound, opened, fresh_sight, fresh_sights}
 use Rattle.switchboard.specs.Knowing.{fresh_hand, fresh_hands, owns_from, first_seen, state_of, hand_at, first_view, without_first_pass}
 use Rattle.switchboard.specs.Knowing.{first_pass_alone}
-use Rattle.switchboard.specs.PerBox.{SeatView, word_of, IsBoardTable, KnowsBoard, LockStands, Rule, Seat}
+use Rattle.switchboard.specs.PerBox.{SeatView, word_of, IsBoardTable, KnowsBoard, Rule, Seat}
 use Rattle.switchboard.specs.BoxPasses.{IsIdleHand, box_sight, IsBoxPass}
 use Rattle.switchboard.proofs.Opening.{sound_open, sights_push}
-use Rattle.switchboard.proofs.BoxSeats.{Divides, saw_none, splits}
+use Rattle.switchboard.proofs.BoxSeats.{saw_none, splits}
 
 module _ {T : Type 0} where
   pub bares_at : (n k q : ℕ) → q < n → get_or (fresh_hands n k) q (fresh_hand {T = T} 0) ≡ fresh_hand k
@@ -201,23 +202,7 @@ module _ {M W : Type 0} (fits : W → ℕ → M → Type 0) (g : Ground M W) (ne
       (λ q short.
       subst (λ h. Divides h (hand_at q a) (hand_at q b)) (sym (bares_at g.boxes (suc count) q short))
       (subst (λ h. Divides (fresh_hand (suc count)) h (hand_at q b)) (sym (hand_a q short))
-      (subst (λ h. Divides (fresh_hand (suc count)) (fresh_hand count) h) (sym (hand_b q short)) record {
-        hands = λ n. refl;
-        drawn = λ n. refl;
-        count = refl;
-        parts = omega arith;
-        inside = refl;
-        fits =
-            λ serving log f. (
-              record { begins = f.begins; inside = inl refl; few = omega arith; idle = λ _. (refl, refl) },
-              record {
-                begins = f.begins;
-                inside = inl refl;
-                few = omega arith;
-                idle = λ _. (refl, refl);
-              },
-            );
-      })))
+      (subst (λ h. Divides (fresh_hand (suc count)) (fresh_hand count) h) (sym (hand_b q short)) (divides_new [] count))))
       record {
         board = k.board;
         saw = k.saw;

@@ -27,7 +27,7 @@ use Rattle.switchboard.specs.Sights.{IsSound, abort_of}
 use Rattle.switchboard.specs.Proved.Entries.{job_stays}
 use Rattle.switchboard.specs.Knowing.{either_abort, state_of, both_seen, with_seen, pass_numbers, makes, made_by, counted_up, counted_down}
 use Rattle.switchboard.specs.Knowing.{made_abort, informed}
-use Rattle.switchboard.specs.PerBox.{SeatView, flag, Saw, Rule, LookedAtWord, Raised, SeatTookIn, Seat, owed}
+use Rattle.switchboard.specs.PerBox.{SeatView, flag, Saw, Rule, LookedAtWord, Raised, SeatTookIn, Seat, owed, Boxes}
 use Rattle.switchboard.specs.Proved.PerBoxFacts.{BoardGrows, grows_same, saw_grows, saw_all, sound_with, closed_at_zero, fewer_dones}
 use Rattle.switchboard.specs.Proved.PerBoxFacts.{news_is, rebuilt, locks_still, made_still}
 
@@ -108,6 +108,24 @@ module _ {M W : Type 0} (fits : W → ℕ → M → Type 0) (g : Ground M W) whe
       } refl (made_still fits g s r id v is_at w (λ j. refl)) in
       (w, table.keeps, tt, holds, refl)
 
+  -- what a seat sees and was told changes, and nothing else
+  sees : (s : Boxes M W) (r : Rule fits g s) (id : ℕ) (v : SeatView M W) → get_elem? s.views id ≡ some v → (x y : Seen M)
+      → Saw fits g r.order r.first r.low x → Saw fits g r.order r.first r.low y
+      → Rule fits g record {
+        words = set s.words 0 (get_or s.words 0 0);
+        homes = s.homes;
+        views = set s.views id (record v { seen = x; told = y });
+      }
+  sees s r id v is_at x y saw told =
+      let n : ℕ = get_or s.words 0 0 in
+      let w : SeatView M W = record v { seen = x; told = y } in
+      let k = r.each id v is_at in
+      rebuilt fits g s r id v is_at r.order r.first r.low (set s.words 0 n) s.homes w (grows_same r.order r.first r.low) (λ j _. refl) r.sound
+      (locks_still fits g s r id v is_at n w (λ q. refl))
+      (omega (arith, length-set s.words 0 n, r.some_word)) (get_or-set_same s.words 0 n 0 r.some_word ∙ r.word) (omega (arith, r.count))
+      (omega arith) record { board = k.board; saw = saw; told = told; owns = k.owns; parts = k.parts; idle = k.idle }
+      refl (made_still fits g s r id v is_at w (λ j. refl))
+
   -- a look at the word
   pub looks : (slots id : ℕ) (m : Seat M W) → table.Allows (Rule fits g) slots id m 0 (λ n. n) (LookedAtWord fits m)
   looks slots id m s r len is_at small =
@@ -115,26 +133,12 @@ module _ {M W : Type 0} (fits : W → ℕ → M → Type 0) (g : Ground M W) whe
       let x : Seen M = record { order = r.order; aborted = r.first; knows = r.low == 0 } in
       let w : SeatView M W = with_seen x v in
       let k = r.each id v is_at in
-      let n : ℕ = get_or s.words 0 0 in
-      let on = grows_same r.order r.first r.low in
       let saw : Saw fits g r.order r.first r.low x =
-      saw_all fits g r.order r.first r.low x r.sound refl (λ a e. e) (λ e. eqb-true r.low 0 e) in
-      let holds =
-      rebuilt fits g s r id v is_at r.order r.first r.low (set s.words 0 n) s.homes w on (λ j _. refl) r.sound
-      (locks_still fits g s r id v is_at n w (λ q. refl))
-      (omega (arith, length-set s.words 0 n, r.some_word)) (get_or-set_same s.words 0 n 0 r.some_word ∙ r.word) (omega (arith, r.count))
-      (omega arith) record {
-        board = k.board;
-        saw = saw;
-        told = k.told;
-        owns = k.owns;
-        parts = k.parts;
-        idle = k.idle;
-      } refl (made_still fits g s r id v is_at w (λ j. refl)) in (
+      saw_all fits g r.order r.first r.low x r.sound refl (λ a e. e) (λ e. eqb-true r.low 0 e) in (
         w,
         table.keeps,
         tt,
-        holds,
+        sees s r id v is_at x v.told saw k.told,
         record {
           after = refl;
           news = news_is fits g s r id v is_at r.order r.first r.low (owed s.views) x r.sound.lawful r.count saw k.saw.begins
@@ -196,26 +200,13 @@ module _ {M W : Type 0} (fits : W → ℕ → M → Type 0) (g : Ground M W) whe
       let x : Seen M = both_seen v.seen v.told in
       let w : SeatView M W = informed v in
       let k = r.each id v is_at in
-      let n : ℕ = get_or s.words 0 0 in
-      let on = grows_same r.order r.first r.low in
       let l = longer_begins r.order v.seen.order v.told.order k.saw.begins k.told.begins in
-      let saw : Saw fits g r.order r.first r.low x = took_seen r.order r.first r.low v.seen v.told r.sound.by k.saw k.told in
-      let holds =
-      rebuilt fits g s r id v is_at r.order r.first r.low (set s.words 0 n) s.homes w on (λ j _. refl) r.sound
-      (locks_still fits g s r id v is_at n w (λ q. refl))
-      (omega (arith, length-set s.words 0 n, r.some_word)) (get_or-set_same s.words 0 n 0 r.some_word ∙ r.word) (omega (arith, r.count))
-      (omega arith) record {
-        board = k.board;
-        saw = saw;
-        told = record { begins = (r.order, refl); sound = λ e. absurd (omega arith); aborted = λ a e. cc; close = λ e. cc };
-        owns = k.owns;
-        parts = k.parts;
-        idle = k.idle;
-      } refl (made_still fits g s r id v is_at w (λ j. refl)) in (
+      let saw : Saw fits g r.order r.first r.low x = took_seen r.order r.first r.low v.seen v.told r.sound.by k.saw k.told in (
         w,
         table.keeps,
         tt,
-        holds,
+        sees s r id v is_at x _ saw
+            (record { begins = (r.order, refl); sound = λ e. absurd (omega arith); aborted = λ a e. cc; close = λ e. cc }),
         record {
           after = refl;
           news = news_is fits g s r id v is_at r.order r.first r.low (owed s.views) x r.sound.lawful r.count saw l.1

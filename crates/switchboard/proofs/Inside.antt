@@ -2,7 +2,7 @@
 use Rattle.std.proofs.Common.{◌≡◌, ℕ, ◌<◌, Bool, true, false, None, Ok, refl, sym, ap, ◌∙◌, subst, arith, IfErr, OnOk}
 use Rattle.std.specs.Prelude.{Result}
 use Rattle.ticket_lock.specs.Lanes.{Standing, Held}
-use Rattle.ticket_lock.specs.Promises.{EnteredLock}
+use Rattle.ticket_lock.specs.Promises.{EnteredLock, Left}
 use Rattle.post_ledger.specs.declared.entry.Entry.TheVariants.{Posted, Completed}
 use Rattle.post_ledger.specs.Orders.{HasJob}
 use Rattle.switchboard.specs.declared.calls.Abort.{Abort}
@@ -16,21 +16,22 @@ use Rattle.switchboard.specs.Promises.{Took, Added, MadeAbort}
 use Rattle.switchboard.specs.Proved.Entries.{Allowed}
 use Rattle.switchboard.proofs.Visits.{Kept, Visit, Found, found_here, shows, showing, step_keeps, adds, aborts, take_step, post_step}
 use Rattle.switchboard.proofs.Visits.{job_found, job_allowed, post_allowed, some_calls, after_shows, moved, pass_stays, take_still, took_is}
-use Rattle.switchboard.proofs.Visits.{added_is, post_still, posted_is, PostAnswer, abort_pass, aborted_when}
+use Rattle.switchboard.proofs.Visits.{added_is, post_still, posted_is, PostAnswer, abort_pass, aborted_when, visit_is}
 
 module _ {M W : Type 0} (fits : W → ℕ → M → Type 0) where
   -- The pass shows itself as s and has the number n; it is inside, finds x and is lent it as v.
-  pub record Inside (a : Standing (BoardState M W)) (w : W) (boxes : ℕ) (kept : Bool) (p : IsPass fits a w boxes kept)
+  pub record Inside (a entered : Standing (BoardState M W)) (w : W) (boxes : ℕ) (kept : Bool) (p : IsPass fits a w boxes kept)
       (x v : BoardState M W) (s : Sight M W) (n : ℕ) : Type 0 where
     pub found : Found fits a.number p.last x
     pub see : showing fits a kept p.last ≡ s
     pub number : n ≡ a.number
     pub lent : v ≡ x
     pub near : a.number < x.boxes
+    pub visits : (b : Standing (BoardState M W)) (y : BoardState M W) → Left y entered b → Visit fits a b x y
 
   pub inside : {guard : Held (BoardState M W)} {a m : Standing (BoardState M W)} {w : W} {boxes : ℕ} {kept : Bool} {v : BoardState M W}
       {s : Sight M W} {n : ℕ} → (p : IsPass fits a w boxes kept) → EnteredLock (Comes fits) share guard a m
-      → sight_of a w boxes kept ≡ s → n ≡ s.number → v ≡ guard.value → Inside a w boxes kept p guard.value v s n
+      → sight_of a w boxes kept ≡ s → n ≡ s.number → v ≡ guard.value → Inside a m w boxes kept p guard.value v s n
   inside {guard} {a} {m} {w} {boxes} {kept} p e view number lent =
       let f = found_here fits guard a m w boxes kept p e in
       let see = sym (shows fits a w boxes kept p) ∙ view in
@@ -41,10 +42,11 @@ module _ {M W : Type 0} (fits : W → ℕ → M → Type 0) where
         lent = lent;
         near =
             omega (arith, f.before.boxes, p.same_boxes, p.number);
+        visits = λ b y. visit_is fits guard a m b y e;
       }
 
-  module _ {a : Standing (BoardState M W)} {w : W} {boxes : ℕ} {kept : Bool} {p : IsPass fits a w boxes kept}
-      {x v : BoardState M W} {s : Sight M W} {n : ℕ} (h : Inside a w boxes kept p x v s n) where
+  module _ {a entered : Standing (BoardState M W)} {w : W} {boxes : ℕ} {kept : Bool} {p : IsPass fits a w boxes kept}
+      {x v : BoardState M W} {s : Sight M W} {n : ℕ} (h : Inside a entered w boxes kept p x v s n) where
     -- What is said of the number and the state that the call names holds for the lane's number and the state found,
     -- and back.
     pub to_lane : (R : ℕ → BoardState M W → Type 0) → R n v → R a.number x
@@ -125,7 +127,10 @@ module _ {M W : Type 0} (fits : W → ℕ → M → Type 0) where
         (sym (shown_after kept' visit keeps))
 
     -- It was inside once, and left y.
-    module _ {b : Standing (BoardState M W)} {y : BoardState M W} (visit : Visit fits a b x y) where
+    module _ {b : Standing (BoardState M W)} {y : BoardState M W} (left : Left y entered b) where
+      visit : Visit fits a b x y
+      visit = h.visits b y left
+
       -- So, if a call was left, it is a pass still, and shows that it took,
       pub takes_on : (answer : Taken M) → TakeAnswers n answer v y → {r : ℕ} → r ≡ s.calls → (r ≡ 0 → ⊥) →
           IsPass fits b w boxes kept

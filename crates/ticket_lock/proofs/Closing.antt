@@ -1,7 +1,7 @@
 -- What the seat that closes a lock has gathered of the lanes.
 use Rattle.std.proofs.Common.{◌≡◌, ◌⊎◌, inl, inr, ℕ, suc, List, [], ◌∷◌, ◌++◌, length, map, refl, sym, ap, ◌∙◌, subst, arith, length-append}
 use Rattle.std.proofs.Common.{lt_of_not-le, Some, All}
-use mathlib.Core.Option.{some, some-injective}
+use mathlib.Core.Option.{some}
 use native.Mathlib.Decide.{dec_le}
 use lib.ListN.{get_elem?}
 use Rattle.std.specs.Iterator.{Yields, HoldsAlong}
@@ -11,7 +11,7 @@ use Rattle.atomic_table.specs.Seated.{TableId}
 use Rattle.ticket_lock.specs.declared.view.View.{View}
 use Rattle.ticket_lock.specs.Count.{times, total}
 use Rattle.ticket_lock.specs.History.{StartsWith, longer, IsRising}
-use Rattle.ticket_lock.specs.Lone.{taken_in, merged, nobody, TookIn, IsWhole, Rests, KeepsParts}
+use Rattle.ticket_lock.specs.Lone.{taken_in, merged, TookIn, Rests, KeepsParts}
 use Rattle.ticket_lock.specs.Lanes.{Standing, standing, IsLane}
 use Rattle.ticket_lock.specs.Promises.{IsIdle, ClosesLock, KeepsOwn, ComesLast}
 use Rattle.ticket_lock.specs.Proved.Facts.{at_snoc, at_last, StartsWith-trans}

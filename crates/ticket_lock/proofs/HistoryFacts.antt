@@ -1,6 +1,6 @@
 -- Lemmas on counting and on histories, beside those that the laws of the rules cite (specs/Proved/Facts.antt).
 use Rattle.std.proofs.Common.{◌≡◌, ◌≢◌, ◌⊎◌, inl, inr, ℕ, zero, suc, ◌+◌, ◌*◌, ◌<◌, ◌≤◌, eqb, cond, true, false, List, [], ◌∷◌, ◌++◌, map}
-use Rattle.std.proofs.Common.{length, set, refl, sym, ap, ◌∙◌, subst, arith, append_assoc, eq-eqb, ne_eqb, length-append}
+use Rattle.std.proofs.Common.{length, refl, sym, ap, ◌∙◌, subst, arith, eq-eqb, ne_eqb, length-append}
 use Rattle.std.proofs.lemmas.List.{append-nil}
 use mathlib.Core.Option.{some, some-injective, some-ne-none}
 use mathlib.Core.Logic.{dite}
@@ -28,10 +28,6 @@ module _ {A : Type 0} where
   total-map g f [] = refl
   total-map g f (x ∷ xs) = ap (λ (n : ℕ). f (g x) + n) (total-map g f xs)
 
-  pub map-snoc : {B : Type 0} (g : B → A) (l : List B) (b : B) → map g (l ++ b ∷ []) ≡ map g l ++ g b ∷ []
-  map-snoc g [] b = refl
-  map-snoc g (x ∷ xs) b = ap (λ r. g x ∷ r) (map-snoc g xs b)
-
   pub total_zero : (f : A → ℕ) (l : List A) → ((j : ℕ) (w : A) → get_elem? l j ≡ some w → f w ≡ 0) → total f l ≡ 0
   total_zero f [] none = refl
   total_zero f (x ∷ xs) none = omega (arith, none 0 x refl, total_zero f xs (λ j w d. none (suc j) w d))
@@ -55,10 +51,6 @@ module _ {A : Type 0} where
   at_append [] m k a e = inr (k, e)
   at_append (x ∷ xs) m zero a e = inl e
   at_append (x ∷ xs) m (suc k) a e = at_append xs m k a e
-
-  pub map-append : {B : Type 0} (g : B → A) (l m : List B) → map g (l ++ m) ≡ map g l ++ map g m
-  map-append g [] m = refl
-  map-append g (x ∷ xs) m = ap (λ r. g x ∷ r) (map-append g xs m)
 
   pub StartsWith-length : (a b : List A) → StartsWith a b → length b ≤ length a
   StartsWith-length a b p = omega (arith, ap length p.1, length-append b p.0)

@@ -1,5 +1,6 @@
 pub mod HistoryFacts
 pub mod CoreSteps
+pub mod HandLemmas
 pub mod Places
 pub mod Carried
 pub mod LoneSteps

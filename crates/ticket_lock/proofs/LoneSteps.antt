@@ -12,7 +12,7 @@ use Rattle.ticket_lock.specs.declared.hand.Hand.{Hand}
 use Rattle.ticket_lock.specs.declared.view.View.{View}
 use Rattle.ticket_lock.specs.Count.{times, total}
 use Rattle.ticket_lock.specs.History.{StartsWith, EndsIn, longer, IsRising}
-use Rattle.ticket_lock.specs.Core.{in_hand, Fits, TicketCore}
+use Rattle.ticket_lock.specs.Core.{in_hand, Fits}
 use Rattle.ticket_lock.specs.Turns.{Kept}
 use Rattle.ticket_lock.specs.Lone.{hand_of, lane_numbers, new_view, nobody, taken_in, merged, just_seen, IsWhole, Rests, KeepsParts, Knows}
 use Rattle.ticket_lock.specs.Lone.{Lone}
@@ -20,12 +20,13 @@ use Rattle.ticket_lock.specs.Lone.{TookIn}
 use Rattle.ticket_lock.specs.Proved.Facts.{total_set, total_two, at_set, at_snoc}
 use Rattle.ticket_lock.proofs.HistoryFacts.{total-snoc, total_only, total-map, at_longer, at_append}
 use Rattle.ticket_lock.specs.Proved.Facts.{at_last, set_here, set_else, set_again, at_inside, map-set, at-map}
-use Rattle.ticket_lock.proofs.HistoryFacts.{map-append, map-snoc}
 use Rattle.ticket_lock.specs.Proved.Facts.{StartsWith-refl}
 use Rattle.ticket_lock.proofs.HistoryFacts.{times-append, StartsWith-length, StartsWith-whole, both_begin, EndsIn-some}
 use Rattle.ticket_lock.proofs.HistoryFacts.{rises_short, rises_last}
 use Rattle.ticket_lock.specs.Proved.LoneOpens.{rebuilt}
 use Rattle.ticket_lock.proofs.CoreSteps.{core_same}
+use Rattle.ticket_lock.proofs.HandLemmas.{Divides, core_joins, core_splits, divides_idle, divides_new, fits_idle}
+use Rattle.std.proofs.lemmas.List.{map_push, map-append}
 
 module _ {A : Type 0} where
   pub longer_first : (a b : List A) → length b ≤ length a → longer a b ≡ a
@@ -78,46 +79,23 @@ module _ {T Part : Type 0} (before : T → T → Type 0) (part : ℕ → T → P
 
   -- a view is cut in two
   split_keeps : (s : State (Option T) (View T)) (r : Rule s) (id : ℕ) (v a b : View T) → get_elem? s.views id ≡ some v
-      → ((n : ℕ) → in_hand n a.hand + in_hand n b.hand ≡ in_hand n v.hand)
-      → ((n : ℕ) → times n a.hand.drawn + times n b.hand.drawn ≡ times n v.hand.drawn)
-      → length a.hand.drawn + length b.hand.drawn ≡ length v.hand.drawn
-      → a.hand.parts + b.hand.parts ≡ v.hand.parts → length a.hand.inside + length b.hand.inside ≡ length v.hand.inside
-      → ((serving : ℕ) → Fits serving r.log v.hand → Fits serving r.log a.hand × Fits serving r.log b.hand)
+      → Divides v.hand a.hand b.hand
       → ((l : ℕ) → times l (lane_numbers a) + times l (lane_numbers b) ≡ times l (lane_numbers v))
       → length a.own + length b.own ≡ length v.own
       → Knows before part r.log a → Knows before part r.log b
       → IsKnown r.log (set s.views id a ++ b ∷ []) → Rule record { words = s.words; homes = s.homes; views = set s.views id a ++ b ∷ [] }
-  split_keeps s r id v a b is_at hands drawn count parts inside fits nums lens knows_a knows_b known =
+  split_keeps s r id v a b is_at divides nums lens knows_a knows_b known =
       let vs : List (View T) = set s.views id a in
-      let hs : List (Hand T) = map (hand_of 0) s.views in
-      let h : Hand T = v.hand in
-      let is_h = at-map (hand_of 0) s.views id v is_at in
-      let core = r.kept.core in
-      let both = fits (get_or s.words 0 0) (core.each id h is_h) in
-      let hs' : List (Hand T) = set hs id a.hand ++ b.hand ∷ [] in
-      let sum : (f : Hand T → ℕ) → f a.hand + f b.hand ≡ f h → total f hs' ≡ total f hs =
-      λ f e. omega (arith, total-snoc f (set hs id a.hand) b.hand, total_set f hs id h a.hand is_h) in
       let sums : (f : View T → ℕ) → f a + f b ≡ f v → total f (vs ++ b ∷ []) ≡ total f s.views =
       λ f e. omega (arith, total-snoc f vs b, total_set f s.views id v a is_at) in
-      let c =
-      core_same (get_or s.words 0 0) (get_or s.words 1 0) r.log (get_elem? s.homes 0) hs core hs' (λ n. sum (in_hand n) (hands n))
-      (λ n. sum (λ (x : Hand T). times n x.drawn) (drawn n)) (sum (λ (x : Hand T). length x.drawn) count)
-      (sum (λ (x : Hand T). x.parts) parts) (sum (λ (x : Hand T). length x.inside) inside)
-      (λ j x e. elim (at_snoc (set hs id a.hand) b.hand x j e) [
-        | inl t ↦ subst (λ z. Fits (get_or s.words 0 0) r.log z) t.1 both.1
-        | inr t ↦
-            elim (at_set hs id j a.hand x t) [
-              | inl u ↦ subst (λ z. Fits (get_or s.words 0 0) r.log z) u.1 both.0
-              | inr u ↦ core.each j x u.1
-            ]
-      ]) in
       record {
         log = r.log;
         kept =
             subst (λ l. Kept 0 0 r.log s.words s.homes l)
-            (sym (map-snoc (hand_of 0) vs b ∙ ap (λ l. l ++ b.hand ∷ []) (map-set (hand_of 0) s.views id a))) record {
+            (sym (map_push (hand_of 0) vs b ∙ ap (λ l. l ++ b.hand ∷ []) (map-set (hand_of 0) s.views id a))) record {
               room = r.kept.room;
-              core = c;
+              core = core_splits (get_or s.words 0 0) (get_or s.words 1 0) r.log (get_elem? s.homes 0) (map (hand_of 0) s.views) id
+                  v.hand a.hand b.hand (at-map (hand_of 0) s.views id v is_at) divides r.kept.core;
             };
         begun = r.begun;
         rising = r.rising;
@@ -138,8 +116,7 @@ module _ {T Part : Type 0} (before : T → T → Type 0) (part : ℕ → T → P
   pub tells_allowed : (id : ℕ) (v : View T) → Splits Rule id v v (just_seen v)
   tells_allowed id v s r is_at =
       let none : set s.views id v ≡ s.views = set_again s.views id v is_at in
-      split_keeps s r id v v (just_seen v) is_at (λ n. omega arith) (λ n. omega arith) (omega arith) (omega arith) (omega arith)
-      (λ serving f. (f, record { begins = f.begins; inside = inl refl; few = omega arith; idle = λ _. (refl, refl) }))
+      split_keeps s r id v v (just_seen v) is_at (divides_idle v.hand v.hand.seen (λ log begins. begins))
       (λ l. omega arith) (omega arith) (r.each_view id v is_at) (knows_nothing r.log v.hand.seen)
       (subst (λ l. IsKnown r.log (l ++ just_seen v ∷ [])) (sym none) (known_more r.log s.views (just_seen v) r.known))
 
@@ -152,16 +129,7 @@ module _ {T Part : Type 0} (before : T → T → Type 0) (part : ℕ → T → P
       let a : View T = new_view seen ps in
       let b : View T = new_view seen (p ∷ []) in
       let knows = r.each_view id v is_at in
-      split_keeps s r id v a b is_at (λ n. refl) (λ n. refl) refl (omega arith) refl
-      (λ serving f. (
-        record { begins = f.begins; inside = inl refl; few = omega arith; idle = λ _. (refl, refl) },
-        record {
-          begins = f.begins;
-          inside = inl refl;
-          few = omega arith;
-          idle = λ _. (refl, refl);
-        },
-      ))
+      split_keeps s r id v a b is_at (divides_new seen (length ps))
       (λ l. omega arith)
       (omega arith) record { shares = refl; told = knows.told; owns = λ k l x y e. knows.owns (suc k) l x y e } record {
         shares = refl;
@@ -261,10 +229,7 @@ module _ {T Part : Type 0} (before : T → T → Type 0) (part : ℕ → T → P
       core_same (get_or s.words 0 0) (get_or s.words 1 0) r.log (get_elem? s.homes 0) hs core (hs ++ w.hand ∷ [])
       (λ n. sum (in_hand n) refl) (λ n. sum (λ (x : Hand T). times n x.drawn) refl) (sum (λ (x : Hand T). length x.drawn) refl)
       (sum (λ (x : Hand T). x.parts) refl) (sum (λ (x : Hand T). length x.inside) refl) (λ j x e. elim (at_snoc hs w.hand x j e) [
-        | inl t ↦
-            subst
-            (λ z. Fits (get_or s.words 0 0) r.log z)
-            t.1 record { begins = (r.log, refl); inside = inl refl; few = omega arith; idle = λ _. (refl, refl) }
+        | inl t ↦ subst (λ z. Fits (get_or s.words 0 0) r.log z) t.1 (fits_idle (get_or s.words 0 0) r.log [] 0 (r.log, refl))
         | inr t ↦ core.each j x t
       ]) in (
         w,
@@ -272,7 +237,7 @@ module _ {T Part : Type 0} (before : T → T → Type 0) (part : ℕ → T → P
           log = r.log;
           kept =
               subst (λ l. Kept 0 0 r.log s.words s.homes l)
-              (sym (map-snoc (hand_of 0) s.views w)) record { room = r.kept.room; core = c };
+              (sym (map_push (hand_of 0) s.views w)) record { room = r.kept.room; core = c };
           begun = r.begun;
           rising = r.rising;
           each_view =
@@ -299,44 +264,16 @@ module _ {T Part : Type 0} (before : T → T → Type 0) (part : ℕ → T → P
       let hs : List (Hand T) = map (hand_of 0) s.views in
       let is_hv = at-map (hand_of 0) s.views id v is_at in
       let is_hw = at-map (hand_of 0) s.views other w is_w in
-      let is_hw_now : get_elem? (set hs id b.hand) other ≡ some w.hand = set_else hs id other b.hand apart ∙ is_hw in
-      let core = r.kept.core in
-      let serving : ℕ = get_or s.words 0 0 in
-      let fits_v = core.each id v.hand is_hv in
-      let fits_w = core.each other w.hand is_hw in
       let knows_v = r.each_view id v is_at in
       let knows_w = r.each_view other w is_w in
-      let hs' : List (Hand T) = set (set hs id b.hand) other z.hand in
-      let sum : (f : Hand T → ℕ) → f b.hand + f z.hand ≡ f v.hand + f w.hand → total f hs' ≡ total f hs =
-      λ f e. omega (arith, total_set f hs id v.hand b.hand is_hv, total_set f (set hs id b.hand) other w.hand z.hand is_hw_now) in
       let sums : (f : View T → ℕ) → f b + f z ≡ f v + f w → total f (set vs other z) ≡ total f s.views =
       λ f e. omega (arith, total_set f s.views id v b is_at, total_set f vs other w z is_now) in
-      let fits_b : Fits serving r.log b.hand = record {
-        begins = fits_v.begins;
-        inside = elim fits_v.inside [ inl o ↦ inl (λ i. o i ++ outside i) | inr o ↦ inr ((λ i. o.0 i ++ outside i), o.1) ];
-        few = omega (arith, length-append v.hand.drawn w.hand.drawn, fits_v.few, fits_w.few);
-        idle =
-            λ none.
-            (let iv = fits_v.idle (omega arith) in let iw = fits_w.idle (omega arith) in
-            ((λ i. iv.0 i ++ iw.0 i), (λ i. iv.1 i ++ iw.1 i)));
-      } in
-      let c = core_same serving (get_or s.words 1 0) r.log (get_elem? s.homes 0) hs core hs'
-      (λ n. sum (in_hand n) (omega (arith, times-append n v.hand.tickets w.hand.tickets, times-append n v.hand.inside w.hand.inside)))
-      (λ n. sum (λ (x : Hand T). times n x.drawn) (omega (arith, times-append n v.hand.drawn w.hand.drawn)))
-      (sum (λ (x : Hand T). length x.drawn) (omega (arith, length-append v.hand.drawn w.hand.drawn)))
-      (sum (λ (x : Hand T). x.parts) (omega arith))
-      (sum (λ (x : Hand T). length x.inside) (omega (arith, length-append v.hand.inside w.hand.inside)))
-      (λ j x e. elim (at_set (set hs id b.hand) other j z.hand x e) [
-        | inl t ↦
-            subst
-            (λ q. Fits serving r.log q)
-            t.1 record { begins = (r.log, refl); inside = inl refl; few = omega arith; idle = λ _. (refl, refl) }
-        | inr t ↦ elim (at_set hs id j b.hand x t.1) [ inl u ↦ subst (λ q. Fits serving r.log q) u.1 fits_b | inr u ↦ core.each j x u.1 ]
-      ]) in
+      let c = core_joins (get_or s.words 0 0) (get_or s.words 1 0) r.log (get_elem? s.homes 0) hs id other v.hand w.hand b.hand is_hv apart is_hw
+      record { tickets = refl; inside = refl; drawn = refl; parts = refl; seen = inl refl } (inr refl) outside r.kept.core in
       let len : length b.own ≡ length v.own + length w.own = length-append v.own w.own in
       let knows_b : Knows before part r.log b = record {
         shares = omega (arith, knows_v.shares, knows_w.shares);
-        told = fits_w.begins;
+        told = (r.kept.core.each other w.hand is_hw).begins;
         owns =
             λ k l x y e ends.
             elim (at_append v.own w.own k (l, x) e) [ inl t ↦ knows_v.owns k l x y t ends | inr t ↦ knows_w.owns t.0 l x y t.1 ends ];

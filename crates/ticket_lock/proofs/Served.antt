@@ -17,8 +17,6 @@ use Rattle.ticket_lock.specs.Calls.{Enters, Came}
 use Rattle.ticket_lock.specs.Lone.{hand_of, TellsHistory, TookIn, merged, new_view}
 use Rattle.ticket_lock.specs.Lanes.{Standing, Held, Told, standing}
 use Rattle.ticket_lock.specs.Promises.{Drew, Served, EnteredLock, LearnedNote}
-use Rattle.ticket_lock.specs.Proved.Facts.{times-one}
-use Rattle.ticket_lock.proofs.HistoryFacts.{times-snoc}
 
 -- the last of a list is the first of its kind
 without-snoc : (n : ℕ) (xs : List ℕ) → times n xs ≡ 0 → without n (xs ++ n ∷ []) ≡ xs

@@ -1,12 +1,10 @@
 -- Lemmas on counting and on histories, which the laws of the rules cite.
-use Rattle.std.proofs.Common.{◌≡◌, ◌≢◌, ◌⊎◌, inl, inr, ℕ, zero, suc, ◌+◌, ◌*◌, ◌<◌, ◌≤◌, eqb, cond, true, false, List, [], ◌∷◌, ◌++◌, map}
-use Rattle.std.proofs.Common.{length, set, refl, sym, ap, ◌∙◌, subst, arith, append_assoc, eq-eqb, ne_eqb, length-append}
+use Rattle.std.proofs.Common.{◌≡◌, ◌≢◌, ◌⊎◌, inl, inr, ℕ, zero, suc, ◌+◌, ◌<◌, ◌≤◌, List, [], ◌∷◌, ◌++◌, map}
+use Rattle.std.proofs.Common.{length, set, refl, sym, ap, ◌∙◌, subst, arith, append_assoc, eq-eqb, length-append}
 use Rattle.std.proofs.lemmas.List.{append-nil}
 use mathlib.Core.Option.{some, some-injective, some-ne-none}
-use mathlib.Core.Logic.{dite}
-use native.Mathlib.Decide.{ℕ_discrete}
 use lib.ListN.{get_elem?}
-use Rattle.ticket_lock.specs.Count.{times, without, total}
+use Rattle.ticket_lock.specs.Count.{times, total}
 use Rattle.ticket_lock.specs.History.{StartsWith, EndsIn, IsRising}
 
 module _ {A : Type 0} where

@@ -1,8 +1,7 @@
 -- The pass comes after those with lower numbers.
 use Rattle.std.proofs.Common.{map, ap, ◌∙◌, arith}
-use Rattle.ticket_lock.proofs.HistoryFacts.{map-snoc}
 use Rattle.switchboard.proofs.Jobs.{first_more}
-use Rattle.std.proofs.lemmas.List.{length-map}
+use Rattle.std.proofs.lemmas.List.{length-map, map_push}
 use Rattle.board_tests.proofs.boards.gather.Goals as goal
 
 pub returns : goal.returns
@@ -13,7 +12,7 @@ returns g c =
     let old = c.args.passes.now.items in (
       first_more (B.identity c.args.board.now) (B.mailboxes c.args.board.now) (map B.sight old) (map B.sight c.push.new.self.items)
           (B.sight c.args.pass)
-          c.requires.passes (ap (map B.sight) items ∙ map-snoc B.sight old c.args.pass) c.requires.pass.0
+          c.requires.passes (ap (map B.sight) items ∙ map_push B.sight old c.args.pass) c.requires.pass.0
           (c.requires.pass.1 ∙ omega (arith, c.args.passes.now.ok.0, length-map old B.sight)) c.requires.pass.2,
       len,
     )

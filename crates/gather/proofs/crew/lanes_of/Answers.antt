@@ -5,12 +5,12 @@ use Rattle.std.proofs.lemmas.Option.{none-some}
 use Rattle.std.proofs.lemmas.List.{length-map}
 use Rattle.std.specs.Vec.Iter.{into_iter_items}
 use Rattle.flow_graph.specs.Drawn.{graphs_of}
-use Rattle.summaries.proofs.Steps.{get_map}
 use Rattle.jobs.proofs.ResultLemmas.{come, came_at, came_near, come_all}
 use Rattle.gather.proofs.Crews.{own_push}
 use Rattle.gather.proofs.crew.lanes_of.Given.{Over}
 use Rattle.gather.proofs.crew.lanes_of.Goals as goal
 use Rattle.gather.proofs.crew.lanes_of.Goals.{After-len-number}
+use Rattle.path_sets.proofs.PlaceLemmas.{get_map}
 
 -- the number of the lane is how many result before it
 number_is : (g : Over) (c : After-len-number g) → c.len-number.result ≡ length c.loop-pass.yielded

@@ -1,12 +1,11 @@
 -- One more end is taken in.
 use Rattle.std.proofs.Common.{◌≡◌, ◌+◌, ◌++◌, ◌<◌, ◌≤◌, ◌∷◌, [], get_or, take, length, suc, sym, ap, ◌∙◌, subst, arith, length-take-le}
 use Rattle.std.proofs.lemmas.Option.{slice_get-get_or}
-use Rattle.std.proofs.lemmas.List.{length-map, map-append}
+use Rattle.std.proofs.lemmas.List.{length-map, map-append, take_all}
 use Rattle.post_ledger.proofs.Histories.{split_at_element}
 use Rattle.gather.specs.Findings.{finding_end, ends_in}
 use Rattle.gather.specs.Gathered.{IsLeastOf}
 use Rattle.gather.proofs.Causes.{none_least}
-use Rattle.jobs.proofs.ResultLemmas.{take_whole}
 use Rattle.gather.proofs.gathering.least.Goals as goal
 
 pub loop-procedure-init : goal.loop-procedure-init
@@ -32,4 +31,4 @@ loop-procedure-preserved g c =
 
 pub returns : goal.returns
 returns g c = subst (λ l. IsLeastOf (ends_in l) c.loop-procedure.least)
-    (take_whole c.args.findings.now c.loop-procedure.procedure c.loop-procedure-test.false) c.loop-procedure.invariant
+    (take_all c.loop-procedure.procedure c.args.findings.now c.loop-procedure-test.false) c.loop-procedure.invariant

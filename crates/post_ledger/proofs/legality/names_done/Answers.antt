@@ -30,10 +30,10 @@ loop-event-init g c = refl
 
 pub returns-then-number-take : goal.returns-then-number-take
 returns-then-number-take g c =
-    let h = c.args.events.now in
     let i = c.loop-event.event-index in
-    let first = left_from h i c.event-item.result (Done c.in-Done.take) c.loop-event-test.true c.event-item.is c.in-Done.is in
-    sym (ap (any c.args.number) first ∙ named c.args.number c.in-Done.take (drop (i + 1) h) c.if-number-take.true)
+    let first =
+    left_from c.args.events.now i c.event-item.result (Done c.in-Done.take) c.loop-event-test.true c.event-item.is c.in-Done.is in
+    sym (ap (any c.args.number) first ∙ named c.args.number c.in-Done.take (drop (i + 1) c.args.events.now) c.if-number-take.true)
     ∙ c.loop-event.invariant
 
 pub loop-event-preserved : goal.loop-event-preserved

@@ -1,10 +1,11 @@
 -- One event more: what it has of the sender at the side comes to the end of what was found.
-use Rattle.std.proofs.Common.{◌≡◌, ◌∷◌, ◌++◌, ◌+◌, [], ℕ, List, ◌==◌, ◌∙◌, Option, Some, None, refl, sym, ap, subst, drop, map, filter}
+use Rattle.std.proofs.Common.{◌≡◌, ◌∷◌, ◌++◌, ◌+◌, [], ℕ, List, ◌==◌, ◌∙◌, Option, Some, None, refl, sym, ap, drop, map, filter}
 use Rattle.std.proofs.Common.{append_assoc, arith, suc}
 use Rattle.std.proofs.lemmas.List.{append-nil, at_drop_all}
 use Rattle.std.proofs.Math.Seq.{drop-cons}
 use Rattle.std.proofs.lemmas.List.{map-append}
 use Rattle.std.proofs.lemmas.List.Elements.{filter-append}
+use Rattle.std.proofs.lemmas.Option.{MatchOption-at_some}
 use Rattle.std.specs.Option.{MatchOption}
 use Rattle.post_ledger.specs.declared.event.Event.{Event}
 use Rattle.post_ledger.specs.declared.side.Side.{Side}
@@ -30,9 +31,6 @@ module _ {M : Type 0} where
   on_none Posts sender = refl
   on_none Takes sender = refl
 
-  one_of : (r : Option M) (N : Type 0) (S : M → Type 0) (m : M) → MatchOption r N S → r ≡ Some m → S m
-  one_of r N S m h is = subst (λ o. MatchOption o N S) is h
-
   none_of : (r : Option M) (N : Type 0) (S : M → Type 0) → MatchOption r N S → ((m : M) → r ≡ Some m → ⊥) → N
   none_of None N S h none = h
   none_of (Some m) N S h none = absurd (none m refl)
@@ -53,7 +51,7 @@ loop-event-preserved g c =
     elim c.match-message_of.branch [
       | in-Some+in_ok-push w ↦
           let m = w.in-Some.message in
-          let one = one_of c.message_of.result _ _ m c.message_of.ensures w.in-Some.is in
+          let one = MatchOption-at_some _ _ m w.in-Some.is c.message_of.ensures in
           ap (λ l. l ++ on rest) (ap (λ v. v.items) w.messages-is ∙ w.in_ok-push.ensures.items)
           ∙ append_assoc found (m ∷ []) (on rest)
           ∙ ap (λ l. found ++ l) (sym (parts ∙ ap (λ l. l ++ on rest) one))

@@ -3,10 +3,11 @@ use Rattle.std.proofs.Common.{◌≡◌, ◌≤◌, ◌+◌, ◌∷◌, [], ◌+
 use Rattle.std.specs.List.{filter, IsDistinct}
 use Rattle.std.proofs.lemmas.List.{append-nil, take_all}
 use Rattle.std.proofs.lemmas.List.Elements.{filter_more}
+use Rattle.std.proofs.lemmas.Map.Keys.{IsDistinct-IsPermutation}
 use Rattle.indexmap.specs.IndexMap.{keys}
 use Rattle.language.specs.Lists.{Member}
 use Rattle.summaries.specs.Under.{under}
-use Rattle.summaries.proofs.SortedLemmas.{has_any, numbers_ascend, nat_eq_flips, still_distinct, same_members, member_filter}
+use Rattle.summaries.proofs.SortedLemmas.{has_any, numbers_ascend, nat_eq_flips, same_members, member_filter}
 use Rattle.summaries.proofs.SortedLemmas.{distinct_filter}
 use Rattle.summaries.proofs.SortedLemmas.{keys_with_values}
 use Rattle.summaries.proofs.reading.entries.Given.{Over}
@@ -54,7 +55,7 @@ returns-clause-ascend g c =
     let passes : ℕ → Bool = λ a. has_any (under nat_eq c.args.callers.now.by_key a) in
     let once = distinct_filter nat_eq passes (keys c.args.callers.now.by_key) c.keys-keys.ensures.unique in
     numbers_ascend c.sort_unstable.new.self.items c.sort_unstable.ensures.sorted
-    (still_distinct nat_eq nat_eq_flips c.loop-entry.entries.items c.sort_unstable.new.self.items c.sort_unstable.ensures.permutation
+    (IsDistinct-IsPermutation nat_eq nat_eq_flips c.loop-entry.entries.items c.sort_unstable.new.self.items c.sort_unstable.ensures.permutation
     (subst (IsDistinct nat_eq) (sym (all_keys g a)) once))
 
 pub returns-clause-entries : goal.returns-clause-entries

@@ -2,13 +2,13 @@
 use Rattle.std.proofs.Common.{◌≡◌, ◌≤◌, ◌∷◌, [], ◌++◌, ◌+◌, ◌↔◌, length, take, get_or}
 use Rattle.std.proofs.Common.{sym, ap, ◌∙◌, subst, arith}
 use Rattle.std.specs.List.{IsDistinct}
-use Rattle.std.proofs.lemmas.List.{take_all}
+use Rattle.std.proofs.lemmas.List.{take_all, take_more}
 use Rattle.language.specs.Lists.{Member}
-use Rattle.summaries.proofs.SortedLemmas.{pairs_ascend, pair_eq, pair_eq_flips, still_distinct, same_members}
-use Rattle.summaries.proofs.Firsts.{take_more}
+use Rattle.summaries.proofs.SortedLemmas.{pairs_ascend, pair_eq, pair_eq_flips, same_members}
 use Rattle.summaries.proofs.reading.pairs.Given.{Over}
 use Rattle.summaries.proofs.reading.pairs.Goals as goal
 use Rattle.summaries.proofs.reading.pairs.Goals.{After-sort_unstable}
+use Rattle.std.proofs.lemmas.Map.Keys.{IsDistinct-IsPermutation}
 
 pub loop-kept-preserved : goal.loop-kept-preserved
 loop-kept-preserved g c =
@@ -33,7 +33,7 @@ returns-clause-ascend g c =
     let a = (goal.at.returns-clause-ascend g c).After-sort_unstable in
     let once : IsDistinct pair_eq c.args.found.now.keys = c.as_slice-kept-items.ensures.unique in
     pairs_ascend c.sort_unstable.new.self.items c.sort_unstable.ensures.sorted
-    (still_distinct pair_eq pair_eq_flips c.loop-kept.pairs.items c.sort_unstable.new.self.items c.sort_unstable.ensures.permutation
+    (IsDistinct-IsPermutation pair_eq pair_eq_flips c.loop-kept.pairs.items c.sort_unstable.new.self.items c.sort_unstable.ensures.permutation
     (subst (IsDistinct pair_eq) (sym (all_kept g a)) once))
 
 pub returns-clause-pairs : goal.returns-clause-pairs

@@ -14,11 +14,12 @@ use Rattle.summaries.specs.Together.{opening, AreTables}
 use Rattle.summaries.proofs.SweepLemmas.{limits_stay}
 use Rattle.summaries.proofs.Steps.{answered, answered_none, delivered, opening_due, mail_due, mail_receiver, only_due, too_many}
 use Rattle.summaries.proofs.Steps.{same_too_many, one_more_quiet, still_quiet, room, steps_left, less_room, same_room, fewer_rooms, nearer}
-use Rattle.summaries.proofs.Steps.{fault_told, refused, none_aside}
+use Rattle.summaries.proofs.Steps.{none_aside}
 use Rattle.summaries.proofs.tabulation.run.Goals as goal
 use Rattle.summaries.proofs.tabulation.run.Given.{Over}
-use Rattle.summaries.proofs.tabulation.run.Goals.{After-index_mut, In-Some, In-None, In_ok-deliver, After-index_mut-in-loop-at}
+use Rattle.summaries.proofs.tabulation.run.Goals.{After-index_mut, In-Some, In_ok-deliver, After-index_mut-in-loop-at}
 use Rattle.summaries.proofs.tabulation.run.Goals.{After-index_mut-in-Some}
+use Rattle.summaries.proofs.FrontierLemmas.{fault_of, failed_ok}
 
 -- ---- the opening
 
@@ -43,13 +44,13 @@ pub deliver-requires : goal.deliver-requires
 deliver-requires g c = let asked = c.requires.1 in asked.1.1.table 0 c.index_mut.result.now (first_is g c)
 
 pub returns-in_err-deliver-clause-limits : goal.returns-in_err-deliver-clause-limits
-returns-in_err-deliver-clause-limits g c = λ n h. refused _ _ c.from_residual.result c.from_residual.ensures.1
+returns-in_err-deliver-clause-limits g c = λ n h. failed_ok _ _ c.from_residual.result c.from_residual.ensures.1
 
 pub returns-in_err-deliver-clause-limit : goal.returns-in_err-deliver-clause-limit
 returns-in_err-deliver-clause-limit g c = λ e n h.
     let asked = c.requires.1 in
     let delivers = c.in_err-deliver.ensures in
-    let told = fault_told _ c.from_residual.result EdgeLimit c.from_residual.ensures.1 e in
+    let told = fault_of _ c.from_residual.result EdgeLimit c.from_residual.ensures.1 e in
     let ts = c.args.tables.now.items in
     let a = (goal.at.returns-in_err-deliver-clause-limit g c).After-index_mut in
     let due =
@@ -86,12 +87,12 @@ pub next-requires : goal.next-requires
 next-requires g c = c.loop-at.invariant.tables.table c.loop-at.at c.index_mut-in-loop-at.result.now (at_is g c)
 
 pub returns-in_err-to-clause-limits : goal.returns-in_err-to-clause-limits
-returns-in_err-to-clause-limits g c = λ n h. refused _ _ c.from_residual-in_err-to.result c.from_residual-in_err-to.ensures.1
+returns-in_err-to-clause-limits g c = λ n h. failed_ok _ _ c.from_residual-in_err-to.result c.from_residual-in_err-to.ensures.1
 
 pub returns-in_err-to-clause-limit : goal.returns-in_err-to-clause-limit
 returns-in_err-to-clause-limit g c = λ e n h.
     let next = c.in_err-to.ensures in
-    let told = fault_told _ c.from_residual-in_err-to.result EdgeLimit c.from_residual-in_err-to.ensures.1 e in
+    let told = fault_of _ c.from_residual-in_err-to.result EdgeLimit c.from_residual-in_err-to.ensures.1 e in
     let a = (goal.at.returns-in_err-to-clause-limit g c).After-index_mut-in-loop-at in
     same_too_many g.S.PathSet.members g.program (λ x. ⊥) c.loop-at.tables.items c.loop-at.invariant.tables c.loop-at.at
     c.index_mut-in-loop-at.result.now c.next.new.self (at_is g a) next.keeps.table next.keeps.stays
@@ -153,13 +154,13 @@ deliver-requires-in-Some g c =
 
 pub returns-in_err-deliver-in-Some-clause-limits : goal.returns-in_err-deliver-in-Some-clause-limits
 returns-in_err-deliver-in-Some-clause-limits g c =
-    λ n h. refused _ _ c.from_residual-in_err-deliver-in-Some.result c.from_residual-in_err-deliver-in-Some.ensures.1
+    λ n h. failed_ok _ _ c.from_residual-in_err-deliver-in-Some.result c.from_residual-in_err-deliver-in-Some.ensures.1
 
 pub returns-in_err-deliver-in-Some-clause-limit : goal.returns-in_err-deliver-in-Some-clause-limit
 returns-in_err-deliver-in-Some-clause-limit g c = λ e n h.
     let at = goal.at.returns-in_err-deliver-in-Some-clause-limit g c in
     let delivers = c.in_err-deliver-in-Some.ensures in
-    let told = fault_told _ c.from_residual-in_err-deliver-in-Some.result EdgeLimit c.from_residual-in_err-deliver-in-Some.ensures.1 e in
+    let told = fault_of _ c.from_residual-in_err-deliver-in-Some.result EdgeLimit c.from_residual-in_err-deliver-in-Some.ensures.1 e in
     let ts = slice_set c.loop-at.tables.items c.loop-at.at c.next.new.self in
     let are = then_aside g at.In-Some in
     let is = to_is g at.After-index_mut-in-Some in
@@ -176,19 +177,14 @@ returns-in_err-deliver-in-Some-clause-limit g c = λ e n h.
 pub loop-at-smaller-in-Some : goal.loop-at-smaller-in-Some
 loop-at-smaller-in-Some g c =
     let at = goal.at.loop-at-smaller-in-Some g c in
-    let is = answers_is g at.In-Some in
-    let then = to_is g at.After-index_mut-in-Some in
     let items = c.loop-at.tables.items in
     let one = slice_set items c.loop-at.at c.next.new.self in
     let two = slice_set one c.in-Some.to c.deliver-in-Some.new.table in
-    let next = c.in_ok-to.ensures in
-    let more = (answer_of g at.In-Some).behind in
-    let few = next.few in
     let less =
     less_room (2 ^ 64) items c.loop-at.at c.index_mut-in-loop-at.result.now c.next.new.self
-    (mail c.in-Some.to c.in-Some.due) is more few in
-    let same = same_room (2 ^ 64) one c.in-Some.to c.index_mut-in-Some.result.now c.deliver-in-Some.new.table then
-    c.in_ok-deliver-in-Some.ensures.answers in
+    (mail c.in-Some.to c.in-Some.due) (answers_is g at.In-Some) (answer_of g at.In-Some).behind c.in_ok-to.ensures.few in
+    let same = same_room (2 ^ 64) one c.in-Some.to c.index_mut-in-Some.result.now c.deliver-in-Some.new.table
+    (to_is g at.After-index_mut-in-Some) c.in_ok-deliver-in-Some.ensures.answers in
     let long : length two ≡ length items = length-set one c.in-Some.to c.deliver-in-Some.new.table
     ∙ length-set items c.loop-at.at c.next.new.self in
     subst (λ n. steps_left (room (2 ^ 64) two) n c.min-at.result < steps_left (room (2 ^ 64) items) (length items) c.loop-at.at) (sym long)
@@ -222,14 +218,9 @@ loop-at-preserved-in-Some g c =
 
 -- ---- a table owes none
 
-none_is : (g : Over) (c : In-None g) → slice_get c.loop-at.tables.items c.loop-at.at ≡ Some c.index_mut-in-loop-at.result.now
-none_is g c =
-    slice_get_read c.loop-at.tables.items _ c.loop-at.at c.index_mut-in-loop-at.result.now refl
-    (omega (arith, c.loop-at.tables.ok.0)) c.index_mut-in-loop-at.ensures.value
-
 pub loop-at-smaller : goal.loop-at-smaller
 loop-at-smaller g c =
-    let is = none_is g (goal.at.loop-at-smaller g c).In-None in
+    let is = at_is g (goal.at.loop-at-smaller g c).After-index_mut-in-loop-at in
     let items = c.loop-at.tables.items in
     let one = slice_set items c.loop-at.at c.next.new.self in
     let none = subst (λ o. IfNone o (answers_of c.next.new.self ≡ answers_of c.index_mut-in-loop-at.result.now))
@@ -244,7 +235,7 @@ loop-at-smaller g c =
 
 pub loop-at-preserved : goal.loop-at-preserved
 loop-at-preserved g c =
-    let is = none_is g (goal.at.loop-at-preserved g c).In-None in
+    let is = at_is g (goal.at.loop-at-preserved g c).After-index_mut-in-loop-at in
     let items = c.loop-at.tables.items in
     let next = c.in_ok-to.ensures in
     let none = subst (λ o. IfNone o (answers_of c.next.new.self ≡ answers_of c.index_mut-in-loop-at.result.now)) c.in-None.is next.none in

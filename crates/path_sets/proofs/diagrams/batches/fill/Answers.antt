@@ -1,6 +1,6 @@
 use Rattle.std.proofs.Common.{◌≡◌, Some, slice_get, sym, subst}
-use Rattle.path_sets.proofs.BatchLemmas.{still_there}
 use Rattle.path_sets.proofs.diagrams.batches.fill.Goals as goal
+use Rattle.path_sets.proofs.PlaceLemmas.{still_there}
 
 pub loop-homes-preserved : goal.loop-homes-preserved
 loop-homes-preserved g c = record {

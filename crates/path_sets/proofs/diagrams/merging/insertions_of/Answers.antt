@@ -3,8 +3,9 @@ use Rattle.path_sets.specs.Insertions.{AreInsertions}
 use Rattle.path_sets.specs.Diagrams.{diagram_of}
 use Rattle.path_sets.specs.GatheredKeys.{mask_key_at, masks_of}
 use Rattle.path_sets.proofs.BatchLemmas.{key_of}
-use Rattle.path_sets.proofs.InsertionLemmas.{at_index, next_insertion}
-use Rattle.path_sets.proofs.GatheredKeyLemmas.{at_masks, item_there, mask_key_is, take_masks}
+use Rattle.path_sets.proofs.InsertionLemmas.{next_insertion}
+use Rattle.path_sets.proofs.PlaceLemmas.{at_index, item_there}
+use Rattle.path_sets.proofs.GatheredKeyLemmas.{at_masks, mask_key_is, take_masks}
 use Rattle.path_sets.proofs.diagrams.merging.insertions_of.Goals as goal
 
 pub loop-at-preserved : goal.loop-at-preserved

@@ -1,16 +1,16 @@
-use Rattle.std.proofs.Common.{◌≡◌, true, sym, subst}
+use Rattle.std.proofs.Common.{sym, subst}
 use Rattle.indexmap.specs.IndexMap.{keys}
 use Rattle.language.specs.Lists.{Member}
 use Rattle.path_sets.specs.Triples.{Triple}
 use Rattle.path_sets.specs.Edges.{mask_edges}
-use Rattle.path_sets.specs.Diagrams.{merged_has}
 use Rattle.path_sets.specs.Insertions.{AreInsertions, InInsertions}
 use Rattle.path_sets.specs.GatheredKeys.{masks_of}
-use Rattle.path_sets.proofs.InsertionLemmas.{insertions_reordered, insertions_within, in_insertions, of_insertions, on_ok}
+use Rattle.path_sets.proofs.InsertionLemmas.{insertions_reordered, insertions_within, in_insertions, of_insertions}
 use Rattle.path_sets.proofs.TakesLemmas.{takes_of}
 use Rattle.path_sets.proofs.diagrams.merging.put_all.Given as given
 use Rattle.path_sets.proofs.diagrams.merging.put_all.Goals as goal
 use Rattle.path_sets.proofs.diagrams.merging.put_all.Goals.{After-deref}
+use Rattle.std.proofs.lemmas.Result.{on_ok_weaker}
 
 -- the insertions are those of the masks after they are sorted too
 sorted : (g : given.Over) (c : After-deref g)
@@ -41,11 +41,9 @@ returns-clause-takes g c =
 
 pub returns-clause-all : goal.returns-clause-all
 returns-clause-all g c =
-    let n = c.put_insertions.new.merged in
     let ks = keys c.args.merged.now.roots in
     let gs = masks_of ks c.args.masks.now.entries in
     let insertions = c.deref.result.now in
-    let N : Triple → Type 0 = λ t. merged_has n.nodes.kept.keys n.roots.entries t ≡ true in
-    on_ok ((t : Triple) → InInsertions ks insertions t → N t) ((t : Triple) → Member t (mask_edges gs) → N t) c.put_insertions.result
+    on_ok_weaker c.put_insertions.result
     (λ all t h. all t (in_insertions ks gs insertions (sorted g (goal.at.returns-clause-all g c).After-deref) t h))
     c.put_insertions.ensures.all

@@ -1,4 +1,4 @@
-use Rattle.std.proofs.Common.{◌≡◌, ◌∙◌, ◌<◌, Some, slice_get, length, sym, ap, subst}
+use Rattle.std.proofs.Common.{◌≡◌, ◌∙◌, ◌<◌, Some, slice_get, length, sym, ap, subst, refl}
 use Rattle.indexmap.specs.IndexMap.{keys}
 use Rattle.language.specs.Lists.{Member}
 use Rattle.path_sets.specs.declared.diagrams.insertion.Insertion.{Insertion}
@@ -6,10 +6,12 @@ use Rattle.path_sets.specs.declared.diagrams.roots.DiagramKey.{DiagramKey}
 use Rattle.path_sets.specs.Diagrams.{InRun, TakesGiven}
 use Rattle.path_sets.specs.Insertions.{InInsertions}
 use Rattle.path_sets.proofs.RootLemmas.{diagram_there, same_within}
-use Rattle.path_sets.proofs.InsertionLemmas.{all_on, among_on, at_index, of_diagram, taken_on}
+use Rattle.path_sets.proofs.InsertionLemmas.{all_on, among_on, taken_on}
 use Rattle.path_sets.proofs.diagrams.merging.put_insertions.Given as given
 use Rattle.path_sets.proofs.diagrams.merging.put_insertions.Goals as goal
 use Rattle.path_sets.proofs.diagrams.merging.put_insertions.Goals.{After-insertion_at-diagram, After-put}
+use Rattle.path_sets.proofs.PlaceLemmas.{at_index}
+use Rattle.path_sets.proofs.UnionLemmas.{all_first}
 
 -- the first insertion's diagram is there
 within : (g : given.Over) (c : After-insertion_at-diagram g)
@@ -32,7 +34,8 @@ module _ (g : given.Over) (c : After-put g) (small : c.insertion_at-diagram.resu
   -- each insertion of the run is of its diagram
   one : (d : Insertion) → Member d c.split_at.result.0.now → d.diagram ≡ c.insertion_at-diagram.result.diagram
   one = subst (λ l. (d : Insertion) → Member d l → d.diagram ≡ c.insertion_at-diagram.result.diagram) (sym c.split_at.ensures.front)
-      (of_diagram c.loop-left.left.now c.run_of.result c.insertion_at-diagram.result c.insertion_at-diagram.ensures c.run_of.ensures.all)
+      (all_first (λ d. d.diagram ≡ c.insertion_at-diagram.result.diagram) c.loop-left.left.now c.run_of.result
+      c.insertion_at-diagram.result c.insertion_at-diagram.ensures refl c.run_of.ensures.all)
 
   run_put : TakesGiven (InRun own.0 c.split_at.result.0.now) c.loop-left.merged.nodes.kept.keys c.put.new.self.nodes.kept.keys
       c.loop-left.merged.roots.entries c.put.new.self.roots.entries

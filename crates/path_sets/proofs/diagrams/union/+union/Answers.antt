@@ -1,6 +1,7 @@
 use Rattle.std.proofs.Common.{◌≡◌, ℕ, ◌+◌, ◌/◌, ◌^◌, true, ◌⊎◌, ◌↔◌, ◌∷◌, ◌++◌}
 use Rattle.std.proofs.Common.{sym, ap, ◌∙◌, subst, length, refl, arith, rules}
 use Rattle.std.proofs.lemmas.Bool.{eqb-true}
+use Rattle.std.proofs.lemmas.Result.{IfOk-weaker}
 use Rattle.language.specs.Lists.{Member}
 use Rattle.path_sets.specs.declared.diagrams.insertion.Insertion.{Insertion}
 use Rattle.path_sets.specs.Masks.{bit_of}
@@ -8,7 +9,7 @@ use Rattle.path_sets.specs.Walks.{IsNumber}
 use Rattle.path_sets.specs.Halves.{ContinuesBy, valuation_of}
 use Rattle.path_sets.specs.Quads.{IsInserted, Joins, points_of, sees}
 use Rattle.path_sets.proofs.QuadLemmas.{keeps_on, keeps_self, stays_inside, quad_child_inside}
-use Rattle.path_sets.proofs.UnionLemmas.{all_alike, all_put, first_and_rest, goes_on, iff_on, led_inside, of_ok, stops}
+use Rattle.path_sets.proofs.UnionLemmas.{all_put, first_and_rest, goes_on, iff_on, led_inside, stops, all_first}
 use Rattle.path_sets.proofs.diagrams.union.+union.Goals as goal
 
 pub loop-left-preserved-in-None : goal.loop-left-preserved-in-None
@@ -48,8 +49,8 @@ loop-left-preserved g t c =
     let u = c.in_ok-child-in-Some.ensures in
     let is : left ≡ run ++ more = cut.by_index.0 in
     let alike = subst (λ l. (d : Insertion) → Member d l → ContinuesBy (valuation_of d) c.args.level two) (sym cut.front)
-    (all_alike left c.run_of.result c.args.level two c.insertion_at-insertion.result c.insertion_at-insertion.ensures c.in-Some.ensures.some
-    c.run_of.ensures.all) in
+    (all_first (λ d. ContinuesBy (valuation_of d) c.args.level two) left c.run_of.result c.insertion_at-insertion.result
+    c.insertion_at-insertion.ensures c.in-Some.ensures.some c.run_of.ensures.all) in
     let joins = subst (λ n. Joins run (c.args.level + 1) (points_of ns n) (points_of ms child)) c.child.ensures u.joins in
     record {
       keeps = keeps_on c.args.nodes.now.kept.keys ns ms i.keeps u.keeps;
@@ -68,8 +69,8 @@ returns-clause-joins g t c =
     let n0 = c.args.nodes.now.kept.keys in
     let ns = c.loop-left.nodes.kept.keys in
     let ms = c.make.new.self.kept.keys in
-    of_ok (λ r. (v : ℕ) → points_of ms r v ≡ sees ns c.loop-left.quad v)
-    (λ r. Joins c.args.insertions.now c.args.level (points_of n0 c.args.number) (points_of ms r)) c.make.result
+    IfOk-weaker c.make.result (λ r. (v : ℕ) → points_of ms r v ≡ sees ns c.loop-left.quad v)
+    (λ r. Joins c.args.insertions.now c.args.level (points_of n0 c.args.number) (points_of ms r))
     (λ r same v point.
     all_put c.loop-left.left.now
     (eqb-true (length c.loop-left.left.now) 0 (sym c.is_empty.ensures ∙ c.loop-left-test.false)) c.args.level v point

@@ -7,13 +7,14 @@ use Rattle.procedure_worker.proofs.worker.Worker.answer.Goals as goal
 
 pub returns-in-Err : goal.returns-in-Err
 returns-in-Err g c =
-    answered_fault (start_of g.B.Board.identity c.args.desk.now) g.S.PathSet.members c.args.job.now c.in-Err.why
-    (g.B.Board.sight c.args.self.now.pass) c.args.self.now c.next.new.table c.requires c.in-Err.ensures.fails
+    answered_fault (start_of g.B.Board.identity c.args.desk.now) g.S.PathSet.members c.args.job.now
+    (g.B.Board.sight c.args.self.now.pass) c.args.self.now c.next.new.table c.requires c.in-Err.why c.in-Err.ensures.fails
 
 pub send-requires : goal.send-requires
 send-requires g c =
-    answered_sending (start_of g.B.Board.identity c.args.desk.now) g.S.PathSet.members c.args.job.now c.in-Ok-Some.to
-    c.in-Ok-Some.due (g.B.Board.sight c.args.self.now.pass) c.args.self.now c.next.new.table c.requires c.in-Ok-Some.ensures.keeps
+    answered_sending (start_of g.B.Board.identity c.args.desk.now) g.S.PathSet.members c.args.job.now
+    (g.B.Board.sight c.args.self.now.pass) c.args.self.now c.next.new.table c.requires c.in-Ok-Some.to c.in-Ok-Some.due
+    c.in-Ok-Some.ensures.keeps
     (subst (λ o. IfSome o (λ m. IsAnswer c.args.self.now.table c.next.new.table m.0 m.1)) c.in-Ok-Some.field-0-is
     c.in-Ok-Some.ensures.some)
 

@@ -7,7 +7,7 @@ use Rattle.procedure_worker.proofs.worker.Worker.send.Goals as goal
 pub returns-clause-done : goal.returns-clause-done
 returns-clause-done g c =
     sent_dealing (start_of g.B.Board.identity c.args.desk.now) g.S.PathSet.members c.args.job.now c.args.to c.args.due
-    (g.B.Board.sight c.args.self.now.pass) (g.B.Board.sight c.post.new.pass) c.args.self.now _ c.requires c.in_ok-post.ensures refl
+    (g.B.Board.sight c.args.self.now.pass) (g.B.Board.sight c.post.new.pass) c.args.self.now _ c.requires refl c.in_ok-post.ensures
 
 pub returns-clause-takes : goal.returns-clause-takes
 returns-clause-takes g c =
@@ -22,6 +22,5 @@ returns-in_err-post-clause-done g c =
     (λ _. IsDealing start g.S.PathSet.members c.args.job.now (g.B.Board.sight c.post.new.pass) w)
     (λ why. IsStopped start g.S.PathSet.members c.args.job.now why (g.B.Board.sight c.post.new.pass) w)
     c.from_residual.ensures.1
-    (sending_refused start g.S.PathSet.members c.args.job.now c.args.to c.args.due c.in_err-post.field-0.0
-    (g.B.Board.sight c.args.self.now.pass) (g.B.Board.sight c.post.new.pass) c.args.self.now w c.requires
-    c.in_err-post.ensures refl)
+    (sending_refused start g.S.PathSet.members c.args.job.now c.args.to c.args.due (g.B.Board.sight c.args.self.now.pass)
+    (g.B.Board.sight c.post.new.pass) c.args.self.now w c.requires refl c.in_err-post.field-0.0 c.in_err-post.ensures)

@@ -2,9 +2,9 @@ use Rattle.std.proofs.Common.{◌<◌, ◌+◌, length, take, get_or, sym, subst
 use Rattle.summaries.specs.declared.outbox.Outgoing.{Outgoing}
 use Rattle.summaries.specs.declared.outbox.Outgoing.TheVariants.{EntryFor}
 use Rattle.language.specs.Lists.{Member}
-use Rattle.summaries.proofs.Firsts.{take_more}
 use Rattle.summaries.proofs.Mails.{next_new}
 use Rattle.summaries.proofs.outbox.Outbox.next.Goals as goal
+use Rattle.std.proofs.lemmas.List.{take_more}
 
 pub returns-clause-new : goal.returns-clause-new
 returns-clause-new g c =

@@ -2,16 +2,16 @@
 use Rattle.std.proofs.Common.{◌≡◌, ◌≤◌, true, false, Some, slice_get, get_or, inl, inr, refl, sym, ap, ◌∙◌, subst, arith}
 use Rattle.std.proofs.Common.{true≢false}
 use Rattle.std.proofs.Math.Nat.{eq-or-lt_of_le}
-use Rattle.std.proofs.lemmas.Option.{slice_get-get_or, get_or_from_slice_get, same_Some}
+use Rattle.std.proofs.lemmas.Option.{slice_get-get_or, get_or_from_slice_get, same_Some, slice_get_within}
 use Rattle.language.specs.Lists.{Member}
 use Rattle.flow_graph.specs.Bits.{bit_of}
 use Rattle.summaries.specs.declared.pair.Pair.{Pair}
 use Rattle.summaries.specs.Effects.{Effect, Effects}
 use Rattle.summaries.specs.Found.{pair, left}
-use Rattle.summaries.proofs.ReplaceLemmas.{got_member, member_got}
 use Rattle.summaries.proofs.summaries.Summaries.bad.Given.{Over}
 use Rattle.summaries.proofs.summaries.Summaries.bad.Goals as goal
 use Rattle.summaries.proofs.summaries.Summaries.bad.Goals.{In-Some}
+use Rattle.path_sets.proofs.PlaceLemmas.{at_index, index_of}
 
 -- the first procedure's summary is there
 main_is : (g : Over) (c : In-Some g) → slice_get c.args.self.now.procedures 0 ≡ Some c.in-Some.main.now
@@ -29,7 +29,7 @@ returns-then-has_bit g c =
     member =
         subst (λ (e : Effect). Member x e.pairs) c.main.view_is
         (subst (Member x) c.deref-pair-items.ensures.value
-        (got_member c.deref-pair-items.result.now c.loop-pair.pair-index x
+        (at_index c.deref-pair-items.result.now x c.loop-pair.pair-index
         (slice_get-get_or c.deref-pair-items.result.now c.loop-pair.pair-index (pair 0 (left 0 false)) c.loop-pair-test.true)))
 
     bit : bit_of x.b c.args.self.now.bad ≡ true
@@ -55,8 +55,9 @@ returns g c = (
       let (summary, is, found) = h in
       let (a, b, m, bit) = found in
       let same = same_Some summary c.in-Some.main.now (sym is ∙ main_is g (goal.at.returns g c).In-Some) in
-      let (q, there, below) = member_got c.deref-pair-items.result.now (pair a b)
+      let (q, there) = index_of c.deref-pair-items.result.now (pair a b)
       (subst (Member (pair a b)) (ap (λ (e : Effect). e.pairs) (same ∙ sym c.main.view_is) ∙
       sym c.deref-pair-items.ensures.value) m) in
+      let below = slice_get_within c.deref-pair-items.result.now q (pair a b) there in
       absurd (c.loop-pair.invariant q (pair a b) (omega (arith, below, c.loop-pair-test.false)) there bit),
 )

@@ -2,7 +2,7 @@ use Rattle.std.proofs.Common.{◌≡◌, Some, slice_get, inl, inr, refl, sym, s
 use Rattle.language.specs.Lists.{Member}
 use Rattle.summaries.specs.Found.{IsExpanded}
 use Rattle.summaries.proofs.FrontierLemmas.{ok_err}
-use Rattle.summaries.proofs.Keys.{found_is_in}
+use Rattle.path_sets.proofs.KeyLemmas.{found_is_in}
 use Rattle.summaries.proofs.ExpandedLemmas.{led_eq, same_led, all_led, led_now, remembered_step, inserted_or}
 use Rattle.summaries.proofs.StepLemmas.{still_holds, worked_off}
 use Rattle.summaries.proofs.PendingLemmas.{led_worked}

@@ -3,7 +3,7 @@ use Rattle.std.specs.List.{list_any}
 use Rattle.language.specs.Lists.{Member}
 use Rattle.language.proofs.Members.{member_right}
 use Rattle.path_sets.specs.Triples.{triple}
-use Rattle.summaries.proofs.Keys.{found_is_in}
+use Rattle.path_sets.proofs.KeyLemmas.{found_is_in}
 use Rattle.summaries.specs.declared.found.Found.{Found}
 use Rattle.summaries.specs.Found.{pair, pair_eq, mails_in, IsIndexed}
 use Rattle.summaries.specs.Grows.{AddsTo, OfSome, IsSummaryTold, triple_of}

@@ -1,5 +1,4 @@
-use Rattle.std.proofs.Common.{◌≡◌, ◌≤◌, length, nat_eq, Some, slice_get, sym, ap, ◌∙◌, subst, arith}
-use Rattle.std.proofs.lemmas.Result.{IfOk-weaker}
+use Rattle.std.proofs.Common.{◌≡◌, ◌≤◌, length, nat_eq, Some, slice_get, sym, ap, ◌∙◌, subst, arith, Result}
 use Rattle.language.specs.Lists.{Member}
 use Rattle.flow_graph.specs.Numbers.{GraphReaches}
 use Rattle.flow_graph.specs.Returns.{left_by}
@@ -7,12 +6,18 @@ use Rattle.flow_graph.specs.declared.flow.Flow.TheVariants.{Call}
 use Rattle.summaries.specs.Under.{under}
 use Rattle.summaries.specs.Found.{call_eq, pair, TookMessage, HasExit}
 use Rattle.summaries.specs.Grows.{triple_of}
+use Rattle.summaries.specs.declared.table.Table.{Table}
+use Rattle.summaries.specs.declared.table_fault.TableFault.{TableFault}
+use Rattle.summaries.specs.Tables.{IsLess, TookSame, Worked}
 use Rattle.summaries.proofs.FrontierLemmas.{ok_err}
+use Rattle.summaries.proofs.table.Table.work.Given.{Over}
+use Rattle.summaries.proofs.table.Table.work.Goals.{In_ok-record_exit}
 use Rattle.summaries.proofs.PendingLemmas.{beyond_worked, called_worked}
 use Rattle.summaries.proofs.StepLemmas.{worked_off, both_ok, all_reached, taken_as}
-use Rattle.summaries.proofs.WorkLemmas.{refused_worked, then_worked}
+use Rattle.summaries.proofs.WorkLemmas.{refused_worked, then_worked, still_less}
 use Rattle.summaries.proofs.table.Table.work.Goals as goal
 use Rattle.path_sets.specs.EdgeLimits.{most_of}
+use Rattle.std.specs.Result.{OnOk}
 
 pub returns-in_err-record_exit-clause-worked : goal.returns-in_err-record_exit-clause-worked
 returns-in_err-record_exit-clause-worked g c =
@@ -76,31 +81,29 @@ returns-in-Call-clause-worked g c =
     asked.holds c.record_call.ensures.asked)
     asked
 
+-- the rest of the work goes on from the exit that is recorded
+rest : (g : Over) (c : In_ok-record_exit g) (r : Result Unit TableFault) (new : Table _ _ _)
+    → Worked g.S.PathSet.members (λ t. ⊥) r c.record_exit.new.self new → TookSame c.record_exit.new.self.found new.found
+    → OnOk r (IsLess g.S.PathSet.members c.record_exit.new.self new)
+    → Worked g.S.PathSet.members (λ t. ⊥) r c.args.self.now new × TookSame c.args.self.now.found new.found
+    × OnOk r (IsLess g.S.PathSet.members c.args.self.now new)
+rest g c r new worked taken less =
+    let old = c.args.self.now in
+    let mid = c.record_exit.new.self in
+    let left = c.in_ok-record_exit.ensures in (
+      then_worked g.S.PathSet.members (λ t. ⊥) (λ t. ⊥) r old mid new left.stays left.fault left.answers worked.holds worked,
+      (taken.0 ∙ left.taken.0, taken.1 ∙ left.taken.1),
+      still_less g.S.PathSet.members r old mid new left.pending left.edges less,
+    )
+
 pub returns-in-Some : goal.returns-in-Some
 returns-in-Some g c =
-    let left = c.in_ok-record_exit.ensures in
-    let pending = ap (λ v. length v.items) left.pending in
-    let edges = ap (λ s. length (g.S.PathSet.members s)) left.edges in record {
-      worked =
-          then_worked g.S.PathSet.members (λ t. ⊥)
-          (λ t. ⊥) c.expand_once.result c.args.self.now c.record_exit.new.self c.expand_once.new.self
-          left.stays left.fault left.answers c.expand_once.ensures.worked.holds c.expand_once.ensures.worked;
-      taken = (c.expand_once.ensures.taken.0 ∙ left.taken.0, c.expand_once.ensures.taken.1 ∙ left.taken.1);
-      less = IfOk-weaker c.expand_once.result _ _
-          (λ _ less. let more = less.0 in let longer = less.1 in (omega (arith, pending, edges, more), omega (arith, edges, longer)))
-          c.expand_once.ensures.less;
-    }
+    let last = c.expand_once.ensures in
+    let all = rest g (goal.at.returns-in-Some g c).In_ok-record_exit _ _ last.worked last.taken last.less in
+    record { worked = all.0; taken = all.1; less = all.2 }
 
 pub returns-in-None : goal.returns-in-None
 returns-in-None g c =
-    let left = c.in_ok-record_exit.ensures in
-    let pending = ap (λ v. length v.items) left.pending in
-    let edges = ap (λ s. length (g.S.PathSet.members s)) left.edges in record {
-      worked =
-          then_worked g.S.PathSet.members (λ t. ⊥) (λ t. ⊥) c.expand.result c.args.self.now c.record_exit.new.self c.expand.new.self
-          left.stays left.fault left.answers c.expand.ensures.worked.holds c.expand.ensures.worked;
-      taken = (c.expand.ensures.taken.0 ∙ left.taken.0, c.expand.ensures.taken.1 ∙ left.taken.1);
-      less = IfOk-weaker c.expand.result _ _
-          (λ _ less. let more = less.0 in let longer = less.1 in (omega (arith, pending, edges, more), omega (arith, edges, longer)))
-          c.expand.ensures.less;
-    }
+    let last = c.expand.ensures in
+    let all = rest g (goal.at.returns-in-None g c).In_ok-record_exit _ _ last.worked last.taken last.less in
+    record { worked = all.0; taken = all.1; less = all.2 }

@@ -7,11 +7,11 @@ use Rattle.path_sets.specs.Edges.{edge_at, mask_edges}
 use Rattle.path_sets.specs.Inserts.{PutsIn}
 use Rattle.path_sets.specs.GatheredKeys.{mask_key_at, masks_of}
 use Rattle.path_sets.proofs.CoverLemmas.{covers_marked, puts_marked}
-use Rattle.path_sets.proofs.InsertionLemmas.{at_index}
 use Rattle.path_sets.proofs.GatheredKeyLemmas.{key_masks, keys_masks, marked_masks, same_gathered_key}
 use Rattle.path_sets.proofs.diagrams.batch.Batch.gather.Given as given
 use Rattle.path_sets.proofs.diagrams.batch.Batch.gather.Goals as goal
 use Rattle.path_sets.proofs.diagrams.batch.Batch.gather.Goals.{After-add_point_at}
+use Rattle.path_sets.proofs.PlaceLemmas.{at_index}
 
 pub find-requires : goal.find-requires
 find-requires g c = same_gathered_key
@@ -33,21 +33,15 @@ module _ (g : given.Over) (c : After-add_point_at g) where
 pub returns-in-Some-clause-ok : goal.returns-in-Some-clause-ok
 returns-in-Some-clause-ok g c =
     let i = (goal.at.returns-in-Some-clause-ok g c).After-add_point_at in
-    let m = c.args.merged.now in
-    let diagrams = keys m.roots in
-    puts_marked m.nodes.kept.keys m.roots.entries (mask_key g i) c.args.bit c.requires.small
-    (masks_of diagrams c.args.self.now.masks.entries) (masks_of diagrams c.add_point_at.new.masks.entries) c.requires.covers
-    (key_masks diagrams c.args.self.now.masks.entries c.args.key (there g i)) c.add_point_at.result (puts g i)
+    puts_marked _ _ (mask_key g i) c.args.bit c.requires.small _
+    (masks_of (keys c.args.merged.now.roots) c.add_point_at.new.masks.entries) c.requires.covers
+    (key_masks (keys c.args.merged.now.roots) c.args.self.now.masks.entries c.args.key (there g i)) c.add_point_at.result (puts g i)
 
 pub returns-in-Some-clause-covers : goal.returns-in-Some-clause-covers
 returns-in-Some-clause-covers g c =
     let i = (goal.at.returns-in-Some-clause-covers g c).After-add_point_at in
-    let m = c.args.merged.now in
-    let diagrams = keys m.roots in
-    covers_marked m.nodes.kept.keys m.roots.entries (mask_key g i) c.args.bit c.requires.small
-    (masks_of diagrams c.args.self.now.masks.entries) (masks_of diagrams c.add_point_at.new.masks.entries) c.requires.covers
-    c.add_point_at.result (puts g i)
-    (keys_masks diagrams c.args.self.now.masks.entries c.add_point_at.new.masks.entries c.add_point_at.ensures.keys)
+    covers_marked _ _ (mask_key g i) c.args.bit c.requires.small _ _ c.requires.covers c.add_point_at.result (puts g i)
+    (keys_masks (keys c.args.merged.now.roots) c.args.self.now.masks.entries c.add_point_at.new.masks.entries c.add_point_at.ensures.keys)
 
 pub returns-in-Some-clause-keys : goal.returns-in-Some-clause-keys
 returns-in-Some-clause-keys g c s m = inl (subst (Member s) c.add_point_at.ensures.keys m)

@@ -1,8 +1,9 @@
 use Rattle.std.proofs.Common.{refl}
 use Rattle.path_sets.specs.GatheredKeys.{gathered_key_eq}
-use Rattle.path_sets.proofs.InsertionLemmas.{at_index}
 use Rattle.path_sets.proofs.EdgesLemmas.{pair_at}
-use Rattle.path_sets.proofs.GatheredKeyLemmas.{not_found, gathered_key_self, same_gathered_key}
+use Rattle.path_sets.proofs.PlaceLemmas.{at_index}
+use Rattle.path_sets.proofs.KeyLemmas.{not_found}
+use Rattle.path_sets.proofs.GatheredKeyLemmas.{gathered_key_self, same_gathered_key}
 use Rattle.path_sets.proofs.diagrams.batch.Batch.mask.Goals as goal
 
 pub find-requires : goal.find-requires

@@ -1,21 +1,22 @@
-use Rattle.std.proofs.Common.{◌≡◌, ◌<◌, ◌+◌, ◌*◌, ◌++◌, ◌∷◌, [], ℕ, true, Some, slice_get}
+use Rattle.std.proofs.Common.{◌≡◌, ◌<◌, ◌+◌, ◌*◌, ◌++◌, ◌∷◌, [], ℕ, true, Some, slice_get, None, arith}
 use Rattle.std.proofs.Common.{ap, sym, ◌∙◌, subst}
-use Rattle.std.specs.Map.{keys_of}
+use Rattle.std.specs.Map.{keys_of, lookup}
 use Rattle.indexmap.specs.IndexMap.{keys}
 use Rattle.language.specs.Lists.{Member}
 use Rattle.path_sets.specs.declared.points.mask_key.MaskKey.{MaskKey}
 use Rattle.path_sets.specs.declared.diagrams.roots.DiagramKey.{DiagramKey}
 use Rattle.path_sets.specs.Diagrams.{merged_has}
-use Rattle.path_sets.specs.Edges.{edge_at}
+use Rattle.path_sets.specs.Edges.{edge_at, mask_key_eq}
 use Rattle.path_sets.specs.Masks.{bit_of, AddsPoint}
 use Rattle.path_sets.specs.GatheredKeys.{mask_key_at, masks_of}
 use Rattle.path_sets.specs.Triples.{triple}
 use Rattle.path_sets.proofs.CoverLemmas.{covers_begun, one_more_key, puts_begun}
-use Rattle.path_sets.proofs.GatheredKeyLemmas.{item_there, none_there, mask_key_is, push_masks}
-use Rattle.path_sets.proofs.RootLemmas.{diagram_within}
+use Rattle.path_sets.proofs.GatheredKeyLemmas.{none_there, mask_key_is, push_masks}
 use Rattle.path_sets.proofs.diagrams.batch.Batch.start_mask.Given as given
 use Rattle.path_sets.proofs.diagrams.batch.Batch.start_mask.Goals as goal
 use Rattle.path_sets.proofs.diagrams.batch.Batch.start_mask.Goals.{After-saturating_add}
+use Rattle.path_sets.proofs.PlaceLemmas.{item_there}
+use Rattle.std.proofs.lemmas.Map.Entries.{length-keys_of}
 
 module _ (g : given.Over) (c : After-saturating_add g) where
   abbrev mask_key : MaskKey
@@ -44,29 +45,23 @@ module _ (g : given.Over) (c : After-saturating_add g) where
       ap (masks_of (keys c.args.merged.now.roots)) c.in_ok-insert_new.ensures.ok
       ∙ push_masks (keys c.args.merged.now.roots) c.args.self.now.masks.entries ((c.args.key, c.add_point.new.mask) ∷ [])
 
+  -- the key has no mask among those that are gathered
+  none : lookup (mask_key_eq mask_key) (masks_of (keys c.args.merged.now.roots) c.args.self.now.masks.entries) ≡ None
+  none = none_there (keys c.args.merged.now.roots) c.args.merged.now.unique c.args.self.now.masks.entries c.args.key
+      c.requires.may.diagram c.requires.may.within c.requires.none
+
 pub points_at-mask-requires : goal.points_at-mask-requires
-points_at-mask-requires g c =
-    let m = c.args.merged.now in
-    let (r, at) = item_there (keys m.roots) c.args.key.diagram c.requires.may.diagram in
-    diagram_within m.roots.entries c.args.key.diagram r at
+points_at-mask-requires g c = omega (arith, c.requires.may.diagram, length-keys_of c.args.merged.now.roots.entries)
 
 pub returns-clause-ok : goal.returns-clause-ok
 returns-clause-ok g c =
-    let m = c.args.merged.now in
-    let old = c.args.self.now.masks.entries in
-    puts_begun m.nodes.kept.keys m.roots.entries (mask_key g c) c.args.bit c.requires.may.small (masks_of (keys m.roots) old) _
-    c.requires.may.covers c.points_at-mask.result c.add_point.new.mask
-    (none_there (keys m.roots) m.unique old c.args.key c.requires.may.diagram c.requires.may.within c.requires.none)
-    (knows g c) (marks g c) (made g c)
+    puts_begun _ _ (mask_key g c) c.args.bit c.requires.may.small _ _ c.requires.may.covers c.points_at-mask.result c.add_point.new.mask
+    (none g c) (knows g c) (marks g c) (made g c)
 
 pub returns-clause-covers : goal.returns-clause-covers
 returns-clause-covers g c =
-    let m = c.args.merged.now in
-    let old = c.args.self.now.masks.entries in
-    covers_begun m.nodes.kept.keys m.roots.entries (mask_key g c) c.args.bit c.requires.may.small (masks_of (keys m.roots) old) _
-    c.requires.may.covers c.points_at-mask.result c.add_point.new.mask
-    (none_there (keys m.roots) m.unique old c.args.key c.requires.may.diagram c.requires.may.within c.requires.none)
-    (knows g c) (marks g c) (made g c)
+    covers_begun _ _ (mask_key g c) c.args.bit c.requires.may.small _ _ c.requires.may.covers c.points_at-mask.result
+    c.add_point.new.mask (none g c) (knows g c) (marks g c) (made g c)
 
 pub returns-clause-keys : goal.returns-clause-keys
 returns-clause-keys g c s m =

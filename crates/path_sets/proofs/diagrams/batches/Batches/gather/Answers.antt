@@ -1,12 +1,12 @@
 use Rattle.std.proofs.Common.{◌≡◌, Some, slice_get, slice_set, refl, ◌∙◌, subst}
 use Rattle.std.proofs.lemmas.Option.{slice_get_read}
+use Rattle.std.proofs.lemmas.Result.{IfOk-weaker, on_err_weaker}
 use Rattle.indexmap.specs.IndexMap.{keys}
 use Rattle.path_sets.specs.Batches.{AllWithin, CoversEach, masks_in}
 use Rattle.path_sets.specs.Edges.{edge_at}
 use Rattle.path_sets.specs.Members.{Covers, PutsEdge}
 use Rattle.path_sets.specs.GatheredKeys.{AreWithin, mask_key_at, masks_of}
-use Rattle.path_sets.proofs.BatchLemmas.{covers_as, covers_put, home_put, on_err, puts_in, same_masks, gathered_is, within_as, within_put}
-use Rattle.path_sets.proofs.UnionLemmas.{of_ok}
+use Rattle.path_sets.proofs.BatchLemmas.{covers_as, covers_put, home_put, puts_in, same_masks, gathered_is, within_as, within_put}
 use Rattle.path_sets.proofs.diagrams.batches.Batches.gather.Given as given
 use Rattle.path_sets.proofs.diagrams.batches.Batches.gather.Goals as goal
 use Rattle.path_sets.proofs.diagrams.batches.Batches.gather.Goals.{After-index_mut}
@@ -68,8 +68,8 @@ returns-clause-ok g c =
     let b = c.index_mut.result.now in
     let w = c.gather.new.self in
     let new = masks_in diagrams (slice_set bs k w) in
-    of_ok (PutsEdge ns rs x (masks_of diagrams b.masks.entries) (masks_of diagrams w.masks.entries))
-    (PutsEdge ns rs x (masks_in diagrams c.args.self.now.batches.items) new) c.gather.result
+    IfOk-weaker c.gather.result (PutsEdge ns rs x (masks_of diagrams b.masks.entries) (masks_of diagrams w.masks.entries))
+    (PutsEdge ns rs x (masks_in diagrams c.args.self.now.batches.items) new)
     (λ added puts. subst (λ gs. PutsEdge ns rs x gs new added) (c.in_ok-at.ensures.keep.masks diagrams)
     (puts_in bs k b w (at g i) c.args.key c.gather.ensures.keys s.homes.items ns rs c.args.bit s.home c.in_ok-at.ensures.batch.0
     (within g i) m.unique c.requires.diagram c.requires.bit added puts)) c.gather.ensures.ok
@@ -78,7 +78,7 @@ pub returns-clause-err : goal.returns-clause-err
 returns-clause-err g c =
     let i = (goal.at.returns-clause-err g c).After-index_mut in
     let diagrams = keys c.args.merged.now.roots in
-    on_err c.gather.result
+    on_err_weaker c.gather.result
     (λ same. same_masks diagrams c.batch_of.new.self.batches.items c.in_ok-at.at c.index_mut.result.now c.gather.new.self (at g i) same
     ∙ c.in_ok-at.ensures.keep.masks diagrams) c.gather.ensures.err
 

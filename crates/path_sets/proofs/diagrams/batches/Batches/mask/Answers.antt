@@ -1,9 +1,9 @@
 use Rattle.std.proofs.Common.{refl, sym, ap, ◌∙◌, subst}
 use Rattle.std.specs.Map.{keys_of}
-use Rattle.std.proofs.lemmas.Option.{same_Some, slice_get_read}
+use Rattle.std.proofs.lemmas.Option.{same_Some, slice_get_read, IfSome_then}
 use Rattle.language.specs.Lists.{Member}
 use Rattle.path_sets.specs.Batches.{gathered_at}
-use Rattle.path_sets.proofs.BatchLemmas.{if_some, gathered_is}
+use Rattle.path_sets.proofs.BatchLemmas.{gathered_is}
 use Rattle.path_sets.proofs.diagrams.batches.Batches.mask.Goals as goal
 
 pub returns-in-Some-clause-some : goal.returns-in-Some-clause-some
@@ -11,8 +11,8 @@ returns-in-Some-clause-some g c =
     let bs = c.args.self.now.batches.items in
     let i = c.in-Some.at in
     let at = slice_get_read bs _ i c.index.result.now refl c.in-Some.ensures.some.1 c.index.ensures in
-    if_some _ _ c.mask.result
-    (λ m own. (i, subst (Member (c.args.key.now, m)) (sym (gathered_is bs i c.index.result.now at)) own)) c.mask.ensures.some
+    IfSome_then c.mask.result c.mask.ensures.some
+    (λ m own. (i, subst (Member (c.args.key.now, m)) (sym (gathered_is bs i c.index.result.now at)) own))
 
 pub returns-in-Some-clause-none : goal.returns-in-Some-clause-none
 returns-in-Some-clause-none g c none j key =

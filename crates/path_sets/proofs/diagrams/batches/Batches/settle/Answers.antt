@@ -1,6 +1,7 @@
 use Rattle.std.proofs.Common.{refl}
-use Rattle.path_sets.proofs.BatchLemmas.{home_as, home_moved, set_there}
+use Rattle.path_sets.proofs.BatchLemmas.{home_as, home_moved}
 use Rattle.path_sets.proofs.diagrams.batches.Batches.settle.Goals as goal
+use Rattle.path_sets.proofs.PlaceLemmas.{set_there}
 
 pub invariant_of-self : goal.invariant_of-self
 invariant_of-self g c =

@@ -20,6 +20,10 @@ use Rattle.path_sets.proofs.diagrams.diagram_edges.DiagramEdgesPathSet.contains.
 use Rattle.path_sets.proofs.diagrams.diagram_edges.DiagramEdgesPathSet.contains.Goals as goal
 use Rattle.path_sets.proofs.diagrams.diagram_edges.DiagramEdgesPathSet.contains.Goals.{After-diagram_of, In-Some}
 
+-- each path edge that is asked for is one of words
+fits : (g : given.Over) (c : After-diagram_of g) → Fits (triple c.args.entry c.args.point c.args.values)
+fits g c = record { entry = omega arith; point = omega arith; values = omega arith }
+
 -- the diagram is that of the path edge
 diagram_is : (g : given.Over) (c : After-diagram_of g) → c.diagram_of.result ≡ diagram_at (triple c.args.entry c.args.point c.args.values)
 diagram_is g c =
@@ -64,17 +68,15 @@ returns-in-Some-mask g c =
     let s = c.args.self.now in
     let ns = s.merged.nodes.kept.keys in
     let rs = s.merged.roots.entries in
-    let bs = s.gathered.batches.items in
-    let gs = masks_in (keys s.merged.roots) bs in
-    let x = triple c.args.entry c.args.point c.args.values in
-    let fits : Fits x = record { entry = omega arith; point = omega arith; values = omega arith } in
+    let gs = masks_in (keys s.merged.roots) s.gathered.batches.items in
+    let at = goal.at.returns-in-Some-mask g c in
     let key : GatheredKey = record { diagram = c.in-Some.diagram; values = c.key_and_bit-mask_key.result.0.values } in
     let (k, own) = c.in-Some-mask.ensures.some in
-    let edge = edge_is g (goal.at.returns-in-Some-mask g c).In-Some in
-    let known = mask_is s.gathered.homes.items ns rs bs s.gathered.home s.fit.within s.merged.unique s.fit.covers k key c.in-Some-mask.mask
+    let edge = edge_is g at.In-Some in
+    let known = mask_is s.gathered.homes.items ns rs _ s.gathered.home s.fit.within s.merged.unique s.fit.covers k key c.in-Some-mask.mask
     c.key_and_bit-mask_key.result.1 own c.key_and_bit-mask_key.ensures.bit in (
-      λ h. is_member ns rs gs x fits (subst (IsEdgeThere ns rs gs) edge (known.0 (sym c.has_point.ensures ∙ h))),
-      λ there. c.has_point.ensures ∙ known.1 (subst (IsEdgeThere ns rs gs) (sym edge) (member_is ns rs gs x there)),
+      λ h. is_member ns rs gs _ (fits g at.After-diagram_of) (subst (IsEdgeThere ns rs gs) edge (known.0 (sym c.has_point.ensures ∙ h))),
+      λ there. c.has_point.ensures ∙ known.1 (subst (IsEdgeThere ns rs gs) (sym edge) (member_is ns rs gs _ there)),
     )
 
 pub returns-in-None : goal.returns-in-None
@@ -82,25 +84,24 @@ returns-in-None g c =
     let s = c.args.self.now in
     let ns = s.merged.nodes.kept.keys in
     let rs = s.merged.roots.entries in
-    let bs = s.gathered.batches.items in
-    let gs = masks_in (keys s.merged.roots) bs in
+    let gs = masks_in (keys s.merged.roots) s.gathered.batches.items in
     let x = triple c.args.entry c.args.point c.args.values in
-    let fits : Fits x = record { entry = omega arith; point = omega arith; values = omega arith } in
+    let at = goal.at.returns-in-None g c in
     let p = c.key_and_bit-mask_key.result.0 in
     let b = c.key_and_bit-mask_key.result.1 in
     let small = c.key_and_bit-mask_key.ensures.bit in
     let key : GatheredKey = record { diagram = c.in-Some.diagram; values = p.values } in
-    let edge = edge_is g (goal.at.returns-in-None g c).In-Some in
+    let edge = edge_is g at.In-Some in
     let values = ap (λ (t : Triple). t.values) c.key_and_bit-mask_key.ensures.edge in
     let same = c.has_point-in-None.ensures ∙ c.points_at.ensures c.diagram_of.result b c.in-Some.ensures.here small
     ∙ ap (λ (r : DiagramKey). merged_has ns rs (triple r.entry (64 * r.block + b) c.args.values)) c.diagram_of.ensures
     ∙ ap (λ v. merged_has ns rs (triple p.entry (64 * p.block + b) v)) (sym values)
     ∙ ap (merged_has ns rs) c.key_and_bit-mask_key.ensures.edge in (
-      λ h. is_member ns rs gs x fits (inl (sym same ∙ h)),
+      λ h. is_member ns rs gs x (fits g at.After-diagram_of) (inl (sym same ∙ h)),
       λ there. elim (member_is ns rs gs x there) [
         | inl merged ↦ same ∙ merged
         | inr gathered ↦
-            absurd (not_gathered s.gathered.homes.items ns rs bs s.gathered.home s.fit.within s.merged.unique s.fit.covers key b
+            absurd (not_gathered s.gathered.homes.items ns rs _ s.gathered.home s.fit.within s.merged.unique s.fit.covers key b
             small (slice_get_within (keys s.merged.roots) c.in-Some.diagram c.diagram_of.result c.in-Some.ensures.here)
             (c.in-None.ensures.none refl)
             (subst (λ t. Member t (mask_edges gs)) (sym edge) gathered))

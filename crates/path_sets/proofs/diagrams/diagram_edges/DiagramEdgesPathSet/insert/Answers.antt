@@ -86,6 +86,11 @@ returns-then-added-clause-members g c =
     let i = (goal.at.returns-then-added-clause-members g c).In_ok-added in
     members_put _ _ (x g i) _ (old g i) (new g i) _ (fits g i) (edge g i) (here g i) (puts g i true c.if-added.true)
 
+pub returns-else-added-clause-members : goal.returns-else-added-clause-members
+returns-else-added-clause-members g c =
+    let i = (goal.at.returns-else-added-clause-members g c).In_ok-added in
+    members_kept _ _ (x g i) _ (old g i) (new g i) _ (fits g i) (edge g i) (here g i) (puts g i false c.if-added.false)
+
 -- whether it was there, as the result says
 is_new : (g : given.Over) (c : In_ok-added g)
     → let s = c.args.self.now in
@@ -104,23 +109,16 @@ returns-then-added-clause-new g c = is_new g (goal.at.returns-then-added-clause-
 pub returns-else-added-clause-new : goal.returns-else-added-clause-new
 returns-else-added-clause-new g c = is_new g (goal.at.returns-else-added-clause-new g c).In_ok-added
 
-pub returns-else-added-clause-members : goal.returns-else-added-clause-members
-returns-else-added-clause-members g c =
-    let i = (goal.at.returns-else-added-clause-members g c).In_ok-added in
-    members_kept _ _ (x g i) _ (old g i) (new g i) _ (fits g i) (edge g i) (here g i) (puts g i false c.if-added.false)
-
 pub returns-then-added-clause-len : goal.returns-then-added-clause-len
 returns-then-added-clause-len g c =
     let i = (goal.at.returns-then-added-clause-len g c).In_ok-added in
-    one_more_if _ (all_edges c.settle.new.self.merged.nodes.kept.keys c.settle.new.self.merged.roots.entries (new g i))
-    c.in_ok-added.added c.if-added.true
+    one_more_if _ _ c.in_ok-added.added c.if-added.true
     (longer _ _ (x g i) _ (old g i) (new g i) _ (fits g i) (edge g i) (here g i) (puts g i true c.if-added.true))
 
 pub returns-else-added-clause-len : goal.returns-else-added-clause-len
 returns-else-added-clause-len g c =
     let i = (goal.at.returns-else-added-clause-len g c).In_ok-added in
-    none_more_if _ (all_edges c.settle.new.self.merged.nodes.kept.keys c.settle.new.self.merged.roots.entries (new g i))
-    c.in_ok-added.added c.if-added.false
+    none_more_if _ _ c.in_ok-added.added c.if-added.false
     (members_same _ _ (x g i) _ (old g i) (new g i) _ (fits g i) (edge g i) (here g i) (puts g i false c.if-added.false))
 
 pub gather-requires-clause-bit : goal.gather-requires-clause-bit

@@ -1,7 +1,7 @@
-use Rattle.std.proofs.Common.{◌∙◌, arith, sym, true≢false}
+use Rattle.std.proofs.Common.{◌∙◌, arith, sym, true≢false, ap}
 use Rattle.std.proofs.lemmas.Option.{slice_get_within}
 use Rattle.path_sets.specs.Quads.{nothing}
-use Rattle.path_sets.proofs.StoreLemmas.{quad_self, same_quad}
+use Rattle.path_sets.proofs.StoreLemmas.{quad_self, same_quad, quad_eq}
 use Rattle.path_sets.proofs.GrowthLemmas.{still_once}
 use Rattle.path_sets.proofs.QuadLemmas.{is_nothing, quads_down, quads_reduced, quads_keep, quad_sees}
 use Rattle.path_sets.proofs.diagrams.quads.Quads.make.Goals as goal
@@ -16,7 +16,7 @@ invariant_of-self g c =
       down = quads_down ns s.down x c.requires new c.index_of.ensures.grown;
       reduced =
           quads_reduced ns x
-          (λ is. true≢false (sym (quad_self x nothing is) ∙ sym c.eq.ensures ∙ c.if-eq.false)) s.reduced new c.index_of.ensures.grown;
+          (λ is. true≢false (sym (quad_self x) ∙ ap (quad_eq x) is ∙ sym c.eq.ensures ∙ c.if-eq.false)) s.reduced new c.index_of.ensures.grown;
       once = still_once x ns s.once new c.index_of.ensures.grown;
     }
 

@@ -2,7 +2,7 @@
 use Rattle.std.proofs.Common.{◌<◌}
 use Rattle.switchboard.specs.Books.{TakeAnswers}
 use Rattle.switchboard.proofs.Inside.{inside, to_lane, to_call, taking, takes_on, shows_taken}
-use Rattle.switchboard.proofs.Visits.{may_leave, visit_is}
+use Rattle.switchboard.proofs.Visits.{may_leave}
 use Rattle.switchboard.proofs.one_lock.board.OneLockBoard.take.Goals as goal
 
 pub take-answer-requires : goal.take-answer-requires
@@ -12,24 +12,17 @@ take-answer-requires g c =
 
 pub leave-requires-clause-value : goal.leave-requires-clause-value
 leave-requires-clause-value g c =
-    let F = g.M.Mail.fits in
     let y = c.take-answer.new.self in
-    let h = inside F c.pass.invariant c.in-Ok.ensures c.pass.view_is c.number-number.ensures c.value.ensures.value in
-    let is = to_lane F h (λ n x. TakeAnswers n c.take-answer.result x y) c.take-answer.ensures in
-    may_leave F c.in-Ok.guard c.pass.inside.lane c.enter.new.lane y c.in-Ok.ensures (taking F h c.take-answer.result is)
+    let h = inside g.M.Mail.fits c.pass.invariant c.in-Ok.ensures c.pass.view_is c.number-number.ensures c.value.ensures.value in
+    let is = to_lane _ h (λ n x. TakeAnswers n c.take-answer.result x y) c.take-answer.ensures in
+    may_leave _ c.in-Ok.guard c.pass.inside.lane c.enter.new.lane y c.in-Ok.ensures (taking _ h c.take-answer.result is)
 
 pub invariant_of-pass : goal.invariant_of-pass
 invariant_of-pass g c =
-    let F = g.M.Mail.fits in
-    let h = inside F c.pass.invariant c.in-Ok.ensures c.pass.view_is c.number-number.ensures c.value.ensures.value in
-    let v = visit_is F c.in-Ok.guard c.pass.inside.lane c.enter.new.lane c.leave.new.lane c.take-answer.new.self
-    c.in-Ok.ensures c.leave.ensures in
-    takes_on F h v c.take-answer.result c.take-answer.ensures c.calls.ensures c.if-calls-eq0.false
+    let h = inside g.M.Mail.fits c.pass.invariant c.in-Ok.ensures c.pass.view_is c.number-number.ensures c.value.ensures.value in
+    takes_on _ h c.leave.ensures c.take-answer.result c.take-answer.ensures c.calls.ensures c.if-calls-eq0.false
 
 pub returns : goal.returns
 returns g c =
-    let F = g.M.Mail.fits in
-    let h = inside F c.pass.invariant c.in-Ok.ensures c.pass.view_is c.number-number.ensures c.value.ensures.value in
-    let v = visit_is F c.in-Ok.guard c.pass.inside.lane c.enter.new.lane c.leave.new.lane c.take-answer.new.self
-    c.in-Ok.ensures c.leave.ensures in
-    shows_taken F h v c.take-answer.result c.take-answer.ensures c.calls.ensures c.if-calls-eq0.false
+    let h = inside g.M.Mail.fits c.pass.invariant c.in-Ok.ensures c.pass.view_is c.number-number.ensures c.value.ensures.value in
+    shows_taken _ h c.leave.ensures c.take-answer.result c.take-answer.ensures c.calls.ensures c.if-calls-eq0.false
