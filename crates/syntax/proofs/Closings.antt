@@ -86,35 +86,3 @@ pub none_shorter : {X A : Type 0} (read r : Result (Vec X A × Bor (List Token))
 none_shorter (Ok p) r k us ts less ok c = shorter_behind r us ts less (rw ok.1 at c.1)
 none_shorter (Err e) (Ok q) k us ts less ok c = absurd c
 none_shorter (Err e) (Err f) k us ts less ok c = tt
-
--- what continues after a closing token
-pub behind_closing : {X Y : Type 0} (p : Parser X) (k : Kind) (f : X → Parser Y) (ts : List Tok)
-    → (p >>= λ x. take k >>= λ _. f x) ts ≡ ((p >>= λ x. closing k x) >>= f) ts
-behind_closing {X} {Y} p k f ts = by_option (p ts)
-  where
-    by_token : (x : X) (o : Option (Tok × List Tok)) → option_and_then (λ (q : Tok × List Tok). f x q.1) o
-        ≡ option_and_then (λ (q : X × List Tok). f q.0 q.1) (option_and_then (λ (q : Tok × List Tok). Some (x, q.1)) o)
-    by_token x None = refl
-    by_token x (Some q) = refl
-
-    by_option : (o : Option (X × List Tok)) → option_and_then (λ (q : X × List Tok). (take k >>= λ _. f q.0) q.1) o
-        ≡ option_and_then (λ (q : X × List Tok). f q.0 q.1)
-        (option_and_then (λ (q : X × List Tok). closing k q.0 q.1) o)
-    by_option None = refl
-    by_option (Some q) = by_token q.0 (take k q.1)
-
--- an assignment is two lists, each with its token after it
-abbrev pub sides_behind : List Name → Parser Deed
-sides_behind xs = listed right kind.Semicolon >>= λ rs. give (simple (assign xs rs))
-
-pub assignment_is : (ts : List Tok) {xs : List Name} {us : List Tok} → listed name kind.Assign ts ≡ Some (xs, us)
-    → assignment ts ≡ sides_behind xs us
-unfolding assignment
-assignment_is ts {xs} {us} e =
-    behind_closing name_list kind.Assign (λ xs. rights >>= λ rs. semicolon_after (simple (assign xs rs))) ts
-    ∙ rw e (behind_closing rights kind.Semicolon (λ rs. give (simple (assign xs rs))) us)
-
-pub assignment_refused : (ts : List Tok) → listed name kind.Assign ts ≡ None → assignment ts ≡ None
-unfolding assignment
-assignment_refused ts e =
-    behind_closing name_list kind.Assign (λ xs. rights >>= λ rs. semicolon_after (simple (assign xs rs))) ts ∙ rw e refl

@@ -9,9 +9,7 @@ pub fails_on : {Y Z : Type 0} (e : ReadFault) (given : Option Y) (other : Option
     → RefusesTokens e given → RefusesTokens e other
 fails_on (fault.Syntax at) given other h f = h f
 fails_on fault.Memory given other h f = tt
-fails_on fault.TooLong given other h f = absurd f
-fails_on fault.NotAscii given other h f = absurd f
-fails_on fault.TooDeep given other h f = absurd f
+fails_on _ given other h f = absurd f
 
 pub refused : {X Y Z : Type 0} (view : X → Z) (r : Result X ReadFault) (e : ReadFault) (given : Option Y)
     (other : Option Z) → IsErrAnd r (λ y. y ≡ e) → (given ≡ None → other ≡ None) → RefusesTokens e given

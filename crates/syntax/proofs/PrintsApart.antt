@@ -61,18 +61,11 @@ free_as_name k h (line ∷ more) apart = tt
 -- After ! comes an operand, which begins with no =.
 not_free : (e : Expression Name) (more : List Part) → IsApart kind.Not (operand_parts e ++ more)
 not_free (const false) more = refl
-not_free (const true) more = refl
-not_free (var x) more = refl
-not_free (negation e) more = refl
-not_free (two o a b) more = refl
+not_free _ more = refl
 
 operator_spelled : (o : Operator) → IsSpelled (kind_of o) (spelling (kind_of o))
 operator_spelled implies = inr refl
-operator_spelled or = inr refl
-operator_spelled xor = inr refl
-operator_spelled and = inr refl
-operator_spelled equal = inr refl
-operator_spelled differs = inr refl
+operator_spelled _ = inr refl
 
 -- What follows a closing parenthesis, a semicolon, a space and a line feed may be anything that stands apart.
 closed : (more : List Part) → AreApart more → Tail (fixed kind.Close ∷ more)

@@ -33,11 +33,7 @@ zero_le n = omega arith
 
 operator_shown : (o : Operator) → operator_at (kind_of o) ≡ Some o
 operator_shown implies = refl
-operator_shown or = refl
-operator_shown xor = refl
-operator_shown and = refl
-operator_shown equal = refl
-operator_shown differs = refl
+operator_shown _ = refl
 
 -- An operation without parentheses, if its operands are read at every level.
 operation_shows : (o : Operator) (a b : Expression Name) → ((l : ℕ) → Shows (Reads l) unplaced_expression (operand_parts a) a)

@@ -111,16 +111,8 @@ simple_shows (call_for x p es) ok at more =
 
 simple_begun : (s : Simple Name Name Name) → SimpleInGrammar s → (more : List Part)
     → (k : Kind) × (w : List ℕ) × (others : List Part) × (simple_parts s ++ more ≡ shown k w ∷ others)
-simple_begun skip ok more = (_, _, _, refl)
-simple_begun leave ok more = (_, _, _, refl)
-simple_begun (leave_with e) ok more = (_, _, _, refl)
-simple_begun (goto l) ok more = (_, _, _, refl)
-simple_begun (assert r) ok more = (_, _, _, refl)
-simple_begun (assume r) ok more = (_, _, _, refl)
 simple_begun (assign [] rs) ok more = absurd (omega arith)
-simple_begun (assign (x ∷ xs) rs) ok more = (_, _, _, refl)
-simple_begun (call p es) ok more = (_, _, _, refl)
-simple_begun (call_for x p es) ok more = (_, _, _, refl)
+simple_begun _ ok more = (_, _, _, refl)
 
 mark_shows : (label : Option Name) (placed : ℕ) (k : Kind) (w : List ℕ) (others more : List Part) → more ≡ shown k w ∷ others → (at : ℕ)
     → Read IsMarked unplaced_mark (record { label = label; at = placed }) (tokens_of at (label_parts label ++ more)) more
@@ -194,15 +186,11 @@ test_shows first r last at more =
 -- There is a statement in a block, whatever its offsets.
 to_bare : (x : Block Name Name Name) → IsSome x → IsSome (unplaced_block x)
 to_bare done some = some
-to_bare (one m s k) some = tt
-to_bare (choose m r a b k) some = tt
-to_bare (loop m r a k) some = tt
+to_bare _ some = tt
 
 from_bare : (x : Block Name Name Name) → IsSome (unplaced_block x) → IsSome x
 from_bare done some = some
-from_bare (one m s k) some = tt
-from_bare (choose m r a b k) some = tt
-from_bare (loop m r a k) some = tt
+from_bare _ some = tt
 
 pub some_too : (x y : Block Name Name Name) → unplaced_block x ≡ unplaced_block y → IsSome y → IsSome x
 some_too x y e some = from_bare x (subst IsSome (sym e) (to_bare y some))

@@ -3,6 +3,9 @@
 ghost use Rattle.std.specs.Prelude.{◌≡◌, ◌≤◌, length, IfOk, option_map};
 ghost use Rattle.syntax.specs.Gives.{Parses, Shorter};
 ghost use Rattle.syntax.specs.Exact.{
+  closed,
+  name,
+  condition,
   marked,
   assignment,
   calling,
@@ -21,7 +24,7 @@ ghost use Rattle.syntax.specs.Exact.{
   if_deed,
   while_deed,
 };
-ghost use Rattle.trees.specs.Trees.{name_of, deed_of, item_of, block_of};
+ghost use Rattle.trees.specs.Trees.{name_of, rhs_of, deed_of, item_of, block_of};
 ghost use Rattle.tokens.specs.Token.{toks_of};
 
 use crate::element::Element;
@@ -29,7 +32,7 @@ use crate::fault::ReadFault;
 use crate::reader::{Read, Reader, begins, put};
 use std::alloc::Allocator;
 use tokens::{Kind, Token};
-use trees::{Core, Name, Stmt};
+use trees::{Core, Name, Rhs, Stmt};
 
 /// Whether a statement comes next.
 #[tactic(auto, unfolding(tokens::specs::Token::same_kind))]
@@ -100,6 +103,22 @@ impl<'a, A: Allocator + Clone> Reader<'a, A> {
         self.closed(Ok((core, tokens)), Kind::Semicolon)
     }
 
+    /// Reads a name, and a token of this kind after it.
+    pub fn name_before<'t>(&self, kind: Kind, tokens: &'t [Token<'t>]) -> Read<'t, Name<A>>
+        ensures gives { Parses name_of result (closed kind name) tokens.now }
+        ensures shorter { Shorter result tokens.now }
+    {
+        self.closed(Name::read(self, tokens), kind)
+    }
+
+    /// Reads a right side in parentheses, and a token of this kind after it.
+    fn test_before<'t>(&self, kind: Kind, tokens: &'t [Token<'t>]) -> Read<'t, Rhs<A>>
+        ensures gives { Parses rhs_of result (closed kind condition) tokens.now }
+        ensures shorter { Shorter result tokens.now }
+    {
+        self.closed(self.test(tokens), kind)
+    }
+
     /// Reads an assignment.
     #[tactic(auto, unfolding(crate::specs::Exact::assignment))]
     fn assignment<'t>(&self, tokens: &'t [Token<'t>]) -> Read<'t, Core<A>>
@@ -128,7 +147,7 @@ impl<'a, A: Allocator + Clone> Reader<'a, A> {
         ensures gives { Parses deed_of result asking tokens.now }
         ensures shorter { Shorter result tokens.now }
     {
-        let (target, behind) = self.closed(Name::read(self, tokens), Kind::Assign)?;
+        let (target, behind) = self.name_before(Kind::Assign, tokens)?;
         let (name, opened) = Name::read(self, behind)?;
         let (arguments, rest) = self.enclosed(opened)?;
         self.ended(Core::CallTo(target, name, arguments), rest)
@@ -188,6 +207,19 @@ impl<'a, A: Allocator + Clone> Reader<'a, A> {
         Ok((list, rest))
     }
 
+    /// Reads statements, and a token of this kind after them.
+    #[cycle(statements)]
+    pub fn statements_before<'t>(
+        &self,
+        kind: Kind,
+        tokens: &'t [Token<'t>],
+    ) -> Read<'t, Vec<Stmt<A>, A>>
+        ensures gives { Parses (λ v. block_of v.items) result (closed kind section) tokens.now }
+        ensures shorter { Shorter result tokens.now }
+    {
+        self.closed(self.statements(tokens), kind)
+    }
+
     /// Reads a statement.
     #[cycle(statements)]
     #[tactic(auto, unfolding(crate::specs::Exact::item, crate::specs::Exact::deed))]
@@ -233,9 +265,9 @@ impl<'a, A: Allocator + Clone> Reader<'a, A> {
         ensures gives { Parses deed_of result if_deed tokens.now }
         ensures shorter { Shorter result tokens.now }
     {
-        let (side, opened) = self.closed(self.test(tokens), Kind::Then)?;
-        let (yes, between) = self.closed(self.statements(opened), Kind::Else)?;
-        let (no, rest) = self.closed(self.statements(between), Kind::Fi)?;
+        let (side, opened) = self.test_before(Kind::Then, tokens)?;
+        let (yes, between) = self.statements_before(Kind::Else, opened)?;
+        let (no, rest) = self.statements_before(Kind::Fi, between)?;
         Ok((Core::If(side, yes, no), rest))
     }
 
@@ -246,8 +278,8 @@ impl<'a, A: Allocator + Clone> Reader<'a, A> {
         ensures gives { Parses deed_of result while_deed tokens.now }
         ensures shorter { Shorter result tokens.now }
     {
-        let (side, opened) = self.closed(self.test(tokens), Kind::Do)?;
-        let (body, rest) = self.closed(self.statements(opened), Kind::Od)?;
+        let (side, opened) = self.test_before(Kind::Do, tokens)?;
+        let (body, rest) = self.statements_before(Kind::Od, opened)?;
         Ok((Core::While(side, body), rest))
     }
 }

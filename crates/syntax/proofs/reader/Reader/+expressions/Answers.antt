@@ -1,4 +1,4 @@
-use Rattle.std.proofs.Common.{rules, arith, ◌≡◌, ◌+◌, ◌*◌, ◌<◌, ℕ, length, true, false, refl, List, ◌∷◌, ◌∙◌, sym, ap, Some}
+use Rattle.std.proofs.Common.{rules, arith, ◌≡◌, ◌+◌, ◌*◌, ◌<◌, ℕ, length, true, false, refl, List, ◌∷◌, ◌∙◌, sym, ap, Some, None}
 use Rattle.language.specs.Tree.{Name, Expression, two}
 use Rattle.grammar.specs.Grammar.{right_level}
 use Rattle.syntax.specs.Exact.{reading, from, after, operand}
@@ -8,8 +8,9 @@ use Rattle.tokens.specs.Token.{tok_of, toks_of, same_kind}
 use Rattle.tokens.specs.declared.vocabulary.Kind.TheVariants as kind
 use Rattle.syntax.proofs.Closings.{closed_read, closed_shorter, less_still, shorter_after_one}
 use Rattle.syntax.proofs.Exits.{refused, short_of_memory}
-use Rattle.syntax.proofs.Expressions.{operand_begins, no_operand_left, no_operand_begins, starts, no_start, goes_on, no_right}
-use Rattle.syntax.proofs.Expressions.{ends_before, ends_empty}
+use Rattle.syntax.proofs.Expressions.{operand_begins, no_operand_begins, starts, no_start, goes_on, no_right}
+use Rattle.syntax.proofs.Expressions.{ends_before, stops_at_end}
+use Rattle.syntax.proofs.ChainLemmas.{at_end}
 use Rattle.trees.proofs.Folds.{expr_of-Const, expr_of-Var, expr_of-Not, expr_of-Two}
 use Rattle.syntax.proofs.reader.Reader.+expressions.Goals as goal
 use Rattle.syntax.proofs.reader.Reader.+expressions.Goals.{expression-in-Some+in_default-operator_of_kind, expression-in_default}
@@ -69,7 +70,10 @@ expression-returns-clause-gives g t c =
           ends_before c.args.least
           (expr_of c.loop-first.tree) c.loop-first.rest.now w.in-Some.others.now w.in-Some.first.now w.in-Some.ensures.cases.0
           (sym w.in_default-operator_of_kind.ensures)
-      | expression-in_default w ↦ ends_empty c.args.least (expr_of c.loop-first.tree) c.loop-first.rest.now w.in_default.ensures.cases
+      | expression-in_default w ↦
+          at_end (reading (after c.args.least (expr_of c.loop-first.tree))) (λ ts. Some (expr_of c.loop-first.tree, ts))
+          (stops_at_end c.args.least (expr_of c.loop-first.tree))
+          c.loop-first.rest.now w.in_default.ensures.cases
     ]
 
 pub operand-returns-in-Zero-clause-gives : goal.operand-returns-in-Zero-clause-gives
@@ -149,7 +153,8 @@ pub expression-returns-clause-shorter : goal.expression-returns-clause-shorter
 expression-returns-clause-shorter g t c = c.loop-first.invariant.shorter
 
 pub operand-returns-in_default-clause-gives : goal.operand-returns-in_default-clause-gives
-operand-returns-in_default-clause-gives g t c = no_operand_left c.args.tokens.now c.in_default.ensures.cases
+unfolding operand
+operand-returns-in_default-clause-gives g t c = at_end operand (λ ts. None) refl c.args.tokens.now c.in_default.ensures.cases
 
 pub operand-returns-in_default-clause-shorter : goal.operand-returns-in_default-clause-shorter
 operand-returns-in_default-clause-shorter g t c = tt

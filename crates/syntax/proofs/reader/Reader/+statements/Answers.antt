@@ -1,32 +1,34 @@
-use Rattle.std.proofs.Common.{rules, arith, ◌≡◌, ◌+◌, ◌*◌, ◌<◌, ◌≤◌, ℕ, length, List, [], ◌∷◌, ◌∙◌, ap, sym, Some, refl}
+use Rattle.std.proofs.Common.{rules, arith, ◌≡◌, ◌+◌, ◌*◌, ◌<◌, ◌≤◌, ℕ, length, List, [], ◌∷◌, ◌∙◌, ap, sym, Some, None, refl}
 use Rattle.tokens.specs.declared.vocabulary.Kind.TheVariants as kind
 use Rattle.tokens.specs.Token.{toks_of, same_kind}
-use Rattle.syntax.specs.Exact.{marked, deed, item, condition, section, going_on, put_before, if_deed, while_deed}
-use Rattle.trees.specs.Trees.{Item, item_of, items_of, rhs_of, block_of}
+use Rattle.syntax.specs.Exact.{closed, marked, deed, item, condition, section, going_on, put_before, if_deed, while_deed}
+use Rattle.trees.specs.Trees.{Item, item_of, items_of, block_of}
 use Rattle.syntax.proofs.Exits.{refused, short_of_memory}
 use Rattle.syntax.proofs.Closings.{closed_read, closed_shorter, less_still, no_more, refused_shorter}
 use Rattle.trees.proofs.Folds.{item_is, deed_of-Skip, deed_of-Return, deed_of-If, deed_of-While}
 use Rattle.syntax.proofs.Goings.{sections_start, sections_no_start, sections_go_on, sections_refused, item_no_mark, item_no_deed}
-use Rattle.syntax.proofs.Goings.{item_whole, deed_leaves, deed_gives, deed_calls, deed_asks, deed_assigns, test_before, section_before}
-use Rattle.syntax.proofs.Goings.{no_deed_left, no_deed_begins}
-use Rattle.syntax.proofs.Goings.{if_refused, if_no_yes, if_no_no, if_whole, while_refused, while_no_body, while_whole, deed_begins}
+use Rattle.syntax.proofs.Goings.{item_whole, deed_leaves, deed_gives, deed_calls, deed_asks, deed_assigns, deed_begins, no_deed_begins}
+use Rattle.syntax.proofs.ChainLemmas.{at_end}
 use Rattle.syntax.proofs.Loops.{pushed}
 use Rattle.syntax.proofs.reader.Reader.+statements.Goals as goal
 
 -- The measures of calls: fewer tokens, or as many and a function further down.
-behind_less : {a b : ℕ} → a < b → 4 * a + 4 < 4 * b + 1
+behind_less : {a b : ℕ} → a < b → 5 * a + 5 < 5 * b + 1
 behind_less less = omega (arith, less)
 
-word_less : {A : Type 0} {x : A} {xs ys : List A} → ys ≡ x ∷ xs → 4 * length xs + 1 < 4 * length ys + 2
+before_less : (a : ℕ) → 5 * a + 4 < 5 * a + 5
+before_less a = omega arith
+
+word_less : {A : Type 0} {x : A} {xs ys : List A} → ys ≡ x ∷ xs → 5 * length xs + 1 < 5 * length ys + 2
 word_less {A} {x} {xs} {ys} is = rw is (omega arith)
 
-mark_less : {a b : ℕ} → a ≤ b → 4 * a + 2 < 4 * b + 3
+mark_less : {a b : ℕ} → a ≤ b → 5 * a + 2 < 5 * b + 3
 mark_less less = omega (arith, less)
 
-first_less : (a : ℕ) → 4 * a + 3 < 4 * a + 4
+first_less : (a : ℕ) → 5 * a + 3 < 5 * a + 4
 first_less a = omega arith
 
-next_less : {a b : ℕ} → a < b → 4 * a + 3 < 4 * b + 4
+next_less : {a b : ℕ} → a < b → 5 * a + 3 < 5 * b + 4
 next_less less = omega (arith, less)
 
 pub core-branch-self-requires : goal.core-branch-self-requires
@@ -156,131 +158,100 @@ statement-returns-clause-gives g t c =
     item_whole (toks_of c.args.tokens.now) c.in_ok-label.ensures.gives c.in_ok-core.ensures.gives
     ∙ ap (λ (i : Item). Some (i, toks_of c.in_ok-core.rest.now)) (sym (item_is _))
 
-pub branch-statements-requires : goal.branch-statements-requires
-branch-statements-requires g t c κs within = (
-  rw (← c.decreases)
-      (behind_less (closed_shorter kind.Then c.test.result _ c.args.tokens.now c.test.ensures.shorter c.in_ok-side.ensures)),
-  within,
-)
+pub statements_before-statements-requires : goal.statements_before-statements-requires
+statements_before-statements-requires g t c κs within = (rw (← c.decreases) (before_less _), within)
 
-pub branch-statements-requires-2 : goal.branch-statements-requires-2
-branch-statements-requires-2 g t c κs within = (
-  rw (← c.decreases) (behind_less (less_still
-      (closed_shorter kind.Else c.statements.result _ c.in_ok-side.opened.now c.statements.ensures.shorter c.in_ok-yes.ensures)
-      (closed_shorter kind.Then c.test.result _ c.args.tokens.now c.test.ensures.shorter c.in_ok-side.ensures))),
-  within,
-)
+pub statements_before-returns : goal.statements_before-returns
+statements_before-returns g t c = record {
+  gives =
+      closed_read (λ v. block_of v.items) section c.args.kind c.statements.result c.closed.result c.args.tokens.now
+      c.statements.ensures.gives c.closed.ensures;
+  shorter =
+      closed_shorter c.args.kind c.statements.result c.closed.result c.args.tokens.now c.statements.ensures.shorter c.closed.ensures;
+}
 
-pub repeat-statements-requires : goal.repeat-statements-requires
-repeat-statements-requires g t c κs within = (
-  rw (← c.decreases)
-      (behind_less (closed_shorter kind.Do c.test.result _ c.args.tokens.now c.test.ensures.shorter c.in_ok-side.ensures)),
-  within,
-)
+pub branch-statements_before-requires : goal.branch-statements_before-requires
+branch-statements_before-requires g t c κs within = (rw (← c.decreases) (behind_less c.in_ok-side.ensures.shorter), within)
 
-pub branch-returns-in_err-side-clause-gives : goal.branch-returns-in_err-side-clause-gives
-branch-returns-in_err-side-clause-gives g t c =
-    refused _ c.from_residual.result _ (test_before kind.Then (toks_of c.args.tokens.now)) _ c.from_residual.ensures.1
-    (if_refused (toks_of c.args.tokens.now))
-    (closed_read rhs_of condition kind.Then c.test.result _ c.args.tokens.now c.test.ensures.gives c.in_err-side.ensures)
+pub branch-statements_before-requires-2 : goal.branch-statements_before-requires-2
+branch-statements_before-requires-2 g t c κs within =
+    (rw (← c.decreases) (behind_less (less_still c.in_ok-yes.ensures.shorter c.in_ok-side.ensures.shorter)), within)
 
-pub branch-returns-in_err-yes-clause-gives : goal.branch-returns-in_err-yes-clause-gives
-branch-returns-in_err-yes-clause-gives g t c =
-    refused _ c.from_residual-in_err-yes.result _ (section_before kind.Else (toks_of c.in_ok-side.opened.now)) _
-    c.from_residual-in_err-yes.ensures.1
-    (if_no_yes (toks_of c.args.tokens.now)
-    (closed_read rhs_of condition kind.Then c.test.result _ c.args.tokens.now c.test.ensures.gives c.in_ok-side.ensures))
-    (closed_read
-    (λ v. block_of v.items) section kind.Else c.statements.result _ c.in_ok-side.opened.now c.statements.ensures.gives
-    c.in_err-yes.ensures)
+pub repeat-statements_before-requires : goal.repeat-statements_before-requires
+repeat-statements_before-requires g t c κs within = (rw (← c.decreases) (behind_less c.in_ok-side.ensures.shorter), within)
 
-pub branch-returns-in_err-no-clause-gives : goal.branch-returns-in_err-no-clause-gives
-branch-returns-in_err-no-clause-gives g t c =
-    refused _ c.from_residual-in_err-no.result _ (section_before kind.Fi (toks_of c.in_ok-yes.between.now)) _
-    c.from_residual-in_err-no.ensures.1
-    (if_no_no (toks_of c.args.tokens.now)
-    (closed_read rhs_of condition kind.Then c.test.result _ c.args.tokens.now c.test.ensures.gives c.in_ok-side.ensures)
-    (closed_read
-    (λ v. block_of v.items) section kind.Else c.statements.result _ c.in_ok-side.opened.now c.statements.ensures.gives
-    c.in_ok-yes.ensures))
-    (closed_read
-    (λ v. block_of v.items) section kind.Fi c.statements-2.result _ c.in_ok-yes.between.now c.statements-2.ensures.gives
-    c.in_err-no.ensures)
+pub branch-returns-in_err-side : goal.branch-returns-in_err-side
+unfolding if_deed
+branch-returns-in_err-side g t c = record {
+  gives =
+      refused _ c.from_residual.result _ (closed kind.Then condition (toks_of c.args.tokens.now)) _ c.from_residual.ensures.1
+      (λ none. rw none refl) c.in_err-side.ensures.gives;
+  shorter = refused_shorter c.from_residual.result _ c.args.tokens.now c.from_residual.ensures.1;
+}
 
-pub branch-returns-clause-gives : goal.branch-returns-clause-gives
-branch-returns-clause-gives g t c =
-    rw (
-      if_whole (toks_of c.args.tokens.now)
-          (closed_read rhs_of condition kind.Then c.test.result _ c.args.tokens.now c.test.ensures.gives c.in_ok-side.ensures)
-          (closed_read
-          (λ v. block_of v.items) section kind.Else c.statements.result _ c.in_ok-side.opened.now c.statements.ensures.gives
-          c.in_ok-yes.ensures)
-          (closed_read
-          (λ v. block_of v.items) section kind.Fi c.statements-2.result _ c.in_ok-yes.between.now c.statements-2.ensures.gives
-          c.in_ok-no.ensures),
-      deed_of-If c.in_ok-side.side c.in_ok-yes.yes c.in_ok-no.no,
-    ) refl
+pub branch-returns-in_err-yes : goal.branch-returns-in_err-yes
+unfolding if_deed
+branch-returns-in_err-yes g t c = record {
+  gives =
+      let r = c.from_residual-in_err-yes in
+      refused _ r.result _ (closed kind.Else section (toks_of c.in_ok-side.opened.now)) _ r.ensures.1
+      (λ none. rw (c.in_ok-side.ensures.gives, none) refl) c.in_err-yes.ensures.gives;
+  shorter = let r = c.from_residual-in_err-yes in refused_shorter r.result _ c.args.tokens.now r.ensures.1;
+}
 
-pub branch-returns-clause-shorter : goal.branch-returns-clause-shorter
-branch-returns-clause-shorter g t c =
-    less_still (less_still
-    (closed_shorter kind.Fi c.statements-2.result _ c.in_ok-yes.between.now c.statements-2.ensures.shorter c.in_ok-no.ensures)
-    (closed_shorter kind.Else c.statements.result _ c.in_ok-side.opened.now c.statements.ensures.shorter c.in_ok-yes.ensures))
-    (closed_shorter kind.Then c.test.result _ c.args.tokens.now c.test.ensures.shorter c.in_ok-side.ensures)
+pub branch-returns-in_err-no : goal.branch-returns-in_err-no
+unfolding if_deed
+branch-returns-in_err-no g t c = record {
+  gives =
+      let r = c.from_residual-in_err-no in
+      refused _ r.result _ (closed kind.Fi section (toks_of c.in_ok-yes.between.now)) _ r.ensures.1
+      (λ none. rw (c.in_ok-side.ensures.gives, c.in_ok-yes.ensures.gives, none) refl) c.in_err-no.ensures.gives;
+  shorter = let r = c.from_residual-in_err-no in refused_shorter r.result _ c.args.tokens.now r.ensures.1;
+}
 
-pub repeat-returns-in_err-side-clause-gives : goal.repeat-returns-in_err-side-clause-gives
-repeat-returns-in_err-side-clause-gives g t c =
-    refused _ c.from_residual.result _ (test_before kind.Do (toks_of c.args.tokens.now)) _ c.from_residual.ensures.1
-    (while_refused (toks_of c.args.tokens.now))
-    (closed_read rhs_of condition kind.Do c.test.result _ c.args.tokens.now c.test.ensures.gives c.in_err-side.ensures)
+pub branch-returns : goal.branch-returns
+unfolding if_deed
+branch-returns g t c = record {
+  gives =
+      rw (
+        c.in_ok-side.ensures.gives,
+        c.in_ok-yes.ensures.gives,
+        c.in_ok-no.ensures.gives,
+        deed_of-If c.in_ok-side.side c.in_ok-yes.yes c.in_ok-no.no,
+      ) refl;
+  shorter = less_still (less_still c.in_ok-no.ensures.shorter c.in_ok-yes.ensures.shorter) c.in_ok-side.ensures.shorter;
+}
 
-pub repeat-returns-in_err-body-clause-gives : goal.repeat-returns-in_err-body-clause-gives
-repeat-returns-in_err-body-clause-gives g t c =
-    refused _ c.from_residual-in_err-body.result _ (section_before kind.Od (toks_of c.in_ok-side.opened.now)) _
-    c.from_residual-in_err-body.ensures.1
-    (while_no_body (toks_of c.args.tokens.now)
-    (closed_read rhs_of condition kind.Do c.test.result _ c.args.tokens.now c.test.ensures.gives c.in_ok-side.ensures))
-    (closed_read
-    (λ v. block_of v.items) section kind.Od c.statements.result _ c.in_ok-side.opened.now c.statements.ensures.gives
-    c.in_err-body.ensures)
+pub repeat-returns-in_err-side : goal.repeat-returns-in_err-side
+unfolding while_deed
+repeat-returns-in_err-side g t c = record {
+  gives =
+      refused _ c.from_residual.result _ (closed kind.Do condition (toks_of c.args.tokens.now)) _ c.from_residual.ensures.1
+      (λ none. rw none refl) c.in_err-side.ensures.gives;
+  shorter = refused_shorter c.from_residual.result _ c.args.tokens.now c.from_residual.ensures.1;
+}
 
-pub repeat-returns-clause-gives : goal.repeat-returns-clause-gives
-repeat-returns-clause-gives g t c =
-    rw (
-      while_whole (toks_of c.args.tokens.now)
-          (closed_read rhs_of condition kind.Do c.test.result _ c.args.tokens.now c.test.ensures.gives c.in_ok-side.ensures)
-          (closed_read
-          (λ v. block_of v.items) section kind.Od c.statements.result _ c.in_ok-side.opened.now c.statements.ensures.gives
-          c.in_ok-body.ensures),
-      deed_of-While c.in_ok-side.side c.in_ok-body.body,
-    ) refl
+pub repeat-returns-in_err-body : goal.repeat-returns-in_err-body
+unfolding while_deed
+repeat-returns-in_err-body g t c = record {
+  gives =
+      let r = c.from_residual-in_err-body in
+      refused _ r.result _ (closed kind.Od section (toks_of c.in_ok-side.opened.now)) _ r.ensures.1
+      (λ none. rw (c.in_ok-side.ensures.gives, none) refl) c.in_err-body.ensures.gives;
+  shorter = let r = c.from_residual-in_err-body in refused_shorter r.result _ c.args.tokens.now r.ensures.1;
+}
 
-pub repeat-returns-clause-shorter : goal.repeat-returns-clause-shorter
-repeat-returns-clause-shorter g t c =
-    less_still
-    (closed_shorter kind.Od c.statements.result _ c.in_ok-side.opened.now c.statements.ensures.shorter c.in_ok-body.ensures)
-    (closed_shorter kind.Do c.test.result _ c.args.tokens.now c.test.ensures.shorter c.in_ok-side.ensures)
-
-pub branch-returns-in_err-side-clause-shorter : goal.branch-returns-in_err-side-clause-shorter
-branch-returns-in_err-side-clause-shorter g t c = refused_shorter c.from_residual.result _ c.args.tokens.now c.from_residual.ensures.1
-
-pub branch-returns-in_err-yes-clause-shorter : goal.branch-returns-in_err-yes-clause-shorter
-branch-returns-in_err-yes-clause-shorter g t c =
-    refused_shorter c.from_residual-in_err-yes.result _ c.args.tokens.now c.from_residual-in_err-yes.ensures.1
-
-pub branch-returns-in_err-no-clause-shorter : goal.branch-returns-in_err-no-clause-shorter
-branch-returns-in_err-no-clause-shorter g t c =
-    refused_shorter c.from_residual-in_err-no.result _ c.args.tokens.now c.from_residual-in_err-no.ensures.1
-
-pub repeat-returns-in_err-side-clause-shorter : goal.repeat-returns-in_err-side-clause-shorter
-repeat-returns-in_err-side-clause-shorter g t c = refused_shorter c.from_residual.result _ c.args.tokens.now c.from_residual.ensures.1
-
-pub repeat-returns-in_err-body-clause-shorter : goal.repeat-returns-in_err-body-clause-shorter
-repeat-returns-in_err-body-clause-shorter g t c =
-    refused_shorter c.from_residual-in_err-body.result _ c.args.tokens.now c.from_residual-in_err-body.ensures.1
+pub repeat-returns : goal.repeat-returns
+unfolding while_deed
+repeat-returns g t c = record {
+  gives =
+      rw (c.in_ok-side.ensures.gives, c.in_ok-body.ensures.gives, deed_of-While c.in_ok-side.side c.in_ok-body.body) refl;
+  shorter = less_still c.in_ok-body.ensures.shorter c.in_ok-side.ensures.shorter;
+}
 
 pub core-returns-in_default-clause-gives : goal.core-returns-in_default-clause-gives
-core-returns-in_default-clause-gives g t c = no_deed_left c.args.tokens.now c.in_default.ensures.cases
+unfolding deed
+core-returns-in_default-clause-gives g t c = at_end deed (λ ts. None) refl c.args.tokens.now c.in_default.ensures.cases
 
 pub core-returns-in_default-clause-shorter : goal.core-returns-in_default-clause-shorter
 core-returns-in_default-clause-shorter g t c = tt

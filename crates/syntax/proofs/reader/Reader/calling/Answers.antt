@@ -10,33 +10,32 @@ use Rattle.syntax.proofs.reader.Reader.calling.Goals as goal
 pub enclosed-requires : goal.enclosed-requires
 enclosed-requires g c = strict_expression
 
-pub returns-clause-gives : goal.returns-clause-gives
+pub returns : goal.returns
 unfolding calling
-returns-clause-gives g c =
-    rw (c.in_ok-name.ensures.gives, c.in_ok-arguments.ensures.gives)
-    (rw (deed_of-Call c.in_ok-name.name c.in_ok-arguments.arguments) at c.ended.ensures.gives)
+returns g c = record {
+  gives =
+      rw (c.in_ok-name.ensures.gives, c.in_ok-arguments.ensures.gives)
+      (rw (deed_of-Call c.in_ok-name.name c.in_ok-arguments.arguments) at c.ended.ensures.gives);
+  shorter =
+      shorter_behind c.ended.result c.in_ok-arguments.rest.now c.args.tokens.now
+      (less_still c.in_ok-arguments.ensures.shorter c.in_ok-name.ensures.shorter) c.ended.ensures.shorter;
+}
 
-pub returns-in_err-name-clause-gives : goal.returns-in_err-name-clause-gives
+pub returns-in_err-name : goal.returns-in_err-name
 unfolding calling
-returns-in_err-name-clause-gives g c =
-    refused _ c.from_residual.result _ (name (toks_of c.args.tokens.now)) _ c.from_residual.ensures.1
-    (λ none. rw none refl) c.in_err-name.ensures.gives
+returns-in_err-name g c = record {
+  gives =
+      refused _ c.from_residual.result _ (name (toks_of c.args.tokens.now)) _ c.from_residual.ensures.1 (λ none. rw none refl)
+      c.in_err-name.ensures.gives;
+  shorter = refused_shorter c.from_residual.result _ c.args.tokens.now c.from_residual.ensures.1;
+}
 
-pub returns-in_err-arguments-clause-gives : goal.returns-in_err-arguments-clause-gives
+pub returns-in_err-arguments : goal.returns-in_err-arguments
 unfolding calling
-returns-in_err-arguments-clause-gives g c =
-    refused _ c.from_residual-in_err-arguments.result _ (argument_list (toks_of c.in_ok-name.others.now)) _
-    c.from_residual-in_err-arguments.ensures.1
-    (λ none. rw (c.in_ok-name.ensures.gives, none) refl) c.in_err-arguments.ensures.gives
-
-pub returns-clause-shorter : goal.returns-clause-shorter
-returns-clause-shorter g c =
-    shorter_behind c.ended.result c.in_ok-arguments.rest.now c.args.tokens.now
-    (less_still c.in_ok-arguments.ensures.shorter c.in_ok-name.ensures.shorter) c.ended.ensures.shorter
-
-pub returns-in_err-name-clause-shorter : goal.returns-in_err-name-clause-shorter
-returns-in_err-name-clause-shorter g c = refused_shorter c.from_residual.result _ c.args.tokens.now c.from_residual.ensures.1
-
-pub returns-in_err-arguments-clause-shorter : goal.returns-in_err-arguments-clause-shorter
-returns-in_err-arguments-clause-shorter g c =
-    refused_shorter c.from_residual-in_err-arguments.result _ c.args.tokens.now c.from_residual-in_err-arguments.ensures.1
+returns-in_err-arguments g c = record {
+  gives =
+      let r = c.from_residual-in_err-arguments in
+      refused _ r.result _ (argument_list (toks_of c.in_ok-name.others.now)) _ r.ensures.1 (λ none. rw (c.in_ok-name.ensures.gives, none) refl)
+      c.in_err-arguments.ensures.gives;
+  shorter = let r = c.from_residual-in_err-arguments in refused_shorter r.result _ c.args.tokens.now r.ensures.1;
+}
