@@ -1,16 +1,14 @@
 -- What comes before a closing token is seen as before.
 use Rattle.std.specs.Prelude.{Result, Ok, Err, option_and_then, IfOk, IsOkUnless, IsErrAnd}
 use Rattle.std.specs.declared.vec.Vec.{Vec}
-use Rattle.std.proofs.Common.{◌≡◌, ◌<◌, ◌≤◌, ℕ, true, List, [], ◌∷◌, length, map, Option, Some, None, refl, ◌∙◌, arith}
+use Rattle.std.proofs.Common.{◌≡◌, ◌<◌, ◌≤◌, ℕ, true, List, [], ◌∷◌, length, map, Option, Some, None, refl, arith}
 use denote.Ref.{Bor}
 use Rattle.tokens.specs.declared.vocabulary.Kind.{Kind}
 use Rattle.tokens.specs.declared.vocabulary.Token.{Token}
 use Rattle.tokens.specs.Token.{Tok, toks_of}
-use Rattle.language.specs.Tree.{Name, assign}
-use Rattle.trees.specs.Trees.{Deed, simple}
 use Rattle.tokens.specs.declared.vocabulary.Kind.TheVariants as kind
-use Rattle.syntax.specs.Parser.{Parser, give, take, begins, ◌>>=◌}
-use Rattle.syntax.specs.Exact.{closing, perhaps, listed, name, name_list, right, rights, semicolon_after, assignment}
+use Rattle.syntax.specs.Parser.{Parser, take, begins, ◌>>=◌}
+use Rattle.syntax.specs.Exact.{closing, perhaps}
 use Rattle.syntax.specs.Gives.{Gives, Parses, Shorter, Closes}
 use Rattle.syntax.specs.declared.fault.ReadFault.{ReadFault}
 use Rattle.syntax.specs.declared.fault.ReadFault.TheVariants as fault

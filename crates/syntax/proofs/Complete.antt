@@ -13,7 +13,7 @@ use Rattle.grammar.specs.Grammar.{statement, if_statement, while_statement}
 use Rattle.trees.specs.Trees.{Deed, simple, branch, repeat, before, marked_before}
 use Rattle.syntax.specs.Exact.{name, name_list, expression, rights, argument_list, condition, marked, assignment, calling, asking}
 use Rattle.syntax.specs.Exact.{names_call}
-use Rattle.syntax.specs.Exact.{asks_behind, named, giving, returning, branching, repeating, deed_by, deed_step, starts, starts_here}
+use Rattle.syntax.specs.Exact.{asks_behind, named, giving, branching, repeating, deed_by, deed_step, starts, starts_here}
 use Rattle.syntax.specs.Exact.{item_step, rest_step, section, jumping, asserting, assuming}
 use Rattle.syntax.proofs.KindTests.{same_kind-true, same_kind-is}
 use Rattle.syntax.proofs.Fixes.{bind_is}

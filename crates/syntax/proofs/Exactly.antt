@@ -1,15 +1,14 @@
 -- Functions that read exactly what a relation of the grammar says, part by part.
-use Rattle.std.proofs.Common.{◌≡◌, ℕ, suc, ◌<◌, ◌≤◌, Bool, true, false, cond, List, [], ◌∷◌, length, Option, Some, refl, ◌∙◌, ap, arith}
-use Rattle.std.proofs.Common.{◌⊎◌, inl, inr}
+use Rattle.std.proofs.Common.{◌≡◌, ℕ, suc, ◌<◌, Bool, true, false, cond, List, [], ◌∷◌, length, Option, Some, refl, ◌∙◌, ap}
 use Rattle.tokens.specs.declared.vocabulary.Kind.{Kind}
 use Rattle.tokens.specs.declared.vocabulary.Kind.TheVariants as kind
 use Rattle.tokens.specs.Token.{Tok, same_kind}
-use Rattle.syntax.specs.Parser.{Parser, Strict, give, ◌>>=◌, begins, take, fix, many_step, many}
+use Rattle.syntax.specs.Parser.{Parser, Strict, give, ◌>>=◌, begins, take, many_step, many}
 use Rattle.grammar.specs.Grammar.{Takes, takes, Behind, behind, InParens, in_parens, Many, no_more, one_more}
 use Rattle.grammar.specs.Grammar.{Listed, listed, Several, several, Perhaps, nothing, something}
 use Rattle.syntax.specs.Exact.{more, list, repeated, parens, perhaps}
 use Rattle.syntax.proofs.KindTests.{same_kind-true, same_kind-is}
-use Rattle.syntax.proofs.Fixes.{both, carried, between, bind_is, Shrinks, Agree, Strict-Shrinks, Shrinks-give, Strict-take, Shrinks-bind}
+use Rattle.syntax.proofs.Fixes.{bind_is, Shrinks, Agree, Strict-Shrinks, Shrinks-give, Strict-take, Shrinks-bind}
 use Rattle.syntax.proofs.Fixes.{Strict-bind, Agree-same, Agree-bind, Agree-Strict-bind, IsStep, fix_shrinks, fix_is, Finds, fix_finds}
 use Rattle.syntax.proofs.ChainLemmas.{Finding, Finding-give, Finding-bind, Finding-take, Finding-last, Finding-choice, Shrinks-choice}
 use Rattle.syntax.proofs.ChainLemmas.{Reading, Reading-give, Reading-bind, Reading-take, Reading-last}

@@ -3,13 +3,13 @@ use Rattle.std.specs.Prelude.{nat_le, option_and_then}
 use Rattle.std.proofs.Common.{◌≡◌, ℕ, zero, suc, ◌+◌, ◌<◌, ◌≤◌, Bool, true, false, cond, List, [], ◌∷◌, length, Option, Some, None, refl}
 use Rattle.std.proofs.Common.{sym, ◌∙◌, ap, arith}
 use Rattle.std.proofs.lemmas.Bool.Decides.{nat_tests}
-use Rattle.language.specs.Tree.{Name, Operator, implies, or, xor, and, equal, differs, Expression, const, var, negation, two}
+use Rattle.language.specs.Tree.{Name, Operator, implies, Expression, two}
 use Rattle.tokens.specs.declared.vocabulary.Kind.{Kind}
 use Rattle.tokens.specs.declared.vocabulary.Kind.TheVariants as kind
 use Rattle.tokens.specs.declared.vocabulary.Token.{Token}
 use Rattle.tokens.specs.Token.{Tok, same_kind, tok_of, toks_of}
-use Rattle.syntax.specs.Parser.{Parser, Strict, give, refuse, ◌>>=◌, take}
-use Rattle.grammar.specs.Grammar.{Takes, takes, name_at, operator_at, level, left_level, right_level, Reads, reads_zero, reads_one}
+use Rattle.syntax.specs.Parser.{Parser, Strict}
+use Rattle.grammar.specs.Grammar.{Takes, takes, operator_at, level, left_level, right_level, Reads, reads_zero, reads_one}
 use Rattle.grammar.specs.Grammar.{reads_name, reads_not, reads_paren, reads_two}
 use Rattle.syntax.specs.Exact.{Goal, from, after, binds, operand_step, go_on, expression_step, reading, operand}
 use Rattle.syntax.proofs.ChainLemmas.{Finding, Finding-give, Finding-refuse, Finding-bind, Finding-last, Finding-kind, take_is}

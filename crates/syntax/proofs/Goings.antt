@@ -1,16 +1,15 @@
 -- The steps of the loop that reads statements.
 use Rattle.std.specs.Prelude.{option_and_then}
-use Rattle.std.proofs.Common.{◌≡◌, ℕ, true, false, List, [], ◌∷◌, ◌++◌, length, Option, Some, None, refl, sym, ◌∙◌, ap, arith}
-use Rattle.language.specs.Tree.{Name, RightSide, leave, Block, done, Mark}
+use Rattle.std.proofs.Common.{◌≡◌, ℕ, true, false, List, [], ◌∷◌, ◌++◌, Option, Some, None, refl, sym, ◌∙◌, ap}
+use Rattle.language.specs.Tree.{Name, leave, Block, done, Mark}
 use Rattle.tokens.specs.declared.vocabulary.Kind.{Kind}
 use Rattle.tokens.specs.declared.vocabulary.Kind.TheVariants as kind
 use Rattle.tokens.specs.declared.vocabulary.Token.{Token}
 use Rattle.tokens.specs.Token.{Tok, toks_of, same_kind}
-use Rattle.syntax.specs.Parser.{Parser, give, ◌>>=◌, begins, take}
-use Rattle.trees.specs.Trees.{Deed, simple, branch, repeat, Item, before, all_before}
-use Rattle.syntax.specs.Exact.{item_step, rest_step, starts_here, section, closing, item, going_on, put_before, marked, condition}
-use Rattle.syntax.specs.Exact.{calling, asking, assignment, asks_behind, named, semicolon_after, giving, deed_step, deed_by, deed, if_deed}
-use Rattle.syntax.specs.Exact.{while_deed}
+use Rattle.syntax.specs.Parser.{Parser, give, ◌>>=◌, begins}
+use Rattle.trees.specs.Trees.{Deed, simple, Item, before, all_before}
+use Rattle.syntax.specs.Exact.{item_step, rest_step, starts_here, section, item, going_on, put_before, marked}
+use Rattle.syntax.specs.Exact.{calling, asking, assignment, asks_behind, named, semicolon_after, giving, deed_step, deed_by, deed}
 use Rattle.syntax.proofs.Fixes.{bind_is}
 use Rattle.syntax.proofs.Sections.{section_is}
 

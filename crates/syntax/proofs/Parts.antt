@@ -1,5 +1,5 @@
 -- The parts of statements, read exactly as the grammar says.
-use Rattle.std.proofs.Common.{◌≡◌, ℕ, ◌<◌, Bool, true, false, ◌||◌, List, [], ◌∷◌, length, Some, refl, ap, ◌⊎◌, inl, inr}
+use Rattle.std.proofs.Common.{◌≡◌, ℕ, Bool, true, false, ◌||◌, List, [], ◌∷◌, Some, refl, ap}
 use Rattle.language.specs.Tree.{Name, Operator, Expression, RightSide, any, value}
 use Rattle.tokens.specs.declared.vocabulary.Kind.{Kind}
 use Rattle.tokens.specs.declared.vocabulary.Kind.TheVariants as kind
@@ -11,7 +11,7 @@ use Rattle.syntax.specs.Exact.{binds, name, name_list, expression, right, rights
 use Rattle.syntax.proofs.KindTests.{same_kind-true, same_kind-is}
 use Rattle.syntax.proofs.Fixes.{Strict-Shrinks, Shrinks-give, Strict-take, Strict-bind}
 use Rattle.syntax.proofs.ChainLemmas.{Finding-give, Finding-bind, Finding-take, Finding-last, Finding-choice, Strict-choice, Reading}
-use Rattle.syntax.proofs.ChainLemmas.{Reading-last, take_is, kind_taken}
+use Rattle.syntax.proofs.ChainLemmas.{take_is, kind_taken}
 use Rattle.syntax.proofs.Expressions.{Stops, stops_end, stops_at, reading_finds, reading_complete, reading_strict}
 use Rattle.syntax.proofs.Exactly.{Exactly, exactly, Anything, begins_takes, NoComma, exactly_list, exactly_parens, exactly_perhaps}
 use Rattle.syntax.proofs.Exactly.{Strict-list, strict_parens, shrinks_perhaps}

@@ -6,7 +6,7 @@ use Rattle.language.specs.Tree.{Name, Mark, Block}
 use Rattle.tokens.specs.Parts.{text_of}
 use Rattle.tokens.proofs.PartsCut.{text_of-append}
 use Rattle.trees.specs.declared.tree.Stmt.{Stmt}
-use Rattle.trees.specs.Trees.{name_of, Deed, simple, branch, repeat, Item, deed_of, marked_before, before, block_of}
+use Rattle.trees.specs.Trees.{name_of, Deed, simple, Item, deed_of, marked_before, before, block_of}
 use Rattle.trees.proofs.Folds.{item_is}
 use Rattle.grammar.specs.Printed.{label_parts, margin, block_parts}
 use Rattle.syntax.specs.PrintedDeed.{deed_parts}

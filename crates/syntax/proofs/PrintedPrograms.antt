@@ -2,7 +2,6 @@
 use Rattle.std.proofs.Common.{◌≡◌, ℕ, ◌+◌, ◌<◌, cond, List, [], ◌∷◌, ◌++◌, length, map, drop, get_or, sym, ◌∙◌, ap, append_assoc, codes}
 use Rattle.std.specs.Prelude.{◌==◌, false, Result, IfOk, is_ok}
 use Rattle.std.proofs.lemmas.List.{drop_more}
-use Rattle.language.specs.Tree as tree
 use Rattle.tokens.specs.Parts.{Part, text_of}
 use Rattle.tokens.proofs.PartsCut.{text_of-append}
 use Rattle.trees.specs.declared.tree.Name.{Name}

@@ -2,7 +2,7 @@
 use Rattle.std.proofs.Common.{◌≡◌, ℕ, zero, suc, true, false, List, [], ◌∷◌, ◌++◌, map, refl, sym, ◌∙◌, ap, append_assoc, append-nil, inl}
 use Rattle.std.proofs.Common.{inr, Option, None, Some}
 use Rattle.std.specs.List.{AllByRecursion}
-use Rattle.language.specs.Tree.{Name, Operator, implies, or, xor, and, equal, differs, Expression, const, var, negation, two, RightSide}
+use Rattle.language.specs.Tree.{Name, Operator, implies, Expression, const, var, negation, two, RightSide}
 use Rattle.language.specs.Tree.{any, value, Simple, skip, assign, assert, assume, goto, leave, leave_with, call, call_for, Block, done}
 use Rattle.language.specs.Tree.{one, choose, loop, Procedure, ThreadLine, Tree}
 use Rattle.tokens.specs.declared.vocabulary.Kind.{Kind}

@@ -1,6 +1,6 @@
 -- The tokens of printed parts, by the grammar.
 use Rattle.std.proofs.Common.{◌≡◌, ℕ, ◌+◌, ◌<◌, ◌≤◌, true, false, List, [], ◌∷◌, ◌++◌, length, map, refl, ap, append_assoc, arith, Some}
-use Rattle.language.specs.Tree.{Name, Operator, implies, or, xor, and, equal, differs, Expression, const, var, negation, two, RightSide}
+use Rattle.language.specs.Tree.{Name, Operator, implies, Expression, const, var, negation, two, RightSide}
 use Rattle.language.specs.Tree.{any, value}
 use Rattle.tokens.specs.declared.vocabulary.Kind.TheVariants as kind
 use Rattle.tokens.specs.Token.{Tok}

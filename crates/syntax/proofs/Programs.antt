@@ -4,8 +4,8 @@ use Rattle.language.specs.Tree.{Name, Block, Procedure, ThreadLine, Tree}
 use Rattle.tokens.specs.declared.vocabulary.Kind.{Kind}
 use Rattle.tokens.specs.declared.vocabulary.Kind.TheVariants as kind
 use Rattle.tokens.specs.Token.{Tok, same_kind}
-use Rattle.syntax.specs.Parser.{Parser, Strict, give, ◌>>=◌, begins, take, many}
-use Rattle.grammar.specs.Grammar.{Takes, takes, IsName, is_name, InParens, Several, several, Perhaps, IsSome, Statements, joined}
+use Rattle.syntax.specs.Parser.{Strict, give, begins, take, many}
+use Rattle.grammar.specs.Grammar.{Takes, IsName, is_name, InParens, Several, several, Perhaps, IsSome, Statements, joined}
 use Rattle.grammar.specs.Grammar.{IsDeclaration, is_declaration, Declarations, declarations, IsProcedure, is_procedure, IsThread, is_thread}
 use Rattle.grammar.specs.Grammar.{IsProgram, is_program}
 use Rattle.syntax.specs.Exact.{name, name_list, formals, starts, starts_here, section, declaration, all_declarations, insides, procedure}

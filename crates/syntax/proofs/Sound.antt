@@ -1,14 +1,14 @@
 -- The function that reads statements is sound and complete for the grammar of statements.
-use Rattle.std.proofs.Common.{◌≡◌, Bool, true, false, cond, ◌&&◌, List, [], ◌∷◌, Option, Some, None, refl}
-use Rattle.language.specs.Tree.{Name, RightSide, Simple, skip, assign, assert, assume, goto, leave, leave_with, call, call_for, Mark, Block}
+use Rattle.std.proofs.Common.{◌≡◌, Bool, true, false, cond, ◌&&◌, List, [], ◌∷◌, Some, None, refl}
+use Rattle.language.specs.Tree.{Name, RightSide, Simple, assert, assume, leave, Mark, Block}
 use Rattle.language.specs.Tree.{done}
 use Rattle.tokens.specs.declared.vocabulary.Kind.TheVariants as kind
 use Rattle.tokens.specs.Token.{Tok, same_kind}
-use Rattle.syntax.specs.Parser.{Parser, give, refuse, ◌>>=◌, begins, take}
+use Rattle.syntax.specs.Parser.{Parser, give, ◌>>=◌, begins, take}
 use Rattle.grammar.specs.Grammar.{Takes, takes, InParens, IsRight, name_at, IsMarked, bare, labelled, IsSimple, is_skip, is_return, is_give}
 use Rattle.grammar.specs.Grammar.{is_goto, is_assert, is_assume, is_assign, is_call, is_call_for, IsSome, Statements, nothing_more}
 use Rattle.grammar.specs.Grammar.{statement, if_statement, while_statement}
-use Rattle.trees.specs.Trees.{Deed, simple, branch, repeat, Item, before, marked_before}
+use Rattle.trees.specs.Trees.{Deed, simple, before, marked_before}
 use Rattle.syntax.specs.Exact.{name, name_list, expression, rights, argument_list, condition, marked, assignment, calling, asking}
 use Rattle.syntax.specs.Exact.{asks_behind}
 use Rattle.syntax.specs.Exact.{named, giving, returning, branching, repeating, deed_by, deed_step, starts_here, item_step, rest_step}
