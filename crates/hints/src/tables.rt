@@ -34,6 +34,7 @@ enum Table {
 }
 
 /// The rows of a table.
+#[tactic(auto, unfolding(crate::specs::Tables::rows))]
 fn rows(table: Table) -> &'static [Row]
     ensures { map row_of result.now ≡ told.rows table }
 {

@@ -87,10 +87,10 @@ simple_reads f (is_give {vs = vs} {rest = rest} {e = e} (takes {rest = us} is) r
 simple_reads f (is_goto {vs = vs} {rest = rest} {l = l} (takes {rest = us} is) h c) =
     let read : Reading jumping us (simple (goto l)) rest = Reading-bind name _ (exactly_name.reads us l vs h tt) (Reading-last c) in rw is read.is
 simple_reads f (is_assert {vs = vs} {rest = rest} {r = r} (takes {rest = us} is) h c) =
-    let read : Reading asserting us (simple (assert r)) rest = Reading-bind condition _ (exactly_test.reads us r vs h tt) (Reading-last c) in
+    let read : Reading asserting us (simple (assert r)) rest = Reading-closed condition _ (exactly_test.reads us r vs h tt) c Reading-give in
     rw is read.is
 simple_reads f (is_assume {vs = vs} {rest = rest} {r = r} (takes {rest = us} is) h c) =
-    let read : Reading assuming us (simple (assume r)) rest = Reading-bind condition _ (exactly_test.reads us r vs h tt) (Reading-last c) in
+    let read : Reading assuming us (simple (assume r)) rest = Reading-closed condition _ (exactly_test.reads us r vs h tt) c Reading-give in
     rw is read.is
 simple_reads f (is_assign {ts = []} (listed h m) a l c) = elim h [ ]
 simple_reads f (is_assign {ts = t ∷ ts} {us = us} {vs = vs} {ws = ws} {rest = rest} {xs = xs} {rs = rs} h a l c) =

@@ -93,6 +93,7 @@ module _ (f g : Parser (Block Name Name Name)) (s : Shrinks f) where
         shrinks_returning,
         strict_name,
         strict_test,
+        Strict-closed,
         Strict-take,
         Strict-Shrinks,
         Shrinks-cond,

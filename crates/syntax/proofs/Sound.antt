@@ -12,7 +12,7 @@ use Rattle.trees.specs.Trees.{Deed, simple, before, marked_before}
 use Rattle.syntax.specs.Exact.{name, name_list, expression, rights, argument_list, condition, marked, assignment, calling, asking}
 use Rattle.syntax.specs.Exact.{asks_behind}
 use Rattle.syntax.specs.Exact.{named, giving, returning, branching, repeating, deed_by, deed_step, starts_here, item_step, rest_step}
-use Rattle.syntax.specs.Exact.{section_step, section, semicolon_after, jumping}
+use Rattle.syntax.specs.Exact.{closed, section_step, section, semicolon_after, jumping}
 use Rattle.syntax.proofs.KindTests.{same_kind-true}
 use Rattle.syntax.proofs.Fixes.{Finds, fix_finds}
 use Rattle.syntax.proofs.ChainLemmas.{Finding, Finding-give, Finding-refuse, Finding-bind, Finding-last, Finding-kind}
@@ -83,8 +83,9 @@ module _ (f : Unit {0} → Parser (Block Name Name Name)) (sound : Finds Found f
   test_finds : (s : RightSide Name → Simple Name Name Name)
       → ((us rest : List Tok) (r : RightSide Name) → InParens IsRight ts r us → Takes kind.Semicolon us rest
       → IsSimple (t ∷ ts) (s r) rest)
-      → Finding (condition >>= λ r. semicolon_after (simple (s r))) ts (Continues (t ∷ ts))
-  test_finds s is = Finding-bind condition (λ r us h. Finding-last (λ rest c. plain_found (is us rest r (exactly_test.finds ts r us h) c)))
+      → Finding (closed kind.Semicolon condition >>= λ r. give (simple (s r))) ts (Continues (t ∷ ts))
+  test_finds s is =
+      Finding-closed condition (λ r us rest h c. Finding-give (plain_found (is us rest r (exactly_test.finds ts r us h) c)))
 
   if_finds : t.kind ≡ kind.If → Finding (branching (f tt)) ts (Continues (t ∷ ts))
   if_finds is =

@@ -170,11 +170,11 @@ jumping = name >>= λ l. semicolon_after (simple (goto l))
 
 -- an `assert`, after that word
 abbrev pub asserting : Parser Deed
-asserting = condition >>= λ r. semicolon_after (simple (assert r))
+asserting = closed kind.Semicolon condition >>= λ r. give (simple (assert r))
 
 -- an `assume`, after that word
 abbrev pub assuming : Parser Deed
-assuming = condition >>= λ r. semicolon_after (simple (assume r))
+assuming = closed kind.Semicolon condition >>= λ r. give (simple (assume r))
 
 -- a value, after `return`
 unfoldable pub giving : Parser Deed

@@ -5,7 +5,6 @@ ghost use Rattle.syntax.specs.Gives.{Parses, Shorter};
 ghost use Rattle.syntax.specs.Exact.{
   closed,
   name,
-  condition,
   marked,
   assignment,
   calling,
@@ -24,7 +23,7 @@ ghost use Rattle.syntax.specs.Exact.{
   if_deed,
   while_deed,
 };
-ghost use Rattle.trees.specs.Trees.{name_of, rhs_of, deed_of, item_of, block_of};
+ghost use Rattle.trees.specs.Trees.{name_of, deed_of, item_of, block_of};
 ghost use Rattle.tokens.specs.Token.{toks_of};
 
 use crate::element::Element;
@@ -32,7 +31,7 @@ use crate::fault::ReadFault;
 use crate::reader::{Read, Reader, begins, put};
 use std::alloc::Allocator;
 use tokens::{Kind, Token};
-use trees::{Core, Name, Rhs, Stmt};
+use trees::{Core, Name, Stmt};
 
 /// Whether a statement comes next.
 #[tactic(auto, unfolding(tokens::specs::Token::same_kind))]
@@ -111,14 +110,6 @@ impl<'a, A: Allocator + Clone> Reader<'a, A> {
         self.closed(Name::read(self, tokens), kind)
     }
 
-    /// Reads a right side in parentheses, and a token of this kind after it.
-    fn test_before<'t>(&self, kind: Kind, tokens: &'t [Token<'t>]) -> Read<'t, Rhs<A>>
-        ensures gives { Parses rhs_of result (closed kind condition) tokens.now }
-        ensures shorter { Shorter result tokens.now }
-    {
-        self.closed(self.test(tokens), kind)
-    }
-
     /// Reads an assignment.
     #[tactic(auto, unfolding(crate::specs::Exact::assignment))]
     fn assignment<'t>(&self, tokens: &'t [Token<'t>]) -> Read<'t, Core<A>>
@@ -177,8 +168,8 @@ impl<'a, A: Allocator + Clone> Reader<'a, A> {
         ensures gives { Parses deed_of result asserting tokens.now }
         ensures shorter { Shorter result tokens.now }
     {
-        let (side, rest) = self.test(tokens)?;
-        self.ended(Core::Assert(side), rest)
+        let (side, rest) = self.test(Kind::Semicolon, tokens)?;
+        Ok((Core::Assert(side), rest))
     }
 
     /// Reads an `assume`, after that word.
@@ -186,8 +177,8 @@ impl<'a, A: Allocator + Clone> Reader<'a, A> {
         ensures gives { Parses deed_of result assuming tokens.now }
         ensures shorter { Shorter result tokens.now }
     {
-        let (side, rest) = self.test(tokens)?;
-        self.ended(Core::Assume(side), rest)
+        let (side, rest) = self.test(Kind::Semicolon, tokens)?;
+        Ok((Core::Assume(side), rest))
     }
 
     /// Reads statements, at least one, as long as another comes.
@@ -265,7 +256,7 @@ impl<'a, A: Allocator + Clone> Reader<'a, A> {
         ensures gives { Parses deed_of result if_deed tokens.now }
         ensures shorter { Shorter result tokens.now }
     {
-        let (side, opened) = self.test_before(Kind::Then, tokens)?;
+        let (side, opened) = self.test(Kind::Then, tokens)?;
         let (yes, between) = self.statements_before(Kind::Else, opened)?;
         let (no, rest) = self.statements_before(Kind::Fi, between)?;
         Ok((Core::If(side, yes, no), rest))
@@ -278,7 +269,7 @@ impl<'a, A: Allocator + Clone> Reader<'a, A> {
         ensures gives { Parses deed_of result while_deed tokens.now }
         ensures shorter { Shorter result tokens.now }
     {
-        let (side, opened) = self.test_before(Kind::Do, tokens)?;
+        let (side, opened) = self.test(Kind::Do, tokens)?;
         let (body, rest) = self.statements_before(Kind::Od, opened)?;
         Ok((Core::While(side, body), rest))
     }

@@ -30,23 +30,23 @@ words =
     kind.Decl ∷ kind.Begin ∷ kind.End ∷ kind.Thread ∷ kind.Skip ∷ kind.If ∷ kind.Then ∷ kind.Else ∷ kind.Fi ∷ kind.While ∷ kind.Do
     ∷ kind.Od ∷ kind.Assert ∷ kind.Assume ∷ kind.Goto ∷ kind.Return ∷ kind.Zero ∷ kind.One ∷ []
 
-named_word : (k : Kind) → option_map_or (kind_named reserved_word words) (reserved_word k) (Some k) ≡ Some k
-unfolding kind_named
-named_word kind.Decl = refl
-named_word _ = refl
-
-pub one_word : (j k : Kind) (w : List ℕ) → reserved_word j ≡ Some w → reserved_word k ≡ Some w → j ≡ k
-one_word = one_kind reserved_word words named_word
-
 abbrev signs : List Kind
 signs =
     kind.Comma ∷ kind.Semicolon ∷ kind.Colon ∷ kind.Assign ∷ kind.Open ∷ kind.Close ∷ kind.Any ∷ kind.Implies ∷ kind.Or ∷ kind.Xor
     ∷ kind.And ∷ kind.Equal ∷ kind.Differs ∷ kind.Not ∷ []
 
+named_word : (k : Kind) → option_map_or (kind_named reserved_word words) (reserved_word k) (Some k) ≡ Some k
+unfolding kind_named
+named_word kind.Decl = refl
+named_word _ = refl
+
 named_sign : (k : Kind) → option_map_or (kind_named sign signs) (sign k) (Some k) ≡ Some k
 unfolding kind_named
 named_sign kind.Comma = refl
 named_sign _ = refl
+
+pub one_word : (j k : Kind) (w : List ℕ) → reserved_word j ≡ Some w → reserved_word k ≡ Some w → j ≡ k
+one_word = one_kind reserved_word words named_word
 
 pub one_sign : (j k : Kind) (w : List ℕ) → sign j ≡ Some w → sign k ≡ Some w → j ≡ k
 one_sign = one_kind sign signs named_sign

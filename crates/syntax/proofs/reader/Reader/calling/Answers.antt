@@ -20,22 +20,3 @@ returns g c = record {
       shorter_behind c.ended.result c.in_ok-arguments.rest.now c.args.tokens.now
       (less_still c.in_ok-arguments.ensures.shorter c.in_ok-name.ensures.shorter) c.ended.ensures.shorter;
 }
-
-pub returns-in_err-name : goal.returns-in_err-name
-unfolding calling
-returns-in_err-name g c = record {
-  gives =
-      refused _ c.from_residual.result _ (name (toks_of c.args.tokens.now)) _ c.from_residual.ensures.1 (λ none. rw none refl)
-      c.in_err-name.ensures.gives;
-  shorter = refused_shorter c.from_residual.result _ c.args.tokens.now c.from_residual.ensures.1;
-}
-
-pub returns-in_err-arguments : goal.returns-in_err-arguments
-unfolding calling
-returns-in_err-arguments g c = record {
-  gives =
-      let r = c.from_residual-in_err-arguments in
-      refused _ r.result _ (argument_list (toks_of c.in_ok-name.others.now)) _ r.ensures.1 (λ none. rw (c.in_ok-name.ensures.gives, none) refl)
-      c.in_err-arguments.ensures.gives;
-  shorter = let r = c.from_residual-in_err-arguments in refused_shorter r.result _ c.args.tokens.now r.ensures.1;
-}
