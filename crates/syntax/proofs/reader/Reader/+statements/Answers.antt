@@ -180,35 +180,6 @@ branch-statements_before-requires-2 g t c κs within =
 pub repeat-statements_before-requires : goal.repeat-statements_before-requires
 repeat-statements_before-requires g t c κs within = (rw (← c.decreases) (behind_less c.in_ok-side.ensures.shorter), within)
 
-pub branch-returns-in_err-side : goal.branch-returns-in_err-side
-unfolding if_deed
-branch-returns-in_err-side g t c = record {
-  gives =
-      refused _ c.from_residual.result _ (closed kind.Then condition (toks_of c.args.tokens.now)) _ c.from_residual.ensures.1
-      (λ none. rw none refl) c.in_err-side.ensures.gives;
-  shorter = refused_shorter c.from_residual.result _ c.args.tokens.now c.from_residual.ensures.1;
-}
-
-pub branch-returns-in_err-yes : goal.branch-returns-in_err-yes
-unfolding if_deed
-branch-returns-in_err-yes g t c = record {
-  gives =
-      let r = c.from_residual-in_err-yes in
-      refused _ r.result _ (closed kind.Else section (toks_of c.in_ok-side.opened.now)) _ r.ensures.1
-      (λ none. rw (c.in_ok-side.ensures.gives, none) refl) c.in_err-yes.ensures.gives;
-  shorter = let r = c.from_residual-in_err-yes in refused_shorter r.result _ c.args.tokens.now r.ensures.1;
-}
-
-pub branch-returns-in_err-no : goal.branch-returns-in_err-no
-unfolding if_deed
-branch-returns-in_err-no g t c = record {
-  gives =
-      let r = c.from_residual-in_err-no in
-      refused _ r.result _ (closed kind.Fi section (toks_of c.in_ok-yes.between.now)) _ r.ensures.1
-      (λ none. rw (c.in_ok-side.ensures.gives, c.in_ok-yes.ensures.gives, none) refl) c.in_err-no.ensures.gives;
-  shorter = let r = c.from_residual-in_err-no in refused_shorter r.result _ c.args.tokens.now r.ensures.1;
-}
-
 pub branch-returns : goal.branch-returns
 unfolding if_deed
 branch-returns g t c = record {
@@ -220,25 +191,6 @@ branch-returns g t c = record {
         deed_of-If c.in_ok-side.side c.in_ok-yes.yes c.in_ok-no.no,
       ) refl;
   shorter = less_still (less_still c.in_ok-no.ensures.shorter c.in_ok-yes.ensures.shorter) c.in_ok-side.ensures.shorter;
-}
-
-pub repeat-returns-in_err-side : goal.repeat-returns-in_err-side
-unfolding while_deed
-repeat-returns-in_err-side g t c = record {
-  gives =
-      refused _ c.from_residual.result _ (closed kind.Do condition (toks_of c.args.tokens.now)) _ c.from_residual.ensures.1
-      (λ none. rw none refl) c.in_err-side.ensures.gives;
-  shorter = refused_shorter c.from_residual.result _ c.args.tokens.now c.from_residual.ensures.1;
-}
-
-pub repeat-returns-in_err-body : goal.repeat-returns-in_err-body
-unfolding while_deed
-repeat-returns-in_err-body g t c = record {
-  gives =
-      let r = c.from_residual-in_err-body in
-      refused _ r.result _ (closed kind.Od section (toks_of c.in_ok-side.opened.now)) _ r.ensures.1
-      (λ none. rw (c.in_ok-side.ensures.gives, none) refl) c.in_err-body.ensures.gives;
-  shorter = let r = c.from_residual-in_err-body in refused_shorter r.result _ c.args.tokens.now r.ensures.1;
 }
 
 pub repeat-returns : goal.repeat-returns

@@ -11,26 +11,6 @@ use Rattle.syntax.proofs.reader.Reader.asking.Goals as goal
 pub enclosed-requires : goal.enclosed-requires
 enclosed-requires g c = strict_expression
 
-pub returns-in_err-target-clause-gives : goal.returns-in_err-target-clause-gives
-unfolding asking
-returns-in_err-target-clause-gives g c =
-    refused _ c.from_residual.result _ (closed kind.Assign name (toks_of c.args.tokens.now)) _ c.from_residual.ensures.1 (λ none. rw none refl)
-    c.in_err-target.ensures.gives
-
-pub returns-in_err-name-clause-gives : goal.returns-in_err-name-clause-gives
-unfolding asking
-returns-in_err-name-clause-gives g c =
-    let r = c.from_residual-in_err-name in
-    refused _ r.result _ (name (toks_of c.in_ok-target.behind.now)) _ r.ensures.1 (λ none. rw (c.in_ok-target.ensures.gives, none) refl)
-    c.in_err-name.ensures.gives
-
-pub returns-in_err-arguments-clause-gives : goal.returns-in_err-arguments-clause-gives
-unfolding asking
-returns-in_err-arguments-clause-gives g c =
-    let r = c.from_residual-in_err-arguments in
-    refused _ r.result _ (argument_list (toks_of c.in_ok-name.opened.now)) _ r.ensures.1
-    (λ none. rw (c.in_ok-target.ensures.gives, c.in_ok-name.ensures.gives, none) refl) c.in_err-arguments.ensures.gives
-
 pub returns : goal.returns
 unfolding asking
 returns g c = record {

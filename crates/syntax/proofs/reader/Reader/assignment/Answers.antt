@@ -13,19 +13,6 @@ listed-requires g c = strict_name
 pub listed-requires-2 : goal.listed-requires-2
 listed-requires-2 g c = strict_right
 
-pub returns-in_err-targets-clause-gives : goal.returns-in_err-targets-clause-gives
-unfolding assignment
-returns-in_err-targets-clause-gives g c =
-    refused _ c.from_residual.result _ (listed name kind.Assign (toks_of c.args.tokens.now)) _ c.from_residual.ensures.1 (λ none. rw none refl)
-    c.in_err-targets.ensures.gives
-
-pub returns-in_err-sides-clause-gives : goal.returns-in_err-sides-clause-gives
-unfolding assignment
-returns-in_err-sides-clause-gives g c =
-    let r = c.from_residual-in_err-sides in
-    refused _ r.result _ (listed right kind.Semicolon (toks_of c.in_ok-targets.others.now)) _ r.ensures.1
-    (λ none. rw (c.in_ok-targets.ensures.gives, none) refl) c.in_err-sides.ensures.gives
-
 pub returns-clause-gives : goal.returns-clause-gives
 unfolding assignment
 returns-clause-gives g c =

@@ -7,12 +7,6 @@ use Rattle.syntax.proofs.Closings.{closed_read, shorter_behind, none_read, none_
 use Rattle.syntax.proofs.Exits.{refused}
 use Rattle.syntax.proofs.reader.Reader.enclosed.Goals as goal
 
-pub returns-in_err-inside-clause-gives : goal.returns-in_err-inside-clause-gives
-unfolding enclosed
-returns-in_err-inside-clause-gives g c =
-    refused _ c.from_residual.result _ (take kind.Open (toks_of c.args.tokens.now)) _ c.from_residual.ensures.1
-    (λ none. rw none refl) c.in_err-inside.ensures.gives
-
 pub returns-then-begins-clause-gives : goal.returns-then-begins-clause-gives
 unfolding enclosed
 returns-then-begins-clause-gives g c =

@@ -8,12 +8,6 @@ use Rattle.syntax.proofs.Closings.{closed_read, closed_shorter, shorter_behind}
 use Rattle.syntax.proofs.Exits.{refused}
 use Rattle.syntax.proofs.reader.Reader.test.Goals as goal
 
-pub returns-in_err-inside-clause-gives : goal.returns-in_err-inside-clause-gives
-unfolding condition
-returns-in_err-inside-clause-gives g c =
-    refused _ c.from_residual.result _ (take kind.Open (toks_of c.args.tokens.now)) _ c.from_residual.ensures.1
-    (λ none. rw none refl) c.in_err-inside.ensures.gives
-
 pub returns : goal.returns
 unfolding condition
 returns g c =
