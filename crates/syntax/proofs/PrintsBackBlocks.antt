@@ -2,7 +2,7 @@
 use Rattle.std.proofs.Common.{◌≡◌, ℕ, zero, suc, ◌+◌, List, [], ◌∷◌, ◌++◌, length, map, refl, sym, ◌∙◌, ap, subst, append_assoc, arith}
 use Rattle.std.proofs.Common.{Option, None, Some}
 use Rattle.language.specs.Tree.{Name, Expression, RightSide, Simple, skip, assign, assert, assume, goto, leave, leave_with, call, call_for}
-use Rattle.language.specs.Tree.{Block, done, one, choose, loop}
+use Rattle.language.specs.Tree.{Mark, Block, done, one, choose, loop}
 use Rattle.tokens.specs.declared.vocabulary.Kind.{Kind}
 use Rattle.tokens.specs.declared.vocabulary.Kind.TheVariants as kind
 use Rattle.tokens.specs.Token.{Tok}
@@ -131,6 +131,12 @@ mark_shows (Some l) placed k w others more is at =
       reads = labelled refl (takes refl);
     }
 
+-- a mark in front of a test
+mark_before_test : (m : Mark Name) (first last : Kind) (r : RightSide Name) (behind : List Part) (at : ℕ)
+    → Read IsMarked unplaced_mark m (tokens_of at (label_parts m.label ++ (test_parts first r last ++ (line ∷ behind))))
+    (test_parts first r last ++ (line ∷ behind))
+mark_before_test m first last r behind at = mark_shows m.label m.at first (spelling first) _ _ refl at
+
 -- Margins leave no token.
 margin_at : (level at : ℕ) (ps : List Part) → (n : ℕ) × (tokens_of at (margin level ++ ps) ≡ tokens_of n ps)
 margin_at zero at ps = (at, refl)
@@ -227,9 +233,7 @@ block_shows (choose m r a b k) ok level at more =
     let from_fi : List Part = line_parts level (fixed kind.Fi ∷ []) ++ rest in
     let from_else : List Part = line_parts level (fixed kind.Else ∷ []) ++ (block_parts (suc level) b ++ from_fi) in
     let start = first_line level at (label_parts m.label) (test_parts kind.If r kind.Then) (block_parts (suc level) a ++ from_else) in
-    let mark =
-    mark_shows m.label m.at kind.If (spelling kind.If) _
-    (test_parts kind.If r kind.Then ++ (line ∷ (block_parts (suc level) a ++ from_else))) refl start.0 in
+    let mark = mark_before_test m kind.If kind.Then r (block_parts (suc level) a ++ from_else) start.0 in
     let test = test_shows kind.If r kind.Then mark.next (line ∷ (block_parts (suc level) a ++ from_else)) in
     let yes = block_shows a ok.3 (suc level) (test.next + 1) from_else in
     let between = word_at kind.Else level yes.next (block_parts (suc level) b ++ from_fi) in
@@ -254,9 +258,7 @@ block_shows (loop m r a k) ok level at more =
     let rest : List Part = block_parts level k ++ more in
     let from_od : List Part = line_parts level (fixed kind.Od ∷ []) ++ rest in
     let start = first_line level at (label_parts m.label) (test_parts kind.While r kind.Do) (block_parts (suc level) a ++ from_od) in
-    let mark =
-    mark_shows m.label m.at kind.While (spelling kind.While) _
-    (test_parts kind.While r kind.Do ++ (line ∷ (block_parts (suc level) a ++ from_od))) refl start.0 in
+    let mark = mark_before_test m kind.While kind.Do r (block_parts (suc level) a ++ from_od) start.0 in
     let test = test_shows kind.While r kind.Do mark.next (line ∷ (block_parts (suc level) a ++ from_od)) in
     let body = block_shows a ok.3 (suc level) (test.next + 1) from_od in
     let end = word_at kind.Od level body.next rest in

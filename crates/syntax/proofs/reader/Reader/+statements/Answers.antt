@@ -113,18 +113,6 @@ statements-loop-rest-preserved g t c = record {
   shorter = search rules;
 }
 
-pub statements-returns-in_err-first-clause-gives : goal.statements-returns-in_err-first-clause-gives
-statements-returns-in_err-first-clause-gives g t c =
-    refused _ c.from_residual.result _ (item (toks_of c.args.tokens.now)) _ c.from_residual.ensures.1
-    (sections_no_start (toks_of c.args.tokens.now)) c.in_err-first.ensures.gives
-
-pub statements-returns-in_err-next-clause-gives : goal.statements-returns-in_err-next-clause-gives
-statements-returns-in_err-next-clause-gives g t c =
-    refused _ c.from_residual-in_err-next.result _ (item (toks_of c.loop-rest.rest.now)) _
-    c.from_residual-in_err-next.ensures.1
-    (λ none. c.loop-rest.invariant.whole ∙ sections_refused (items_of c.loop-rest.list.items) (toks_of
-    c.loop-rest.rest.now) (sym c.begins_statement.ensures ∙ c.loop-rest-test.true) none) c.in_err-next.ensures.gives
-
 pub core-returns-in-Id-clause-gives : goal.core-returns-in-Id-clause-gives
 core-returns-in-Id-clause-gives g t c =
     rw (deed_calls c.args.tokens.now c.in-Some.others.now c.in-Some.first.now c.in-Some.ensures.cases.0
@@ -141,17 +129,6 @@ core-returns-in-Id-3-clause-gives g t c =
     rw (deed_assigns c.args.tokens.now c.in-Some.others.now c.in-Some.first.now c.in-Some.ensures.cases.0
     c.in-Id.is (search rules) (sym c.asks_behind.ensures ∙ c.if-asks_behind.false))
     c.assignment.ensures.gives
-
-pub statement-returns-in_err-label-clause-gives : goal.statement-returns-in_err-label-clause-gives
-statement-returns-in_err-label-clause-gives g t c =
-    refused _ c.from_residual.result _ (marked (toks_of c.args.tokens.now)) _ c.from_residual.ensures.1
-    (item_no_mark (toks_of c.args.tokens.now)) c.in_err-label.ensures.gives
-
-pub statement-returns-in_err-core-clause-gives : goal.statement-returns-in_err-core-clause-gives
-statement-returns-in_err-core-clause-gives g t c =
-    refused _ c.from_residual-in_err-core.result _ (deed (toks_of c.in_ok-label.others.now)) _
-    c.from_residual-in_err-core.ensures.1
-    (item_no_deed (toks_of c.args.tokens.now) c.in_ok-label.ensures.gives) c.in_err-core.ensures.gives
 
 pub statement-returns-clause-gives : goal.statement-returns-clause-gives
 statement-returns-clause-gives g t c =
@@ -200,26 +177,3 @@ repeat-returns g t c = record {
       rw (c.in_ok-side.ensures.gives, c.in_ok-body.ensures.gives, deed_of-While c.in_ok-side.side c.in_ok-body.body) refl;
   shorter = less_still c.in_ok-body.ensures.shorter c.in_ok-side.ensures.shorter;
 }
-
-pub core-returns-in_default-clause-gives : goal.core-returns-in_default-clause-gives
-unfolding deed
-core-returns-in_default-clause-gives g t c = at_end deed (λ ts. None) refl c.args.tokens.now c.in_default.ensures.cases
-
-pub core-returns-in_default-clause-shorter : goal.core-returns-in_default-clause-shorter
-core-returns-in_default-clause-shorter g t c = tt
-
-pub core-returns-in_default-kind : goal.core-returns-in_default-kind
-core-returns-in_default-kind g t c = record {
-  gives =
-      let n = c.in_default-kind in
-      no_deed_begins c.args.tokens.now c.in-Some.others.now c.in-Some.first.now c.in-Some.ensures.cases.0
-      n.not-Skip n.not-Return n.not-Goto n.not-Assert n.not-Assume n.not-If n.not-While n.not-Id;
-  shorter = tt;
-}
-
-pub statement-returns-clause-shorter : goal.statement-returns-clause-shorter
-statement-returns-clause-shorter g t c = no_more c.in_ok-core.ensures.shorter c.in_ok-label.ensures.no_longer
-
-pub statements-returns-in_err-put-clause-gives : goal.statements-returns-in_err-put-clause-gives
-statements-returns-in_err-put-clause-gives g t c =
-    short_of_memory _ c.from_residual-in_err-put.result _ _ c.from_residual-in_err-put.ensures.1 c.in_err-put.ensures.err

@@ -19,14 +19,6 @@ loop-rest-preserved g c = record {
   no_longer = omega (arith, c.loop-rest.invariant.no_longer, c.in_ok-next.ensures.shorter);
 }
 
-pub returns-in_err-next-clause-gives : goal.returns-in_err-next-clause-gives
-returns-in_err-next-clause-gives g c =
-    refused _ c.from_residual-in_err-next.result _ (declaration (toks_of c.loop-rest.rest.now)) _
-    c.from_residual-in_err-next.ensures.1
-    (λ none. c.loop-rest.invariant.whole ∙ declarations_refused (names_of c.loop-rest.list.items)
-    (toks_of c.loop-rest.rest.now) (sym c.begins.ensures ∙ c.loop-rest-test.true) none)
-    c.in_err-next.ensures.gives
-
 pub returns-clause-gives : goal.returns-clause-gives
 returns-clause-gives g c =
     c.loop-rest.invariant.whole ∙ declarations_end (names_of c.loop-rest.list.items)

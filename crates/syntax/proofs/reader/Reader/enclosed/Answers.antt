@@ -17,16 +17,7 @@ returns-then-begins-clause-gives g c =
     (sym c.begins.ensures ∙ c.if-begins.true) c.none.ensures.ok c.none.ensures.err)
     c.closed.ensures)
 
-pub returns-then-begins-clause-shorter : goal.returns-then-begins-clause-shorter
-returns-then-begins-clause-shorter g c =
-    none_shorter c.none.result c.closed.result kind.Close c.in_ok-inside.inside.now c.args.tokens.now c.in_ok-inside.ensures.shorter
-    c.none.ensures.ok c.closed.ensures
-
 pub returns-clause-gives : goal.returns-clause-gives
 unfolding enclosed
 returns-clause-gives g c =
     rw (c.in_ok-inside.ensures.gives, sym c.begins.ensures ∙ c.if-begins.false) c.listed.ensures.gives
-
-pub returns-clause-shorter : goal.returns-clause-shorter
-returns-clause-shorter g c =
-    shorter_behind c.listed.result c.in_ok-inside.inside.now c.args.tokens.now c.in_ok-inside.ensures.shorter c.listed.ensures.shorter
