@@ -1,7 +1,7 @@
 -- What comes before a closing token is seen as before.
-use Rattle.std.specs.Prelude.{Result, Ok, Err, option_and_then, IfOk, IsOkUnless, IsErrAnd}
+use Rattle.std.specs.Prelude.{Result, Ok, Err, option_and_then, IfOk, IsOkUnless}
 use Rattle.std.specs.declared.vec.Vec.{Vec}
-use Rattle.std.proofs.Common.{◌≡◌, ◌<◌, ◌≤◌, ℕ, true, List, [], ◌∷◌, length, map, Option, Some, None, refl, arith}
+use Rattle.std.proofs.Common.{◌≡◌, ◌<◌, ◌≤◌, ℕ, true, List, [], length, map, Option, Some, None, refl, arith}
 use denote.Ref.{Bor}
 use Rattle.tokens.specs.declared.vocabulary.Kind.{Kind}
 use Rattle.tokens.specs.declared.vocabulary.Token.{Token}
@@ -63,24 +63,9 @@ pub shorter_behind : {X : Type 0} (r : Result (X × Bor (List Token)) ReadFault)
 shorter_behind (Ok p) us ts less h = omega (arith, less, h)
 shorter_behind (Err e) us ts less h = tt
 
-pub shorter_after_one : {X : Type 0} (r : Result (X × Bor (List Token)) ReadFault) (t : Token) (us ts : List Token) → ts ≡ t ∷ us
-    → Shorter r us → Shorter r ts
-shorter_after_one r t us ts is h = shorter_behind r us ts (rw is (omega arith)) h
-
-pub refused_shorter : {X : Type 0} (r : Result (X × Bor (List Token)) ReadFault) (e : ReadFault) (ts : List Token)
-    → IsErrAnd r (λ y. y ≡ e) → Shorter r ts
-refused_shorter (Ok p) e ts h = absurd h
-refused_shorter (Err f) e ts h = tt
-
 -- no values, before a closing parenthesis
 pub none_read : {X Y A : Type 0} (view : X → Y) (parser : Parser Y) (r : Result (Vec X A × Bor (List Token)) ReadFault)
     (ts : List Token) → begins kind.Close (toks_of ts) ≡ true → IfOk r (λ p. (p.0.items ≡ []) × (p.1.now ≡ ts))
     → IsOkUnless r fault.Memory → Parses (λ v. map view v.items) r (perhaps parser) ts
 none_read view parser (Ok p) ts h ok err = rw (h, ok.0, ok.1) refl
 none_read view parser (Err e) ts h ok err = rw err tt
-
-pub none_shorter : {X A : Type 0} (read r : Result (Vec X A × Bor (List Token)) ReadFault) (k : Kind) (us ts : List Token)
-    → length us < length ts → IfOk read (λ p. (p.0.items ≡ []) × (p.1.now ≡ us)) → Closes k read r → Shorter r ts
-none_shorter (Ok p) r k us ts less ok c = shorter_behind r us ts less (rw ok.1 at c.1)
-none_shorter (Err e) (Ok q) k us ts less ok c = absurd c
-none_shorter (Err e) (Err f) k us ts less ok c = tt

@@ -16,9 +16,3 @@ pub refused : {X Y Z : Type 0} (view : X → Z) (r : Result X ReadFault) (e : Re
     → Gives view r other
 refused view (Ok x) e given other same h f = absurd same
 refused view (Err y) e given other same h f = rw same (fails_on e given other h f)
-
--- lack of memory says nothing of the tokens
-pub short_of_memory : {X Z : Type 0} (view : X → Z) (r : Result X ReadFault) (e : ReadFault) (other : Option Z)
-    → IsErrAnd r (λ y. y ≡ e) → e ≡ fault.Memory → Gives view r other
-short_of_memory view (Ok x) e other same is = absurd same
-short_of_memory view (Err y) e other same is = rw (same, is) tt

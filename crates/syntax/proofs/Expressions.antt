@@ -339,20 +339,3 @@ pub operand_begins : (k : Kind) (ts us : List Token) (t : Token) → ts ≡ t �
     ≡ operand_step reading (record { kind = k; at = t.at; text = t.text.now }) (toks_of us)
 unfolding operand
 operand_begins k ts us t e is = rw (e, is) refl
-
--- nothing is read where no operand begins
-no_operand_by : (k : Kind) (at : ℕ) (text : List ℕ) (us : List Tok) → (k ≡ kind.Zero → ⊥) → (k ≡ kind.One → ⊥)
-    → (k ≡ kind.Id → ⊥) → (k ≡ kind.Not → ⊥) → (k ≡ kind.Open → ⊥)
-    → operand_step reading (record { kind = k; at = at; text = text }) us ≡ None
-unfolding same_kind
-no_operand_by kind.Zero at text us z o i n p = absurd (z refl)
-no_operand_by kind.One at text us z o i n p = absurd (o refl)
-no_operand_by kind.Id at text us z o i n p = absurd (i refl)
-no_operand_by kind.Not at text us z o i n p = absurd (n refl)
-no_operand_by kind.Open at text us z o i n p = absurd (p refl)
-no_operand_by _ at text us z o i n p = refl
-
-pub no_operand_begins : (ts us : List Token) (t : Token) → ts ≡ t ∷ us → (t.kind ≡ kind.Zero → ⊥) → (t.kind ≡ kind.One → ⊥)
-    → (t.kind ≡ kind.Id → ⊥) → (t.kind ≡ kind.Not → ⊥) → (t.kind ≡ kind.Open → ⊥) → operand (toks_of ts) ≡ None
-no_operand_begins ts us t e z o i n p =
-    operand_begins t.kind ts us t e refl ∙ no_operand_by t.kind t.at t.text.now (toks_of us) z o i n p

@@ -1,6 +1,6 @@
 -- The steps of the loop that reads statements.
 use Rattle.std.specs.Prelude.{option_and_then}
-use Rattle.std.proofs.Common.{◌≡◌, ℕ, true, false, List, [], ◌∷◌, ◌++◌, Option, Some, None, refl, sym, ◌∙◌, ap}
+use Rattle.std.proofs.Common.{◌≡◌, true, false, List, [], ◌∷◌, ◌++◌, Option, Some, None, refl, sym, ◌∙◌, ap}
 use Rattle.language.specs.Tree.{Name, leave, Block, done, Mark}
 use Rattle.tokens.specs.declared.vocabulary.Kind.{Kind}
 use Rattle.tokens.specs.declared.vocabulary.Kind.TheVariants as kind
@@ -64,28 +64,6 @@ pub deed_begins : (k : Kind) (ts us : List Token) (t : Token) → ts ≡ t ∷ u
 unfolding deed
 deed_begins k ts us t e is = rw (e, is) refl
 
--- nothing is read where no statement begins
-no_deed_by : (k : Kind) (at : ℕ) (text : List ℕ) (us : List Tok) → (k ≡ kind.Skip → ⊥) → (k ≡ kind.Return → ⊥)
-    → (k ≡ kind.Goto → ⊥) → (k ≡ kind.Assert → ⊥) → (k ≡ kind.Assume → ⊥) → (k ≡ kind.If → ⊥) → (k ≡ kind.While → ⊥)
-    → (k ≡ kind.Id → ⊥) → deed_by section (record { kind = k; at = at; text = text }) us ≡ None
-unfolding same_kind
-no_deed_by kind.Skip at text us s r g a m f w i = absurd (s refl)
-no_deed_by kind.Return at text us s r g a m f w i = absurd (r refl)
-no_deed_by kind.Goto at text us s r g a m f w i = absurd (g refl)
-no_deed_by kind.Assert at text us s r g a m f w i = absurd (a refl)
-no_deed_by kind.Assume at text us s r g a m f w i = absurd (m refl)
-no_deed_by kind.If at text us s r g a m f w i = absurd (f refl)
-no_deed_by kind.While at text us s r g a m f w i = absurd (w refl)
-no_deed_by kind.Id at text us s r g a m f w i = absurd (i refl)
-no_deed_by _ at text us s r g a m f w i = refl
-
-pub no_deed_begins : (ts us : List Token) (t : Token) → ts ≡ t ∷ us → (t.kind ≡ kind.Skip → ⊥) → (t.kind ≡ kind.Return → ⊥)
-    → (t.kind ≡ kind.Goto → ⊥) → (t.kind ≡ kind.Assert → ⊥) → (t.kind ≡ kind.Assume → ⊥) → (t.kind ≡ kind.If → ⊥)
-    → (t.kind ≡ kind.While → ⊥) → (t.kind ≡ kind.Id → ⊥) → deed (toks_of ts) ≡ None
-no_deed_begins ts us t e s r g a m f w i =
-    deed_begins t.kind ts us t e refl
-    ∙ no_deed_by t.kind t.at t.text.now (toks_of us) s r g a m f w i
-
 -- `return` stands alone, or a value follows
 pub deed_leaves : (ts us : List Token) (t : Token) → ts ≡ t ∷ us → t.kind ≡ kind.Return
     → begins kind.Semicolon (toks_of us) ≡ true → deed (toks_of ts) ≡ semicolon_after (simple leave) (toks_of us)
@@ -114,10 +92,6 @@ unfolding deed named same_kind
 deed_assigns ts us t e is h g = rw (e, is, h, g) refl
 
 -- a statement is a mark and what it does
-pub item_no_mark : (ts : List Tok) → marked ts ≡ None → item ts ≡ None
-unfolding item
-item_no_mark ts e = rw e refl
-
 module _ (ts : List Tok) {m : Mark Name} {us : List Tok} (e : marked ts ≡ Some (m, us)) where
   abbrev with_mark : Parser Item
   with_mark = deed >>= λ d. give (record { mark = m; deed = d })
@@ -125,9 +99,6 @@ module _ (ts : List Tok) {m : Mark Name} {us : List Tok} (e : marked ts ≡ Some
   item_behind : item ts ≡ with_mark us
   unfolding item deed
   item_behind = bind_is marked (λ m. deed_step section >>= λ d. give (record { mark = m; deed = d })) ts m us e
-
-  pub item_no_deed : deed us ≡ None → item ts ≡ None
-  item_no_deed f = item_behind ∙ rw f refl
 
   pub item_whole : {d : Deed} {rest : List Tok} → deed us ≡ Some (d, rest)
       → item ts ≡ Some (record { mark = m; deed = d }, rest)

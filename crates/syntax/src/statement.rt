@@ -122,7 +122,7 @@ impl<'a, A: Allocator + Clone> Reader<'a, A> {
     }
 
     /// Reads a call.
-    #[tactic(auto, unfolding(crate::specs::Exact::calling))]
+    #[tactic(auto, using(crate::proofs::Parts::strict_expression), unfolding(crate::specs::Exact::calling))]
     fn calling<'t>(&self, tokens: &'t [Token<'t>]) -> Read<'t, Core<A>>
         ensures gives { Parses deed_of result calling tokens.now }
         ensures shorter { Shorter result tokens.now }
@@ -133,7 +133,7 @@ impl<'a, A: Allocator + Clone> Reader<'a, A> {
     }
 
     /// Reads a call for a value.
-    #[tactic(auto, unfolding(crate::specs::Exact::asking))]
+    #[tactic(auto, using(crate::proofs::Parts::strict_expression), unfolding(crate::specs::Exact::asking))]
     fn asking<'t>(&self, tokens: &'t [Token<'t>]) -> Read<'t, Core<A>>
         ensures gives { Parses deed_of result asking tokens.now }
         ensures shorter { Shorter result tokens.now }

@@ -1,7 +1,5 @@
 use Rattle.std.proofs.Common.{refl}
-use Rattle.tokens.specs.Token.{toks_of}
-use Rattle.syntax.specs.Exact.{name, formals, insides, procedure}
-use Rattle.syntax.proofs.Exits.{refused}
+use Rattle.syntax.specs.Exact.{procedure}
 use Rattle.syntax.proofs.program.ProcElement.read.Goals as goal
 
 pub returns-clause-gives : goal.returns-clause-gives

@@ -1,47 +1,18 @@
-use Rattle.std.proofs.Common.{rules, arith, ◌≡◌, ◌+◌, ◌*◌, ◌<◌, ℕ, length, true, false, refl, List, ◌∷◌, ◌∙◌, sym, ap, Some, None}
+use Rattle.std.proofs.Common.{rules, ◌≡◌, true, false, refl, List, ◌∙◌, sym, ap, Some}
 use Rattle.language.specs.Tree.{Name, Expression, two}
 use Rattle.grammar.specs.Grammar.{right_level}
-use Rattle.syntax.specs.Exact.{reading, from, after, operand}
+use Rattle.syntax.specs.Exact.{reading, from, after}
 use Rattle.trees.specs.Trees.{operator_of, expr_of}
 use Rattle.tokens.specs.declared.vocabulary.Token.{Token}
 use Rattle.tokens.specs.Token.{tok_of, toks_of, same_kind}
 use Rattle.tokens.specs.declared.vocabulary.Kind.TheVariants as kind
-use Rattle.syntax.proofs.Closings.{closed_read, closed_shorter, less_still, shorter_after_one}
-use Rattle.syntax.proofs.Exits.{refused, short_of_memory}
-use Rattle.syntax.proofs.Expressions.{operand_begins, no_operand_begins, starts, no_start, goes_on, no_right}
+use Rattle.syntax.proofs.Closings.{closed_read}
+use Rattle.syntax.proofs.Expressions.{operand_begins, starts, goes_on}
 use Rattle.syntax.proofs.Expressions.{ends_before, stops_at_end}
 use Rattle.syntax.proofs.ChainLemmas.{at_end}
 use Rattle.trees.proofs.Folds.{expr_of-Const, expr_of-Var, expr_of-Not, expr_of-Two}
 use Rattle.syntax.proofs.reader.Reader.+expressions.Goals as goal
 use Rattle.syntax.proofs.reader.Reader.+expressions.Goals.{expression-in-Some+in_default-operator_of_kind, expression-in_default}
-
--- The measures of calls: fewer tokens, or as many and a function further down.
-same_less : (n : ℕ) → 2 * n < 2 * n + 1
-same_less n = omega arith
-
-one_less : {A : Type 0} {x : A} {xs ys : List A} → ys ≡ x ∷ xs → length xs < length ys
-one_less is = rw is (omega arith)
-
-operand_less : {A : Type 0} {x : A} {xs ys : List A} → ys ≡ x ∷ xs → 2 * length xs + 1 < 2 * length ys
-operand_less {A} {x} {xs} {ys} is = rw is (omega arith)
-
-right_less : {A : Type 0} {x : A} {xs ys : List A} {n : ℕ} → ys ≡ x ∷ xs → length ys < n → 2 * length xs + 1 < 2 * n + 1
-right_less {A} {x} {xs} {ys} {n} is less =
-    let h : length ys ≡ length xs + 1 = rw is (omega arith) in
-    omega (arith, h, less)
-
-pub expression-operand-requires : goal.expression-operand-requires
-expression-operand-requires g t c κs within = (rw (← c.decreases) (same_less _), within)
-
-pub expression-expression-requires : goal.expression-expression-requires
-expression-expression-requires g t c κs within =
-    (rw (← c.decreases) (right_less c.in-Some.ensures.cases.0 c.loop-first.invariant.shorter), within)
-
-pub operand-expression-requires : goal.operand-expression-requires
-operand-expression-requires g t c κs within = (rw (← c.decreases) (operand_less c.in-Some.ensures.cases.0), within)
-
-pub operand-expression-requires-in-Open : goal.operand-expression-requires-in-Open
-operand-expression-requires-in-Open g t c κs within = (rw (← c.decreases) (operand_less c.in-Some.ensures.cases.0), within)
 
 pub expression-loop-first-preserved : goal.expression-loop-first-preserved
 expression-loop-first-preserved g t c = record {
@@ -49,7 +20,7 @@ expression-loop-first-preserved g t c = record {
       let op = c.in-Some-operator_of_kind.op in
       let right : reading (from (right_level (operator_of op))) (toks_of c.in-Some.others.now) ≡ Some
       (expr_of c.in_ok-right.right, toks_of c.in_ok-right.after.now) =
-      rw c.levels_of.ensures.right at c.in_ok-right.ensures.gives in
+      rw c.levels_of-level.ensures.right at c.in_ok-right.ensures.gives in
       c.loop-first.invariant.whole
       ∙ ap (λ (ts : List Token). reading (after c.args.least (expr_of c.loop-first.tree)) (toks_of ts)) c.in-Some.ensures.cases.0
       ∙ goes_on c.args.least (expr_of c.loop-first.tree) (expr_of c.in_ok-right.right) (tok_of c.in-Some.first.now)

@@ -1,15 +1,7 @@
-use Rattle.std.proofs.Common.{refl}
-use Rattle.tokens.specs.declared.vocabulary.Kind.TheVariants as kind
-use Rattle.tokens.specs.Token.{toks_of}
-use Rattle.syntax.specs.Exact.{asking, name, argument_list, closed}
+use Rattle.syntax.specs.Exact.{asking}
 use Rattle.syntax.proofs.Closings.{shorter_behind, less_still}
-use Rattle.syntax.proofs.Exits.{refused}
 use Rattle.trees.proofs.Folds.{deed_of-CallTo}
-use Rattle.syntax.proofs.Parts.{strict_expression}
 use Rattle.syntax.proofs.reader.Reader.asking.Goals as goal
-
-pub enclosed-requires : goal.enclosed-requires
-enclosed-requires g c = strict_expression
 
 pub returns : goal.returns
 unfolding asking

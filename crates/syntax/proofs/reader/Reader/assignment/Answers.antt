@@ -1,9 +1,6 @@
 use Rattle.std.proofs.Common.{refl}
-use Rattle.tokens.specs.declared.vocabulary.Kind.TheVariants as kind
-use Rattle.tokens.specs.Token.{toks_of}
 use Rattle.trees.proofs.Folds.{deed_of-Assign}
-use Rattle.syntax.specs.Exact.{assignment, listed, name, right}
-use Rattle.syntax.proofs.Exits.{refused}
+use Rattle.syntax.specs.Exact.{assignment}
 use Rattle.syntax.proofs.Parts.{strict_name, strict_right}
 use Rattle.syntax.proofs.reader.Reader.assignment.Goals as goal
 

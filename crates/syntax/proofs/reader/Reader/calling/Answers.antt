@@ -1,14 +1,7 @@
-use Rattle.std.proofs.Common.{refl}
-use Rattle.tokens.specs.Token.{toks_of}
-use Rattle.syntax.specs.Exact.{calling, name, argument_list}
-use Rattle.syntax.proofs.Exits.{refused}
-use Rattle.syntax.proofs.Closings.{less_still, shorter_behind, refused_shorter}
+use Rattle.syntax.specs.Exact.{calling}
+use Rattle.syntax.proofs.Closings.{less_still, shorter_behind}
 use Rattle.trees.proofs.Folds.{deed_of-Call}
-use Rattle.syntax.proofs.Parts.{strict_expression}
 use Rattle.syntax.proofs.reader.Reader.calling.Goals as goal
-
-pub enclosed-requires : goal.enclosed-requires
-enclosed-requires g c = strict_expression
 
 pub returns : goal.returns
 unfolding calling

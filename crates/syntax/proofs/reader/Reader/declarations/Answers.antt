@@ -1,10 +1,9 @@
 use Rattle.std.proofs.Common.{arith, List, ◌∙◌, ap, sym}
 use Rattle.language.specs.Tree.{Name}
-use Rattle.syntax.specs.Exact.{prepend, declaration, all_declarations}
+use Rattle.syntax.specs.Exact.{prepend, all_declarations}
 use Rattle.trees.specs.Trees.{name_of, names_of}
 use Rattle.tokens.specs.Token.{toks_of}
-use Rattle.syntax.proofs.Loops.{declarations_go_on, declarations_refused, declarations_end, appended}
-use Rattle.syntax.proofs.Exits.{refused}
+use Rattle.syntax.proofs.Loops.{declarations_go_on, declarations_end, appended}
 use Rattle.syntax.proofs.reader.Reader.declarations.Goals as goal
 
 pub loop-rest-preserved : goal.loop-rest-preserved

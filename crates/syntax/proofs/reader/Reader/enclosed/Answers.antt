@@ -1,10 +1,7 @@
-use Rattle.std.proofs.Common.{refl, sym, ◌∙◌, map}
+use Rattle.std.proofs.Common.{sym, ◌∙◌, map}
 use Rattle.tokens.specs.declared.vocabulary.Kind.TheVariants as kind
-use Rattle.tokens.specs.Token.{toks_of}
-use Rattle.syntax.specs.Parser.{take}
 use Rattle.syntax.specs.Exact.{enclosed, perhaps}
-use Rattle.syntax.proofs.Closings.{closed_read, shorter_behind, none_read, none_shorter}
-use Rattle.syntax.proofs.Exits.{refused}
+use Rattle.syntax.proofs.Closings.{closed_read, none_read}
 use Rattle.syntax.proofs.reader.Reader.enclosed.Goals as goal
 
 pub returns-then-begins-clause-gives : goal.returns-then-begins-clause-gives

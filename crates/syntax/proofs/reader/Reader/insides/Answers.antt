@@ -1,10 +1,6 @@
 use Rattle.std.proofs.Common.{refl}
-use Rattle.tokens.specs.declared.vocabulary.Kind.TheVariants as kind
-use Rattle.tokens.specs.Token.{toks_of}
-use Rattle.syntax.specs.Parser.{take}
-use Rattle.syntax.specs.Exact.{insides, all_declarations, section, closed}
-use Rattle.syntax.proofs.Closings.{less_still, no_more, refused_shorter}
-use Rattle.syntax.proofs.Exits.{refused}
+use Rattle.syntax.specs.Exact.{insides}
+use Rattle.syntax.proofs.Closings.{less_still, no_more}
 use Rattle.syntax.proofs.reader.Reader.insides.Goals as goal
 
 pub returns : goal.returns

@@ -1,6 +1,6 @@
 use Rattle.std.proofs.Common.{map}
 use Rattle.syntax.specs.Exact.{list}
-use Rattle.syntax.proofs.Closings.{closed_read, closed_shorter}
+use Rattle.syntax.proofs.Closings.{closed_read}
 use Rattle.syntax.proofs.reader.Reader.listed.Goals as goal
 
 pub returns-clause-gives : goal.returns-clause-gives

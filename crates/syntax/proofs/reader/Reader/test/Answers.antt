@@ -1,11 +1,7 @@
-use Rattle.std.proofs.Common.{refl}
 use Rattle.tokens.specs.declared.vocabulary.Kind.TheVariants as kind
-use Rattle.tokens.specs.Token.{toks_of}
 use Rattle.trees.specs.Trees.{rhs_of}
-use Rattle.syntax.specs.Parser.{take}
 use Rattle.syntax.specs.Exact.{closed, condition, right}
 use Rattle.syntax.proofs.Closings.{closed_read, closed_shorter, shorter_behind}
-use Rattle.syntax.proofs.Exits.{refused}
 use Rattle.syntax.proofs.reader.Reader.test.Goals as goal
 
 pub returns : goal.returns
