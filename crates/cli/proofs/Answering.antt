@@ -37,8 +37,7 @@ by_number (Summary p r a b) = numbered_summary p a (left b r)
 
 same_message : (d : Due) → due_of (by_number d) ≡ d
 same_message (Entry Starter a) = refl
-same_message (Entry (Proc q) a) = refl
-same_message (Summary p r a b) = refl
+same_message _ = refl
 
 -- the messages posted are those due
 due_members : (p : Program) (q : ℕ) (h : List (Event Due)) → AreDueOnce p q h → (d : Due)

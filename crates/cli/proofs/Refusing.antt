@@ -14,7 +14,7 @@ use Rattle.cli.specs.Rewritten.{IsRewriting}
 use Rattle.cli.specs.Verdict.{Answers}
 use Rattle.cli.specs.Written.{bytes_of}
 use Rattle.refusals.specs.declared.refusal.Refusal.{Refusal}
-use Rattle.refusals.specs.declared.refusal.Refusal.TheVariants.{EdgeLimit, Memory, NoWorker, Spent, TooWide, Unchecked, Unread}
+use Rattle.refusals.specs.declared.refusal.Refusal.TheVariants.{EdgeLimit, Memory, NoWorker, Spent, Unchecked, Unread}
 use Rattle.cli.specs.declared.reply.Reply.{Reply}
 
 -- a fault of scopes that is not lack of memory has its place
@@ -22,13 +22,7 @@ fault_place : (text : List ℕ) (fault : ScopeFault) → NamesOffset (Unchecked 
     → (t : Tree) × Text text t × ((fault ≡ scope.Memory) ⊎ IsFirstFault t fault) → HasPlace text
 fault_place text scope.Memory names stands = absurd names
 fault_place text fault names (t, of, inr first) = inr (t, fault, of, first)
-fault_place text (scope.Undeclared at) names (t, of, inl e) = cc
-fault_place text (scope.DeclaredTwice at) names (t, of, inl e) = cc
-fault_place text (scope.WrongCount at) names (t, of, inl e) = cc
-fault_place text (scope.BadThread at) names (t, of, inl e) = cc
-fault_place text (scope.BadLabel at) names (t, of, inl e) = cc
-fault_place text (scope.Reserved at) names (t, of, inl e) = cc
-fault_place text (scope.TooMany at) names (t, of, inl e) = cc
+fault_place text _ names (t, of, inl e) = cc
 
 -- a refusal whose line names an offset has its place
 has_place : (text : List ℕ) (rounds : ℕ) (limit : Option ℕ) (why : Refusal) → NamesOffset why
@@ -36,11 +30,7 @@ has_place : (text : List ℕ) (rounds : ℕ) (limit : Option ℕ) (why : Refusal
 has_place text rounds limit (Unread (read.Syntax at)) names stands = inl (at, stands)
 has_place text rounds limit (Unread fault) names stands = absurd names
 has_place text rounds limit (Unchecked fault) names stands = fault_place text fault names stands
-has_place text rounds limit (TooWide wide) names stands = absurd names
-has_place text rounds limit (EdgeLimit at) names stands = absurd names
-has_place text rounds limit Memory names stands = absurd names
-has_place text rounds limit NoWorker names stands = absurd names
-has_place text rounds limit Spent names stands = absurd names
+has_place text rounds limit _ names stands = absurd names
 
 -- what is reported if a refusal stands is a refusal that stands
 pub refuses : {A : Type 0} (text : List ℕ) (rounds : ℕ) (limit : Option ℕ) (why : Refusal) (reply : Reply A)
@@ -72,14 +62,8 @@ tells_many text rounds limit reply V few (inr why) many = why
 -- the status of a refusal is at least 2
 pub status_many : (why : Refusal) → 2 ≤ status_of why
 status_many (Unread read.Memory) = omega arith
-status_many (Unread fault) = omega arith
 status_many (Unchecked scope.Memory) = omega arith
-status_many (Unchecked fault) = omega arith
-status_many (TooWide wide) = omega arith
-status_many (EdgeLimit at) = omega arith
-status_many Memory = omega arith
-status_many NoWorker = omega arith
-status_many Spent = omega arith
+status_many _ = omega arith
 
 -- a reply with a smaller status gives no reason
 pub tells_none : {A : Type 0} (text : List ℕ) (rounds : ℕ) (limit : Option ℕ) (reply : Reply A) (V : Type 0)
@@ -109,24 +93,13 @@ past_there text rounds (Some edges) at (t, of, checked, (q, more, named)) = (t, 
 -- if the line is that of the edge limit, it is passed
 past_by : (text : List ℕ) (rounds : ℕ) (limit : Option ℕ) (why : Refusal) → RefusalStands text rounds limit why
     → line_of why ≡ edge_line → IsPast text rounds limit
-past_by text rounds limit (Unread read.TooLong) stands e = absurd (refused _ refl e)
-past_by text rounds limit (Unread read.NotAscii) stands e = absurd (refused _ refl e)
-past_by text rounds limit (Unread (read.Syntax at)) stands e = absurd (refused _ refl e)
-past_by text rounds limit (Unread read.TooDeep) stands e = absurd (refused _ refl e)
-past_by text rounds limit (Unread read.Memory) stands e = absurd (other _ 109 refl (λ same. omega (arith, same)) e)
-past_by text rounds limit (Unchecked (scope.Undeclared at)) stands e = absurd (refused _ refl e)
-past_by text rounds limit (Unchecked (scope.DeclaredTwice at)) stands e = absurd (refused _ refl e)
-past_by text rounds limit (Unchecked (scope.WrongCount at)) stands e = absurd (refused _ refl e)
-past_by text rounds limit (Unchecked (scope.BadThread at)) stands e = absurd (refused _ refl e)
-past_by text rounds limit (Unchecked (scope.BadLabel at)) stands e = absurd (refused _ refl e)
-past_by text rounds limit (Unchecked (scope.Reserved at)) stands e = absurd (refused _ refl e)
-past_by text rounds limit (Unchecked (scope.TooMany at)) stands e = absurd (refused _ refl e)
-past_by text rounds limit (Unchecked scope.Memory) stands e = absurd (other _ 109 refl (λ same. omega (arith, same)) e)
-past_by text rounds limit (TooWide wide) stands e = absurd (refused _ refl e)
 past_by text rounds limit (EdgeLimit at) stands e = past_there text rounds limit at stands
+past_by text rounds limit (Unread read.Memory) stands e = absurd (other _ 109 refl (λ same. omega (arith, same)) e)
+past_by text rounds limit (Unchecked scope.Memory) stands e = absurd (other _ 109 refl (λ same. omega (arith, same)) e)
 past_by text rounds limit Memory stands e = absurd (other _ 109 refl (λ same. omega (arith, same)) e)
 past_by text rounds limit NoWorker stands e = absurd (other _ 110 refl (λ same. omega (arith, same)) e)
 past_by text rounds limit Spent stands e = absurd (other _ 115 refl (λ same. omega (arith, same)) e)
+past_by text rounds limit _ stands e = absurd (refused _ refl e)
 
 pub is_past : {A : Type 0} (text : List ℕ) (rounds : ℕ) (limit : Option ℕ) (reply : Reply A)
     → RefusesFor text rounds limit reply → bytes_of reply ≡ edge_line → IsPast text rounds limit

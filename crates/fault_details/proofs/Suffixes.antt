@@ -1,5 +1,5 @@
 -- What a walk over the tokens finds.
-use Rattle.std.proofs.Common.{◌≡◌, ◌∙◌, sym, ap, ◌∷◌, [], ℕ, suc, ◌+◌, ◌<◌, List, true, false, arith, refl, cond, drop, drop-cons}
+use Rattle.std.proofs.Common.{◌≡◌, ◌∙◌, sym, ap, ◌∷◌, [], ℕ, suc, ◌+◌, ◌<◌, List, Bool, true, false, arith, refl, cond, drop, drop-cons}
 use Rattle.std.proofs.Common.{◌-◌, get_or, length, take}
 use Rattle.std.proofs.lemmas.List.{length-drop, take_all}
 use Rattle.tokens.specs.declared.vocabulary.Kind.TheVariants as kind
@@ -10,6 +10,15 @@ use Rattle.fault_details.specs.declared.seeking.Sought.{Sought}
 -- the token that an index past the end stands for
 pub blank : Token
 blank = record { kind = kind.Decl; at = 0; text = record { ref_ptr = (0, 0); now = [] } }
+
+-- all that is left
+pub whole : (ts : List Token) (i : ℕ) → take (length ts - i) (drop i ts) ≡ drop i ts
+whole ts i = take_all (length ts - i) (drop i ts) (rw length-drop (omega arith))
+
+-- what stands in all that is left stands there
+pub stands_there : {here : Bool} (what : Sought) (word : List ℕ) (ts : List Token) (i : ℕ)
+    → here ≡ stands what word (take (length ts - i) (drop i ts)) → {so : Bool} → here ≡ so → stands what word (drop i ts) ≡ so
+stands_there what word ts i is e = ap (stands what word) (sym (whole ts i)) ∙ sym is ∙ e
 
 -- what is sought stands first
 pub found : (what : Sought) (word : List ℕ) (ts : List Token) → stands what word ts ≡ true → ts ≡ seek what word ts
@@ -36,7 +45,3 @@ passed what word ts i within not_here =
 pub nowhere : (what : Sought) (word : List ℕ) → seek what word [] ≡ []
 unfolding seek
 nowhere what word = refl
-
--- all that is left
-pub whole : (ts : List Token) (i : ℕ) → take (length ts - i) (drop i ts) ≡ drop i ts
-whole ts i = take_all (length ts - i) (drop i ts) (rw length-drop (omega arith))

@@ -8,11 +8,7 @@ use Rattle.hints.specs.declared.group.Group.TheVariants as group
 
 -- A name, a constant and `)` end an operand.
 abbrev pub is_operand : Kind → Bool
-is_operand kind.Id = true
-is_operand kind.Zero = true
-is_operand kind.One = true
-is_operand kind.Close = true
-is_operand _ = false
+is_operand k = same_kind k kind.Id || same_kind k kind.Zero || same_kind k kind.One || same_kind k kind.Close
 
 -- A phrase begins with a keyword, `;`, `:`, `:=` or `(`: with all but operators, operands, `,` and `?`.
 abbrev pub is_head : Kind → Bool
@@ -20,17 +16,11 @@ is_head k = not (is_operator k || is_operand k || same_kind k kind.Comma || same
 
 -- A statement ends with these.
 abbrev pub is_ended : Kind → Bool
-is_ended kind.Semicolon = true
-is_ended kind.Fi = true
-is_ended kind.Od = true
-is_ended _ = false
+is_ended k = same_kind k kind.Semicolon || same_kind k kind.Fi || same_kind k kind.Od
 
 -- A block of statements begins after these, inside of an `if` or a `while`.
 abbrev pub is_branch : Kind → Bool
-is_branch kind.Then = true
-is_branch kind.Else = true
-is_branch kind.Do = true
-is_branch _ = false
+is_branch k = same_kind k kind.Then || same_kind k kind.Else || same_kind k kind.Do
 
 -- A statement comes directly after these, unless it has a label.
 abbrev pub is_start : Kind → Bool
@@ -38,10 +28,7 @@ is_start k = is_ended k || is_branch k || same_kind k kind.Begin
 
 -- `begin`, `if` and `while` are closed by a word of their own.
 abbrev pub is_opener : Kind → Bool
-is_opener kind.Begin = true
-is_opener kind.If = true
-is_opener kind.While = true
-is_opener _ = false
+is_opener k = same_kind k kind.Begin || same_kind k kind.If || same_kind k kind.While
 
 -- Statements are in the sections that these begin.
 abbrev pub is_section : Kind → Bool
@@ -49,11 +36,7 @@ is_section k = is_opener k || is_branch k
 
 -- `if`, `while`, `assert` and `assume` have a condition.
 abbrev pub is_test : Kind → Bool
-is_test kind.If = true
-is_test kind.While = true
-is_test kind.Assert = true
-is_test kind.Assume = true
-is_test _ = false
+is_test k = same_kind k kind.If || same_kind k kind.While || same_kind k kind.Assert || same_kind k kind.Assume
 
 -- The kind is in the group.
 abbrev pub includes : Group → Kind → Bool

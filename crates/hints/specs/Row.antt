@@ -26,16 +26,20 @@ pub record Row : Type 0 where
 abbrev pub Words : Type 0
 Words = Bor (List (Bor (List ℕ)))
 
+-- a row, by what its words and its texts refer to
+abbrev pub row_by : {W T : Type 0} → (W → List (List ℕ)) → (T → List ℕ) → Pattern × W × W × W × T × T → Row
+row_by words text r = record {
+  pattern = r.0;
+  after = words r.1;
+  of = words r.2;
+  at = words r.3;
+  front = text r.4;
+  back = text r.5;
+}
+
 -- a row of the program's type
 abbrev pub row_of : Pattern × Words × Words × Words × Bor (List ℕ) × Bor (List ℕ) → Row
-row_of r = record {
-  pattern = r.0;
-  after = map (λ (w : Bor (List ℕ)). w.now) r.1.now;
-  of = map (λ (w : Bor (List ℕ)). w.now) r.2.now;
-  at = map (λ (w : Bor (List ℕ)). w.now) r.3.now;
-  front = r.4.now;
-  back = r.5.now;
-}
+row_of = row_by (λ (ws : Words). map (λ (w : Bor (List ℕ)). w.now) ws.now) (λ (t : Bor (List ℕ)). t.now)
 
 -- What a constant has in place of a reference.
 abbrev pub Fixed : Type 0 → Type 0
@@ -47,14 +51,7 @@ FixedWords = Fixed (List (Fixed (List ℕ)))
 
 -- a row of a constant
 abbrev pub fixed_row : Pattern × FixedWords × FixedWords × FixedWords × Fixed (List ℕ) × Fixed (List ℕ) → Row
-fixed_row r = record {
-  pattern = r.0;
-  after = map (λ (w : Fixed (List ℕ)). w.now) r.1.now;
-  of = map (λ (w : Fixed (List ℕ)). w.now) r.2.now;
-  at = map (λ (w : Fixed (List ℕ)). w.now) r.3.now;
-  front = r.4.now;
-  back = r.5.now;
-}
+fixed_row = row_by (λ (ws : FixedWords). map (λ (w : Fixed (List ℕ)). w.now) ws.now) (λ (t : Fixed (List ℕ)). t.now)
 
 -- The word is one of these, or these are none.
 abbrev pub admits : List (List ℕ) → List ℕ → Bool

@@ -3,7 +3,7 @@
 ghost use Rattle.std.specs.Prelude.{◌≡◌};
 ghost use Rattle.hints.specs.Front as told;
 
-use crate::group::{Group, includes};
+use crate::group::{Group, includes, is_opener};
 use tokens::{Kind, Token};
 
 /// The brackets that are matched.
@@ -20,7 +20,7 @@ fn is_opening(brackets: Brackets, kind: Kind) -> bool
 {
     match brackets {
         Brackets::Parens => kind.is(Kind::Open),
-        Brackets::Blocks => matches!(kind, Kind::Begin | Kind::If | Kind::While),
+        Brackets::Blocks => is_opener(kind),
     }
 }
 

@@ -34,6 +34,7 @@ pub enum Group {
     Test,
 }
 
+#[tactic(auto, unfolding(tokens::specs::Token::same_kind))]
 fn is_operand(kind: Kind) -> bool
     ensures { result ≡ told.is_operand kind }
 {
@@ -46,12 +47,14 @@ fn is_head(kind: Kind) -> bool
     !(kind.is_operator() || is_operand(kind) || kind.is(Kind::Comma) || kind.is(Kind::Any))
 }
 
+#[tactic(auto, unfolding(tokens::specs::Token::same_kind))]
 fn is_ended(kind: Kind) -> bool
     ensures { result ≡ told.is_ended kind }
 {
     matches!(kind, Kind::Semicolon | Kind::Fi | Kind::Od)
 }
 
+#[tactic(auto, unfolding(tokens::specs::Token::same_kind))]
 fn is_branch(kind: Kind) -> bool
     ensures { result ≡ told.is_branch kind }
 {
@@ -64,7 +67,8 @@ fn is_start(kind: Kind) -> bool
     is_ended(kind) || is_branch(kind) || kind.is(Kind::Begin)
 }
 
-fn is_opener(kind: Kind) -> bool
+#[tactic(auto, unfolding(tokens::specs::Token::same_kind))]
+pub(crate) fn is_opener(kind: Kind) -> bool
     ensures { result ≡ told.is_opener kind }
 {
     matches!(kind, Kind::Begin | Kind::If | Kind::While)
@@ -76,6 +80,7 @@ fn is_section(kind: Kind) -> bool
     is_opener(kind) || is_branch(kind)
 }
 
+#[tactic(auto, unfolding(tokens::specs::Token::same_kind))]
 fn is_test(kind: Kind) -> bool
     ensures { result ≡ told.is_test kind }
 {

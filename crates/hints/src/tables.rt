@@ -14,46 +14,39 @@ use crate::row::Row;
 use crate::signs::SIGNS;
 use crate::words::WORDS;
 
-fn signs() -> &'static [Row]
-    ensures { map row_of result.now ≡ told.signs }
-{
-    SIGNS
+/// A table of rows.
+#[derive(Clone, Copy)]
+enum Table {
+    /// Signs and numbers of other languages.
+    Signs,
+    /// Words of other languages.
+    Words,
+    /// Declarations and thread lines.
+    Lines,
+    /// Heads and ends of procedures.
+    Procedures,
+    /// Beginnings of statements.
+    Blocks,
+    /// Statements, apart from expressions.
+    Statements,
+    /// Expressions and lists of them.
+    Expressions,
 }
 
-fn words() -> &'static [Row]
-    ensures { map row_of result.now ≡ told.words }
+/// The rows of a table.
+#[tactic(auto, unfolding(crate::specs::Tables::rows))]
+fn rows(table: Table) -> &'static [Row]
+    ensures { map row_of result.now ≡ told.rows table }
 {
-    WORDS
-}
-
-fn lines() -> &'static [Row]
-    ensures { map row_of result.now ≡ told.lines }
-{
-    LINES
-}
-
-fn procedures() -> &'static [Row]
-    ensures { map row_of result.now ≡ told.procedures }
-{
-    PROCEDURES
-}
-
-fn blocks() -> &'static [Row]
-    ensures { map row_of result.now ≡ told.blocks }
-{
-    BLOCKS
-}
-
-fn statements() -> &'static [Row]
-    ensures { map row_of result.now ≡ told.statements }
-{
-    STATEMENTS
-}
-
-fn expressions() -> &'static [Row]
-    ensures { map row_of result.now ≡ told.expressions }
-{
-    EXPRESSIONS
+    match table {
+        Table::Signs => SIGNS,
+        Table::Words => WORDS,
+        Table::Lines => LINES,
+        Table::Procedures => PROCEDURES,
+        Table::Blocks => BLOCKS,
+        Table::Statements => STATEMENTS,
+        Table::Expressions => EXPRESSIONS,
+    }
 }
 
 /// The first of two rows that is there.
@@ -71,9 +64,9 @@ fn or_row(first: Option<Row>, second: Option<Row>) -> Option<Row>
 fn row_inside(place: &Spot<'_>) -> Option<Row>
     ensures { option_map row_of result ≡ told.row_inside (surroundings_of place.now) }
 {
-    let in_blocks = first_row(blocks(), place);
-    let in_statements = first_row(statements(), place);
-    let in_expressions = first_row(expressions(), place);
+    let in_blocks = first_row(rows(Table::Blocks), place);
+    let in_statements = first_row(rows(Table::Statements), place);
+    let in_expressions = first_row(rows(Table::Expressions), place);
     or_row(in_blocks, or_row(in_statements, in_expressions))
 }
 
@@ -81,8 +74,8 @@ fn row_inside(place: &Spot<'_>) -> Option<Row>
 fn row_of_grammar(place: &Spot<'_>) -> Option<Row>
     ensures { option_map row_of result ≡ told.row_of_grammar (surroundings_of place.now) }
 {
-    let in_lines = first_row(lines(), place);
-    let in_procedures = first_row(procedures(), place);
+    let in_lines = first_row(rows(Table::Lines), place);
+    let in_procedures = first_row(rows(Table::Procedures), place);
     or_row(in_lines, or_row(in_procedures, row_inside(place)))
 }
 
@@ -90,7 +83,7 @@ fn row_of_grammar(place: &Spot<'_>) -> Option<Row>
 pub fn row_for(place: &Spot<'_>) -> Option<Row>
     ensures { option_map row_of result ≡ told.row_for (surroundings_of place.now) }
 {
-    let of_signs = first_row(signs(), place);
-    let of_words = first_row(words(), place);
+    let of_signs = first_row(rows(Table::Signs), place);
+    let of_words = first_row(rows(Table::Words), place);
     or_row(of_signs, or_row(of_words, row_of_grammar(place)))
 }

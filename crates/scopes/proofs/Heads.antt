@@ -1,7 +1,7 @@
 -- What a statement of the list is, by its tree.
 use Rattle.std.proofs.Common.{◌≡◌, ◌↔◌, ℕ, ◌++◌, Option, Some, None, option_map, inl, inr, refl, ◌∙◌, ap}
-use Rattle.language.specs.Tree.{Name, skip, assign, assert, assume, goto, leave, call, leave_with, call_for}
-use Rattle.language.specs.Parts.{Head, plain, tests, targets_of, arguments_of}
+use Rattle.language.specs.Tree.{Name, call_for}
+use Rattle.language.specs.Parts.{Head, plain, targets_of, arguments_of}
 use Rattle.trees.specs.Trees.{name_of, Item, deed_of}
 use Rattle.trees.specs.Parts.{head_of, assigned_by, receiver_of, passed_by, given_by}
 use Rattle.scopes.specs.Find.{as_list}
@@ -34,13 +34,5 @@ arguments_are h = arguments_by_kind h ∙ ap (λ l. passed_by h ++ l) (listed_is
 
 -- one receiver is not repeated
 pub repeated_assigned : (h : Head Name Name Name) (n : ℕ) → Repeated (targets_of h) n ↔ Repeated (assigned_by h) n
-repeated_assigned (plain skip) n = (λ q. q, λ q. q)
-repeated_assigned (plain (assign xs rs)) n = (λ q. q, λ q. q)
-repeated_assigned (plain (assert r)) n = (λ q. q, λ q. q)
-repeated_assigned (plain (assume r)) n = (λ q. q, λ q. q)
-repeated_assigned (plain (goto l)) n = (λ q. q, λ q. q)
-repeated_assigned (plain leave) n = (λ q. q, λ q. q)
-repeated_assigned (plain (call p es)) n = (λ q. q, λ q. q)
-repeated_assigned (plain (leave_with e)) n = (λ q. q, λ q. q)
 repeated_assigned (plain (call_for x p es)) n = (λ q. elim q [ inl p ↦ absurd p | inr p ↦ absurd p ], λ q. absurd q)
-repeated_assigned (tests r) n = (λ q. q, λ q. q)
+repeated_assigned _ n = (λ q. q, λ q. q)

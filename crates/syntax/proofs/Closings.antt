@@ -1,16 +1,14 @@
 -- What comes before a closing token is seen as before.
-use Rattle.std.specs.Prelude.{Result, Ok, Err, option_and_then, IfOk, IsOkUnless, IsErrAnd}
+use Rattle.std.specs.Prelude.{Result, Ok, Err, option_and_then, IfOk, IsOkUnless}
 use Rattle.std.specs.declared.vec.Vec.{Vec}
-use Rattle.std.proofs.Common.{◌≡◌, ◌<◌, ◌≤◌, ℕ, true, List, [], ◌∷◌, length, map, Option, Some, None, refl, ◌∙◌, arith}
+use Rattle.std.proofs.Common.{◌≡◌, ◌<◌, ◌≤◌, ℕ, true, List, [], length, map, Option, Some, None, refl, arith}
 use denote.Ref.{Bor}
 use Rattle.tokens.specs.declared.vocabulary.Kind.{Kind}
 use Rattle.tokens.specs.declared.vocabulary.Token.{Token}
 use Rattle.tokens.specs.Token.{Tok, toks_of}
-use Rattle.language.specs.Tree.{Name, assign}
-use Rattle.trees.specs.Trees.{Deed, simple}
 use Rattle.tokens.specs.declared.vocabulary.Kind.TheVariants as kind
-use Rattle.syntax.specs.Parser.{Parser, give, take, begins, ◌>>=◌}
-use Rattle.syntax.specs.Exact.{closing, perhaps, listed, name, name_list, right, rights, semicolon_after, assignment}
+use Rattle.syntax.specs.Parser.{Parser, take, begins, ◌>>=◌}
+use Rattle.syntax.specs.Exact.{closing, perhaps}
 use Rattle.syntax.specs.Gives.{Gives, Parses, Shorter, Closes}
 use Rattle.syntax.specs.declared.fault.ReadFault.{ReadFault}
 use Rattle.syntax.specs.declared.fault.ReadFault.TheVariants as fault
@@ -65,56 +63,9 @@ pub shorter_behind : {X : Type 0} (r : Result (X × Bor (List Token)) ReadFault)
 shorter_behind (Ok p) us ts less h = omega (arith, less, h)
 shorter_behind (Err e) us ts less h = tt
 
-pub shorter_after_one : {X : Type 0} (r : Result (X × Bor (List Token)) ReadFault) (t : Token) (us ts : List Token) → ts ≡ t ∷ us
-    → Shorter r us → Shorter r ts
-shorter_after_one r t us ts is h = shorter_behind r us ts (rw is (omega arith)) h
-
-pub refused_shorter : {X : Type 0} (r : Result (X × Bor (List Token)) ReadFault) (e : ReadFault) (ts : List Token)
-    → IsErrAnd r (λ y. y ≡ e) → Shorter r ts
-refused_shorter (Ok p) e ts h = absurd h
-refused_shorter (Err f) e ts h = tt
-
 -- no values, before a closing parenthesis
 pub none_read : {X Y A : Type 0} (view : X → Y) (parser : Parser Y) (r : Result (Vec X A × Bor (List Token)) ReadFault)
     (ts : List Token) → begins kind.Close (toks_of ts) ≡ true → IfOk r (λ p. (p.0.items ≡ []) × (p.1.now ≡ ts))
     → IsOkUnless r fault.Memory → Parses (λ v. map view v.items) r (perhaps parser) ts
 none_read view parser (Ok p) ts h ok err = rw (h, ok.0, ok.1) refl
 none_read view parser (Err e) ts h ok err = rw err tt
-
-pub none_shorter : {X A : Type 0} (read r : Result (Vec X A × Bor (List Token)) ReadFault) (k : Kind) (us ts : List Token)
-    → length us < length ts → IfOk read (λ p. (p.0.items ≡ []) × (p.1.now ≡ us)) → Closes k read r → Shorter r ts
-none_shorter (Ok p) r k us ts less ok c = shorter_behind r us ts less (rw ok.1 at c.1)
-none_shorter (Err e) (Ok q) k us ts less ok c = absurd c
-none_shorter (Err e) (Err f) k us ts less ok c = tt
-
--- what continues after a closing token
-pub behind_closing : {X Y : Type 0} (p : Parser X) (k : Kind) (f : X → Parser Y) (ts : List Tok)
-    → (p >>= λ x. take k >>= λ _. f x) ts ≡ ((p >>= λ x. closing k x) >>= f) ts
-behind_closing {X} {Y} p k f ts = by_option (p ts)
-  where
-    by_token : (x : X) (o : Option (Tok × List Tok)) → option_and_then (λ (q : Tok × List Tok). f x q.1) o
-        ≡ option_and_then (λ (q : X × List Tok). f q.0 q.1) (option_and_then (λ (q : Tok × List Tok). Some (x, q.1)) o)
-    by_token x None = refl
-    by_token x (Some q) = refl
-
-    by_option : (o : Option (X × List Tok)) → option_and_then (λ (q : X × List Tok). (take k >>= λ _. f q.0) q.1) o
-        ≡ option_and_then (λ (q : X × List Tok). f q.0 q.1)
-        (option_and_then (λ (q : X × List Tok). closing k q.0 q.1) o)
-    by_option None = refl
-    by_option (Some q) = by_token q.0 (take k q.1)
-
--- an assignment is two lists, each with its token after it
-abbrev pub sides_behind : List Name → Parser Deed
-sides_behind xs = listed right kind.Semicolon >>= λ rs. give (simple (assign xs rs))
-
-pub assignment_is : (ts : List Tok) {xs : List Name} {us : List Tok} → listed name kind.Assign ts ≡ Some (xs, us)
-    → assignment ts ≡ sides_behind xs us
-unfolding assignment
-assignment_is ts {xs} {us} e =
-    behind_closing name_list kind.Assign (λ xs. rights >>= λ rs. semicolon_after (simple (assign xs rs))) ts
-    ∙ rw e (behind_closing rights kind.Semicolon (λ rs. give (simple (assign xs rs))) us)
-
-pub assignment_refused : (ts : List Tok) → listed name kind.Assign ts ≡ None → assignment ts ≡ None
-unfolding assignment
-assignment_refused ts e =
-    behind_closing name_list kind.Assign (λ xs. rights >>= λ rs. semicolon_after (simple (assign xs rs))) ts ∙ rw e refl

@@ -13,49 +13,20 @@ use Rattle.grammar.specs.Grammar.{statement, if_statement, while_statement}
 use Rattle.trees.specs.Trees.{Deed, simple, branch, repeat, before, marked_before}
 use Rattle.syntax.specs.Exact.{name, name_list, expression, rights, argument_list, condition, marked, assignment, calling, asking}
 use Rattle.syntax.specs.Exact.{names_call}
-use Rattle.syntax.specs.Exact.{asks_behind, named, giving, returning, branching, repeating, deed_by, deed_step, starts, starts_here}
-use Rattle.syntax.specs.Exact.{item_step, rest_step, section}
+use Rattle.syntax.specs.Exact.{asks_behind, named, giving, branching, repeating, deed_by, deed_step, starts, starts_here}
+use Rattle.syntax.specs.Exact.{item_step, rest_step, section, jumping, asserting, assuming}
 use Rattle.syntax.proofs.KindTests.{same_kind-true, same_kind-is}
 use Rattle.syntax.proofs.Fixes.{bind_is}
-use Rattle.syntax.proofs.Expressions.{take_is}
+use Rattle.syntax.proofs.ChainLemmas.{Reading, Reading-give, Reading-bind, Reading-last, Reading-closed, take_is}
 use Rattle.syntax.proofs.Exactly.{begins_takes, begins_other}
 use Rattle.syntax.proofs.Parts.{exactly_name, exactly_names, exactly_expression, exactly_rights, exactly_arguments, exactly_test}
 use Rattle.syntax.proofs.Parts.{begins_no, names_no_call, semicolon_stops}
 use Rattle.syntax.proofs.Sections.{section_is}
 
--- what a statement does that begins with a token of each kind
-module _ (f : Parser (Block Name Name Name)) (t : Tok) where
-  by_skip : t.kind ≡ kind.Skip → deed_by f t ≡ (take kind.Semicolon >>= λ _. give (simple skip))
-  unfolding same_kind
-  by_skip e = rw e refl
-
-  by_return : t.kind ≡ kind.Return → deed_by f t ≡ returning
-  unfolding same_kind
-  by_return e = rw e refl
-
-  by_goto : t.kind ≡ kind.Goto → deed_by f t ≡ (name >>= λ l. take kind.Semicolon >>= λ _. give (simple (goto l)))
-  unfolding same_kind
-  by_goto e = rw e refl
-
-  by_assert : t.kind ≡ kind.Assert → deed_by f t ≡ (condition >>= λ r. take kind.Semicolon >>= λ _. give (simple (assert r)))
-  unfolding same_kind
-  by_assert e = rw e refl
-
-  by_assume : t.kind ≡ kind.Assume → deed_by f t ≡ (condition >>= λ r. take kind.Semicolon >>= λ _. give (simple (assume r)))
-  unfolding same_kind
-  by_assume e = rw e refl
-
-  by_if : t.kind ≡ kind.If → deed_by f t ≡ branching f
-  unfolding same_kind
-  by_if e = rw e refl
-
-  by_while : t.kind ≡ kind.While → deed_by f t ≡ repeating f
-  unfolding same_kind
-  by_while e = rw e refl
-
-  by_name : t.kind ≡ kind.Id → deed_by f t ≡ named t
-  unfolding same_kind
-  by_name e = rw e refl
+-- a name begins a call, a call for a value or an assignment
+by_name : (f : Parser (Block Name Name Name)) (t : Tok) → t.kind ≡ kind.Id → deed_by f t ≡ named t
+unfolding same_kind
+by_name f t e = rw e refl
 
 -- one parser is another, at these tokens
 at : {X : Type 0} {p q : Parser X} (ts : List Tok) → p ≡ q → p ts ≡ q ts
@@ -63,9 +34,6 @@ at ts e = ap (λ p. p ts) e
 
 ends : {X : Type 0} {k : Kind} {ts rest : List Tok} (x : X) → Takes k ts rest → (take k >>= λ _. give x) ts ≡ Some (x, rest)
 ends {k = k} {ts = ts} {rest = rest} x t = bind_is (take k) (λ _. give x) ts (take_is t).0 rest (take_is t).1
-
-passing : {X : Type 0} {k : Kind} {ts rest : List Tok} (p : Parser X) → Takes k ts rest → (take k >>= λ _. p) ts ≡ p rest
-passing {k = k} {ts = ts} {rest = rest} p t = bind_is (take k) (λ _. p) ts (take_is t).0 rest (take_is t).1
 
 -- what begins a list of names continues with a comma, or ends
 names_next : (t : Tok) (ts us : List Tok) (xs : List Name) → Listed IsName (t ∷ ts) xs us
@@ -110,60 +78,40 @@ opens us vs es (in_parens o h c) = begins_takes o
 simple_reads : (f : Parser (Block Name Name Name)) {ts rest : List Tok} {s : Simple Name Name Name} → IsSimple ts s rest
     → deed_step f ts ≡ Some (simple s, rest)
 unfolding same_kind assignment calling asking names_call asks_behind named giving
-simple_reads f (is_skip (takes {t = t} {rest = us} is) c) = at us (by_skip f t is) ∙ ends (simple skip) c
-simple_reads f (is_return (takes {t = t} {rest = us} is) c) =
-    at us (by_return f t is) ∙ rw (begins_takes c) (ends (simple leave) c)
-simple_reads f (is_give {vs = vs} {rest = rest} {e = e} (takes {t = t} {rest = us} is) r c) =
-    at us (by_return f t is)
-    ∙ rw (begins_no kind.Semicolon refl r)
-    (bind_is expression (λ e. take kind.Semicolon >>= λ _. give (simple (leave_with e))) us e vs
-    (exactly_expression.reads us e vs r (semicolon_stops vs rest c))
-    ∙ ends (simple (leave_with e)) c)
-simple_reads f (is_goto {vs = vs} {l = l} (takes {t = t} {rest = us} is) h c) =
-    at us (by_goto f t is)
-    ∙ bind_is name (λ l. take kind.Semicolon >>= λ _. give (simple (goto l))) us l vs (exactly_name.reads us l vs h tt)
-    ∙ ends (simple (goto l)) c
-simple_reads f (is_assert {vs = vs} {r = r} (takes {t = t} {rest = us} is) h c) =
-    at us (by_assert f t is)
-    ∙ bind_is condition (λ r. take kind.Semicolon >>= λ _. give (simple (assert r))) us r vs (exactly_test.reads us r vs h tt)
-    ∙ ends (simple (assert r)) c
-simple_reads f (is_assume {vs = vs} {r = r} (takes {t = t} {rest = us} is) h c) =
-    at us (by_assume f t is)
-    ∙ bind_is condition (λ r. take kind.Semicolon >>= λ _. give (simple (assume r))) us r vs (exactly_test.reads us r vs h tt)
-    ∙ ends (simple (assume r)) c
+simple_reads f (is_skip (takes is) c) = rw is (ends (simple skip) c)
+simple_reads f (is_return (takes is) c) = rw (is, begins_takes c) (ends (simple leave) c)
+simple_reads f (is_give {vs = vs} {rest = rest} {e = e} (takes {rest = us} is) r c) =
+    let read : Reading giving us (simple (leave_with e)) rest =
+    Reading-bind expression _ (exactly_expression.reads us e vs r (semicolon_stops vs rest c)) (Reading-last c) in
+    rw (is, begins_no kind.Semicolon refl r) read.is
+simple_reads f (is_goto {vs = vs} {rest = rest} {l = l} (takes {rest = us} is) h c) =
+    let read : Reading jumping us (simple (goto l)) rest = Reading-bind name _ (exactly_name.reads us l vs h tt) (Reading-last c) in rw is read.is
+simple_reads f (is_assert {vs = vs} {rest = rest} {r = r} (takes {rest = us} is) h c) =
+    let read : Reading asserting us (simple (assert r)) rest = Reading-closed condition _ (exactly_test.reads us r vs h tt) c Reading-give in
+    rw is read.is
+simple_reads f (is_assume {vs = vs} {rest = rest} {r = r} (takes {rest = us} is) h c) =
+    let read : Reading assuming us (simple (assume r)) rest = Reading-closed condition _ (exactly_test.reads us r vs h tt) c Reading-give in
+    rw is read.is
 simple_reads f (is_assign {ts = []} (listed h m) a l c) = elim h [ ]
 simple_reads f (is_assign {ts = t ∷ ts} {us = us} {vs = vs} {ws = ws} {rest = rest} {xs = xs} {rs = rs} h a l c) =
     let n = names_next t ts us xs h in
-    at ts (by_name f t n.0)
-    ∙ rw (next_no kind.Open ts us vs refl refl n.1 a, next_asks_no ts us vs n.1 a (rights_no_call l c))
-    (bind_is name_list (λ xs. take kind.Assign >>= λ _. rights >>= λ rs. take kind.Semicolon >>= λ _. give (simple (assign xs rs)))
-    (t ∷ ts) xs us
-    (exactly_names.reads (t ∷ ts) xs us h (tt, begins_other kind.Comma a refl))
-    ∙ passing (rights >>= λ rs. take kind.Semicolon >>= λ _. give (simple (assign xs rs))) a
-    ∙ bind_is rights (λ rs. take kind.Semicolon >>= λ _. give (simple (assign xs rs))) vs rs ws
-    (exactly_rights.reads vs rs ws l (semicolon_stops ws rest c, begins_other kind.Comma c refl))
-    ∙ ends (simple (assign xs rs)) c)
-simple_reads f (is_call {vs = vs} {p = p} {es = es} (is_name {t = t} {rest = us} is) h c) =
-    at us (by_name f t is)
-    ∙ rw (opens us vs es h)
-    (bind_is name (λ p. argument_list >>= λ es. take kind.Semicolon >>= λ _. give (simple (call p es))) (t ∷ us) (name_at t) us
-    (exactly_name.reads (t ∷ us) (name_at t) us (is_name is) tt)
-    ∙ bind_is argument_list (λ es. take kind.Semicolon >>= λ _. give (simple (call (name_at t) es))) us es vs
-    (exactly_arguments.reads us es vs h tt)
-    ∙ ends (simple (call (name_at t) es)) c)
-simple_reads f (is_call_for {xs = xs} {es = es} (is_name {t = x} is) (takes {t = a} {rest = vs} was)
+    let read : Reading assignment (t ∷ ts) (simple (assign xs rs)) rest =
+    Reading-closed name_list _ (exactly_names.reads (t ∷ ts) xs us h (tt, begins_other kind.Comma a refl)) a
+    (Reading-closed rights _ (exactly_rights.reads vs rs ws l (semicolon_stops ws rest c, begins_other kind.Comma c refl)) c Reading-give) in
+    at ts (by_name f t n.0) ∙ rw (next_no kind.Open ts us vs refl refl n.1 a, next_asks_no ts us vs n.1 a (rights_no_call l c)) read.is
+simple_reads f (is_call {vs = vs} {rest = rest} {es = es} (is_name {t = t} {rest = us} is) h c) =
+    let read : Reading calling (t ∷ us) (simple (call (name_at t) es)) rest =
+    Reading-bind name _ (exactly_name.reads (t ∷ us) (name_at t) us (is_name is) tt)
+    (Reading-bind argument_list _ (exactly_arguments.reads us es vs h tt) (Reading-last c)) in
+    at us (by_name f t is) ∙ rw (opens us vs es h) read.is
+simple_reads f (is_call_for {xs = xs} {rest = rest} {es = es} (is_name {t = x} is) (takes {t = a} {rest = vs} was)
     (is_name {t = p} {rest = ws} named) h c) =
+    let read : Reading asking (x ∷ a ∷ vs) (simple (call_for (name_at x) (name_at p) es)) rest =
+    Reading-closed name _ (exactly_name.reads (x ∷ a ∷ vs) (name_at x) (a ∷ vs) (is_name is) tt) (takes was)
+    (Reading-bind name _ (exactly_name.reads (p ∷ ws) (name_at p) ws (is_name named) tt)
+    (Reading-bind argument_list _ (exactly_arguments.reads ws es xs h tt) (Reading-last c))) in
     at (a ∷ vs) (by_name f x is)
-    ∙ rw (begins_other {ts = a ∷ p ∷ ws} kind.Open (takes was) refl, asks_so a p ws was named (opens ws xs es h))
-    (bind_is name
-    (λ x. take kind.Assign >>= λ _. name >>= λ p. argument_list >>= λ es. take kind.Semicolon >>= λ _. give (simple (call_for x p es)))
-    (x ∷ a ∷ vs) (name_at x) (a ∷ vs) (exactly_name.reads (x ∷ a ∷ vs) (name_at x) (a ∷ vs) (is_name is) tt)
-    ∙ passing (name >>= λ p. argument_list >>= λ es. take kind.Semicolon >>= λ _. give (simple (call_for (name_at x) p es))) (takes was)
-    ∙ bind_is name (λ p. argument_list >>= λ es. take kind.Semicolon >>= λ _. give (simple (call_for (name_at x) p es)))
-    (p ∷ ws) (name_at p) ws (exactly_name.reads (p ∷ ws) (name_at p) ws (is_name named) tt)
-    ∙ bind_is argument_list (λ es. take kind.Semicolon >>= λ _. give (simple (call_for (name_at x) (name_at p) es))) ws es xs
-    (exactly_arguments.reads ws es xs h tt)
-    ∙ ends (simple (call_for (name_at x) (name_at p) es)) c)
+    ∙ rw (begins_other {ts = a ∷ p ∷ ws} kind.Open (takes was) refl, asks_so a p ws was named (opens ws xs es h)) read.is
 
 colon_no : (t : Tok) (ts : List Tok) → begins kind.Colon ts ≡ false → same_kind t.kind kind.Id && begins kind.Colon ts ≡ false
 colon_no t ts e = rw e (by_test (same_kind t.kind kind.Id))
@@ -256,27 +204,20 @@ word_here (takes e) h = rw e h
 if_reads : {t1 t2 t3 t4 t5 t6 t7 t8 : List Tok} {r : RightSide Name} {a b : Block Name Name Name} → Takes kind.If t1 t2
     → InParens IsRight t2 r t3 → Takes kind.Then t3 t4 → section t4 ≡ Some (a, t5) → Takes kind.Else t5 t6 → section t6 ≡ Some (b, t7)
     → Takes kind.Fi t7 t8 → deed_step section t1 ≡ Some (branch r a b, t8)
-if_reads {t2 = t2} {t3 = t3} {t4 = t4} {t5 = t5} {t6 = t6} {t7 = t7} {r = r} {a = a} {b = b} (takes {t = t} is) h th sa el sb fi =
-    at t2 (by_if section t is)
-    ∙ bind_is condition
-    (λ r. take kind.Then >>= λ _. section >>= λ a. take kind.Else >>= λ _. section >>= λ b. take kind.Fi >>= λ _. give (branch r a b))
-    t2 r t3 (exactly_test.reads t2 r t3 h tt)
-    ∙ passing (section >>= λ a. take kind.Else >>= λ _. section >>= λ b. take kind.Fi >>= λ _. give (branch r a b)) th
-    ∙ bind_is section (λ a. take kind.Else >>= λ _. section >>= λ b. take kind.Fi >>= λ _. give (branch r a b)) t4 a t5 sa
-    ∙ passing (section >>= λ b. take kind.Fi >>= λ _. give (branch r a b)) el
-    ∙ bind_is section (λ b. take kind.Fi >>= λ _. give (branch r a b)) t6 b t7 sb
-    ∙ ends (branch r a b) fi
+unfolding same_kind
+if_reads {t2 = t2} {t3 = t3} {t8 = t8} {r = r} {a = a} {b = b} (takes is) h th sa el sb fi =
+    let read : Reading (branching section) t2 (branch r a b) t8 =
+    Reading-closed condition _ (exactly_test.reads t2 r t3 h tt) th (Reading-closed section _ sa el (Reading-closed section _ sb fi Reading-give)) in
+    rw is read.is
 
 while_reads : {t1 t2 t3 t4 t5 t6 : List Tok} {r : RightSide Name} {a : Block Name Name Name} → Takes kind.While t1 t2
     → InParens IsRight t2 r t3 → Takes kind.Do t3 t4 → section t4 ≡ Some (a, t5) → Takes kind.Od t5 t6
     → deed_step section t1 ≡ Some (repeat r a, t6)
-while_reads {t2 = t2} {t3 = t3} {t4 = t4} {t5 = t5} {r = r} {a = a} (takes {t = t} is) h th sa od =
-    at t2 (by_while section t is)
-    ∙ bind_is condition (λ r. take kind.Do >>= λ _. section >>= λ a. take kind.Od >>= λ _. give (repeat r a)) t2 r t3
-    (exactly_test.reads t2 r t3 h tt)
-    ∙ passing (section >>= λ a. take kind.Od >>= λ _. give (repeat r a)) th
-    ∙ bind_is section (λ a. take kind.Od >>= λ _. give (repeat r a)) t4 a t5 sa
-    ∙ ends (repeat r a) od
+unfolding same_kind
+while_reads {t2 = t2} {t3 = t3} {t6 = t6} {r = r} {a = a} (takes is) h th sa od =
+    let read : Reading (repeating section) t2 (repeat r a) t6 =
+    Reading-closed condition _ (exactly_test.reads t2 r t3 h tt) th (Reading-closed section _ sa od Reading-give) in
+    rw is read.is
 
 pub statements_read : {ts rest : List Tok} {b : Block Name Name Name} → Statements ts b rest → starts_here rest ≡ false → Read ts b rest
 unfolding same_kind

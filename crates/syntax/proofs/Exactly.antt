@@ -1,31 +1,31 @@
 -- Functions that read exactly what a relation of the grammar says, part by part.
-use Rattle.std.proofs.Common.{◌≡◌, ℕ, suc, ◌<◌, ◌≤◌, Bool, true, false, cond, List, [], ◌∷◌, length, Option, Some, refl, ◌∙◌, ap, arith}
-use Rattle.std.proofs.Common.{◌⊎◌, inl, inr}
+use Rattle.std.proofs.Common.{◌≡◌, ℕ, suc, ◌<◌, Bool, true, false, cond, List, [], ◌∷◌, length, Option, Some, refl, ◌∙◌, ap}
 use Rattle.tokens.specs.declared.vocabulary.Kind.{Kind}
 use Rattle.tokens.specs.declared.vocabulary.Kind.TheVariants as kind
 use Rattle.tokens.specs.Token.{Tok, same_kind}
-use Rattle.syntax.specs.Parser.{Parser, Strict, give, ◌>>=◌, begins, take, fix, many_step, many}
+use Rattle.syntax.specs.Parser.{Parser, Strict, give, ◌>>=◌, begins, take, many_step, many}
 use Rattle.grammar.specs.Grammar.{Takes, takes, Behind, behind, InParens, in_parens, Many, no_more, one_more}
 use Rattle.grammar.specs.Grammar.{Listed, listed, Several, several, Perhaps, nothing, something}
 use Rattle.syntax.specs.Exact.{more, list, repeated, parens, perhaps}
 use Rattle.syntax.proofs.KindTests.{same_kind-true, same_kind-is}
-use Rattle.syntax.proofs.Fixes.{both, carried, between, bind_is, Shrinks, Agree, Strict-Shrinks, Shrinks-give, Strict-take, Shrinks-bind}
+use Rattle.syntax.proofs.Fixes.{bind_is, Shrinks, Agree, Strict-Shrinks, Shrinks-give, Strict-take, Shrinks-bind}
 use Rattle.syntax.proofs.Fixes.{Strict-bind, Agree-same, Agree-bind, Agree-Strict-bind, IsStep, fix_shrinks, fix_is, Finds, fix_finds}
-use Rattle.syntax.proofs.Expressions.{take_is, take_finds}
+use Rattle.syntax.proofs.ChainLemmas.{Finding, Finding-give, Finding-bind, Finding-take, Finding-last, Finding-choice, Shrinks-choice}
+use Rattle.syntax.proofs.ChainLemmas.{Reading, Reading-give, Reading-bind, Reading-take, Reading-last}
 
 -- p reads what P says, wherever what follows is as S says, and nothing else.
 pub record Exactly {X : Type 0} (P : List Tok → X → List Tok → Type 0) (S : List Tok → Type 0) (p : Parser X) : Type 0 where
   pub finds : (ts : List Tok) (x : X) (rest : List Tok) → p ts ≡ Some (x, rest) → P ts x rest
   pub reads : (ts : List Tok) (x : X) (rest : List Tok) → P ts x rest → S rest → p ts ≡ Some (x, rest)
 
+pub exactly : {X : Type 0} {P : List Tok → X → List Tok → Type 0} {S : List Tok → Type 0} {p : Parser X}
+    → ((ts : List Tok) → Finding p ts (P ts)) → ((ts : List Tok) (x : X) (rest : List Tok) → P ts x rest → S rest → Reading p ts x rest)
+    → Exactly P S p
+exactly found read = record { finds = λ ts. (found ts).by; reads = λ ts x rest h s. (read ts x rest h s).is }
+
 -- whatever follows
 abbrev pub Anything : List Tok → Type 0
 Anything ts = Unit {0}
-
--- a choice that was made
-pub chosen : {X : Type 0} (b : Bool) (p q r : Option X) → cond b p q ≡ r → ((b ≡ true) × (p ≡ r)) ⊎ ((b ≡ false) × (q ≡ r))
-chosen true p q r e = inl (refl, e)
-chosen false p q r e = inr (refl, e)
 
 -- a token of a kind comes next, or does not
 pub begins_takes : {k : Kind} {ts rest : List Tok} → Takes k ts rest → begins k ts ≡ true
@@ -42,46 +42,24 @@ begins_take k (t ∷ ts) e = (t, ts, rw e refl, takes (same_kind-true e))
 -- after a token
 pub exactly_behind : {X : Type 0} {P : List Tok → X → List Tok → Type 0} {S : List Tok → Type 0} {p : Parser X} (k : Kind) → Exactly P S p
     → Exactly (Behind k P) S (take k >>= λ _. p)
-exactly_behind {X} {P} {S} {p} k is = record {
-  finds = λ ts x rest e.
-      let b = between (take k) (λ _. p) ts x rest e in
-      behind (take_finds k ts b.x b.us b.first).0 (is.finds b.us x rest b.second);
-  reads = went;
-}
+exactly_behind {X} {P} {S} {p} k is =
+    exactly (λ ts. Finding-take (λ _ us t _. record { by = λ x rest e. behind t (is.finds us x rest e) })) went
   where
-    went : (ts : List Tok) (x : X) (rest : List Tok) → Behind k P ts x rest → S rest → (take k >>= λ _. p) ts ≡ Some (x, rest)
-    went ts x rest (behind {us = us} t h) s = bind_is (take k) (λ _. p) ts (take_is t).0 us (take_is t).1 ∙ is.reads us x rest h s
+    went : (ts : List Tok) (x : X) (rest : List Tok) → Behind k P ts x rest → S rest → Reading (take k >>= λ _. p) ts x rest
+    went ts x rest (behind {us = us} t h) s = Reading-take t (record { is = is.reads us x rest h s })
 
 -- in parentheses
 pub exactly_parens : {X : Type 0} {P : List Tok → X → List Tok → Type 0} {S : List Tok → Type 0} {p : Parser X} → Exactly P S p
     → ((us rest : List Tok) → Takes kind.Close us rest → S us) → Exactly (InParens P) Anything (parens p)
-exactly_parens {X} {P} {S} {p} is close = record {
-  finds = λ ts x rest e.
-      let b = between (take kind.Open) (λ _. p >>= λ x. take kind.Close >>= λ _. give x) ts x rest e in
-      let c = between p (λ x. take kind.Close >>= λ _. give x) b.us x rest b.second in
-      let d = between (take kind.Close) (λ _. give c.x) c.us x rest c.second in
-      carried (λ x rest. InParens P ts x rest) d.second
-      (in_parens (take_finds kind.Open ts b.x b.us b.first).0 (is.finds b.us c.x c.us c.first)
-      (take_finds kind.Close c.us d.x d.us d.first).0);
-  reads = went;
-}
+exactly_parens {X} {P} {S} {p} is close =
+    exactly (λ ts. Finding-take (λ _ us t _. Finding-bind p (λ x vs e. Finding-last (λ rest c. in_parens t (is.finds us x vs e) c)))) went
   where
-    went : (ts : List Tok) (x : X) (rest : List Tok) → InParens P ts x rest → Unit {0} → parens p ts ≡ Some (x, rest)
+    went : (ts : List Tok) (x : X) (rest : List Tok) → InParens P ts x rest → Unit {0} → Reading (parens p) ts x rest
     went ts x rest (in_parens {us = us} {vs = vs} first h shut) s =
-        bind_is (take kind.Open) (λ _. p >>= λ x. take kind.Close >>= λ _. give x) ts (take_is first).0 us (take_is first).1
-        ∙ bind_is p (λ x. take kind.Close >>= λ _. give x) us x vs (is.reads us x vs h (close vs rest shut))
-        ∙ bind_is (take kind.Close) (λ _. give x) vs (take_is shut).0 rest (take_is shut).1
+        Reading-take first (Reading-bind p _ (is.reads us x vs h (close vs rest shut)) (Reading-last shut))
 
 -- again and again
 module _ {X : Type 0} (test : List Tok → Bool) (p : Parser X) (strict : Strict p) where
-  many_shrinks_at : (f : Unit {0} → Parser (List X)) → ((u : Unit {0}) → Shrinks (f u))
-      → (b : Bool) (ts : List Tok) (xs : List X) (rest : List Tok)
-      → cond {A = Option (List X × List Tok)} b ((p >>= λ x. f tt >>= λ xs. give (x ∷ xs)) ts) (Some ([], ts)) ≡ Some (xs, rest)
-      → length rest ≤ length ts
-  many_shrinks_at f s true ts xs rest e =
-      (Shrinks-bind (Strict-Shrinks strict) (λ x. Shrinks-bind (s tt) (λ xs. Shrinks-give (x ∷ xs)))).by ts xs rest e
-  many_shrinks_at f s false ts xs rest e = let h = (both e).1 in rw h (omega arith)
-
   many_agrees_at : (n : ℕ) (f g : Unit {0} → Parser (List X)) → ((u : Unit {0}) → Shrinks (f u)) → ((u : Unit {0}) → Agree n (f u) (g u))
       → (ts : List Tok) → length ts < suc n
       → cond {A = Option (List X × List Tok)} (test ts) ((p >>= λ x. f tt >>= λ xs. give (x ∷ xs)) ts) (Some ([], ts))
@@ -92,7 +70,9 @@ module _ {X : Type 0} (test : List Tok → Bool) (p : Parser X) (strict : Strict
 
   many_is_step : IsStep (many_step test p)
   many_is_step = record {
-    keeps = λ f s u. record { by = λ ts xs rest e. many_shrinks_at f s (test ts) ts xs rest e };
+    keeps = λ f s u.
+        Shrinks-choice (p >>= λ x. f tt >>= λ xs. give (x ∷ xs)) (give []) test (λ ts. refl)
+        (Shrinks-bind (Strict-Shrinks strict) (λ x. Shrinks-bind (s tt) (λ xs. Shrinks-give (x ∷ xs)))) (Shrinks-give []);
     local = λ n f g s a u. record { at = λ ts below. many_agrees_at n f g s a ts below };
   }
 
@@ -116,27 +96,21 @@ module _ {X : Type 0} (test : List Tok → Bool) (p : Parser X) (strict : Strict
       ∙ rw e (bind_is p (λ x. many test p >>= λ xs. give (x ∷ xs)) ts x us f ∙ bind_is (many test p) (λ xs. give (x ∷ xs)) us xs rest g)
 
   many_found : (P : List Tok → X → List Tok → Type 0) → ((ts : List Tok) (x : X) (rest : List Tok) → p ts ≡ Some (x, rest) → P ts x rest)
-      → Finds (λ (u : Unit {0}) ts xs rest. Many P ts xs rest × (test rest ≡ false)) (fix (many_step test p))
-  many_found P h =
-      fix_finds (many_step test p) (λ u ts xs rest. Many P ts xs rest × (test rest ≡ false))
-      (λ f sound u ts xs rest e. by_test f sound ts xs rest (test ts) refl e)
-    where
-      by_test : (f : Unit {0} → Parser (List X)) → Finds (λ (u : Unit {0}) ts xs rest. Many P ts xs rest × (test rest ≡ false)) f
-          → (ts : List Tok) (xs : List X) (rest : List Tok) (b : Bool) → test ts ≡ b
-          → cond {A = Option (List X × List Tok)} b ((p >>= λ x. f tt >>= λ xs. give (x ∷ xs)) ts) (Some ([], ts)) ≡ Some (xs, rest)
-          → Many P ts xs rest × (test rest ≡ false)
-      by_test f sound ts xs rest true is e =
-          let b = between p (λ x. f tt >>= λ xs. give (x ∷ xs)) ts xs rest e in
-          let c = between (f tt) (λ xs. give (b.x ∷ xs)) b.us xs rest b.second in
-          let tail = sound tt b.us c.x c.us c.first in
-          carried (λ xs rest. Many P ts xs rest × (test rest ≡ false)) c.second (one_more (h ts b.x b.us b.first) tail.0, tail.1)
-      by_test f sound ts xs rest false is e = carried (λ xs rest. Many P ts xs rest × (test rest ≡ false)) e (no_more, is)
+      → (f : Unit {0} → Parser (List X)) → Finds (λ (u : Unit {0}) ts xs rest. Many P ts xs rest × (test rest ≡ false)) f
+      → (u : Unit {0}) (ts : List Tok) → Finding (many_step test p f u) ts (λ xs rest. Many P ts xs rest × (test rest ≡ false))
+  many_found P h f sound u ts =
+      Finding-choice (p >>= λ x. f tt >>= λ xs. give (x ∷ xs)) (give []) (test ts) refl
+      (λ _. Finding-bind p (λ x us first. Finding-bind (f tt) (λ xs rest others.
+      let tail = sound tt us xs rest others in Finding-give (one_more (h ts x us first) tail.0, tail.1))))
+      (λ is. Finding-give (no_more, is))
 
   pub many_finds : (P : List Tok → X → List Tok → Type 0)
       → ((ts : List Tok) (x : X) (rest : List Tok) → p ts ≡ Some (x, rest) → P ts x rest) → (ts : List Tok) (xs : List X) (rest : List Tok)
       → many test p ts ≡ Some (xs, rest) → Many P ts xs rest × (test rest ≡ false)
   unfolding many
-  many_finds P h ts xs rest e = many_found P h tt ts xs rest e
+  many_finds P h ts xs rest e =
+      fix_finds (many_step test p) (λ (u : Unit {0}) ts xs rest. Many P ts xs rest × (test rest ≡ false))
+      (λ f sound u ts. (many_found P h f sound u ts).by) tt ts xs rest e
 
   -- what comes any number of times is read, if each begins as the test says, and what follows may follow one
   pub many_reads : {P : List Tok → X → List Tok → Type 0} {S : List Tok → Type 0} → Exactly P S p
@@ -156,12 +130,12 @@ pub repeated_finds : {X : Type 0} (test : List Tok → Bool) {P : List Tok → X
     → (ts : List Tok) (xs : List X) (rest : List Tok) → repeated test p ts ≡ Some (xs, rest)
     → Several P ts xs rest × (test rest ≡ false)
 unfolding repeated
-repeated_finds test {P = P} {p = p} s is ts xs rest e =
-    let b = between p (λ x. many test p >>= λ xs. give (x ∷ xs)) ts xs rest e in
-    let c = between (many test p) (λ xs. give (b.x ∷ xs)) b.us xs rest b.second in
-    let m = many_finds test p s P is.finds b.us c.x c.us c.first in
-    carried (λ xs rest. Several P ts xs rest × (test rest ≡ false)) c.second
-    (several (is.finds ts b.x b.us b.first) m.0, m.1)
+repeated_finds test {P = P} {p = p} s is ts =
+    let whole : Finding (repeated test p) ts (λ xs rest. Several P ts xs rest × (test rest ≡ false)) =
+    Finding-bind p (λ x us first. Finding-bind (many test p) (λ xs rest others.
+    let m = many_finds test p s P is.finds us xs rest others in
+    Finding-give (several (is.finds ts x us first) m.0, m.1))) in
+    whole.by
 
 pub repeated_reads : {X : Type 0} (test : List Tok → Bool) {P : List Tok → X → List Tok → Type 0} {p : Parser X}
     → Strict p → Exactly P Anything p → ((ts : List Tok) (x : X) (us : List Tok) → P ts x us → test ts ≡ true)
@@ -169,8 +143,9 @@ pub repeated_reads : {X : Type 0} (test : List Tok → Bool) {P : List Tok → X
     → repeated test p ts ≡ Some (xs, rest)
 unfolding repeated
 repeated_reads test {p = p} s is starts ts xs rest (several {us = us} {x = x} {xs = ys} h m) e =
-    bind_is p (λ x. many test p >>= λ xs. give (x ∷ xs)) ts x us (is.reads ts x us h tt)
-    ∙ bind_is (many test p) (λ xs. give (x ∷ xs)) us ys rest (many_reads test p s is starts (λ us h. tt) m tt e)
+    let whole : Reading (repeated test p) ts (x ∷ ys) rest =
+    Reading-bind p _ (is.reads ts x us h tt) (Reading-bind (many test p) _ (many_reads test p s is starts (λ us h. tt) m tt e) Reading-give) in
+    whole.is
 
 -- after commas
 behind_begins : {X : Type 0} {P : List Tok → X → List Tok → Type 0} (k : Kind) (ts : List Tok) (x : X) (us : List Tok) → Behind k P ts x us
@@ -208,22 +183,18 @@ NoComma S ts = S ts × (begins kind.Comma ts ≡ false)
 pub exactly_list : {X : Type 0} {P : List Tok → X → List Tok → Type 0} {S : List Tok → Type 0} {p : Parser X} → Strict p → Exactly P S p
     → ((us : List Tok) → begins kind.Comma us ≡ true → S us) → Exactly (Listed P) (NoComma S) (list p)
 unfolding list
-exactly_list {X} {P} {S} {p} s is joins = record {
-  finds = λ ts xs rest e.
-      let b = between p (λ x. more p >>= λ xs. give (x ∷ xs)) ts xs rest e in
-      let c = between (more p) (λ xs. give (b.x ∷ xs)) b.us xs rest b.second in
-      carried (λ xs rest. Listed P ts xs rest) c.second (listed (is.finds ts b.x b.us b.first) (more_finds s is b.us c.x c.us c.first).0);
-  reads = went;
-}
+exactly_list {X} {P} {S} {p} s is joins =
+    exactly
+    (λ ts. Finding-bind p (λ x us e. Finding-bind (more p) (λ xs rest others.
+    Finding-give (listed (is.finds ts x us e) (more_finds s is us xs rest others).0)))) went
   where
     next : {us rest : List Tok} {xs : List X} → Many (Behind kind.Comma P) us xs rest → S rest → S us
     next no_more s = s
     next (one_more {ts = us} (behind t h) m) s = joins us (begins_takes t)
 
-    went : (ts : List Tok) (xs : List X) (rest : List Tok) → Listed P ts xs rest → NoComma S rest → list p ts ≡ Some (xs, rest)
+    went : (ts : List Tok) (xs : List X) (rest : List Tok) → Listed P ts xs rest → NoComma S rest → Reading (list p) ts xs rest
     went ts xs rest (listed {us = us} {x = x} {xs = ys} h m) n =
-        bind_is p (λ x. more p >>= λ xs. give (x ∷ xs)) ts x us (is.reads ts x us h (next m n.0))
-        ∙ bind_is (more p) (λ xs. give (x ∷ xs)) us ys rest (more_reads s is joins m n.0 n.1)
+        Reading-bind p _ (is.reads ts x us h (next m n.0)) (Reading-bind (more p) _ (more_reads s is joins m n.0 n.1) Reading-give)
 
 -- nothing or a list is read before a closing parenthesis
 pub exactly_perhaps : {X : Type 0} {P : List Tok → X → List Tok → Type 0} {S : List Tok → Type 0} {p : Parser X} → Strict p → Exactly P S p
@@ -231,17 +202,11 @@ pub exactly_perhaps : {X : Type 0} {P : List Tok → X → List Tok → Type 0} 
     → ((ts : List Tok) (x : X) (us : List Tok) → P ts x us → begins kind.Close ts ≡ false)
     → Exactly (Perhaps P) (λ ts. begins kind.Close ts ≡ true) (perhaps p)
 unfolding same_kind
-exactly_perhaps {X} {P} {S} {p} s is joins close other = record {
-  finds = λ ts xs rest e. by_choice ts xs rest (chosen (begins kind.Close ts) (Some ([], ts)) (list p ts) (Some (xs, rest)) e);
-  reads = went;
-}
+exactly_perhaps {X} {P} {S} {p} s is joins close other =
+    exactly
+    (λ ts. Finding-choice (give []) (list p) (begins kind.Close ts) refl (λ _. Finding-give nothing)
+    (λ _. record { by = λ xs rest e. something ((exactly_list s is joins).finds ts xs rest e) })) went
   where
-    by_choice : (ts : List Tok) (xs : List X) (rest : List Tok)
-        → ((begins kind.Close ts ≡ true) × (◌≡◌ {A = Option (List X × List Tok)} (Some ([], ts)) (Some (xs, rest))))
-        ⊎ ((begins kind.Close ts ≡ false) × (list p ts ≡ Some (xs, rest))) → Perhaps P ts xs rest
-    by_choice ts xs rest (inl h) = carried (λ xs rest. Perhaps P ts xs rest) h.1 nothing
-    by_choice ts xs rest (inr h) = something ((exactly_list s is joins).finds ts xs rest h.1)
-
     closes : (us : List Tok) → begins kind.Close us ≡ true → NoComma S us
     closes us e = let t = begins_take kind.Close us e in (close us t.1 t.3, begins_other kind.Comma t.3 refl)
 
@@ -249,21 +214,14 @@ exactly_perhaps {X} {P} {S} {p} s is joins close other = record {
     begins_so ts xs rest (listed {us = us} {x = x} h m) = other ts x us h
 
     went : (ts : List Tok) (xs : List X) (rest : List Tok) → Perhaps P ts xs rest → begins kind.Close rest ≡ true
-        → perhaps p ts ≡ Some (xs, rest)
-    went ts xs rest nothing e = rw e refl
-    went ts xs rest (something h) e = let f = begins_so ts xs rest h in rw f ((exactly_list s is joins).reads ts xs rest h (closes rest e))
+        → Reading (perhaps p) ts xs rest
+    went ts xs rest nothing e = record { is = rw e refl }
+    went ts xs rest (something h) e =
+        let f = begins_so ts xs rest h in record { is = rw f ((exactly_list s is joins).reads ts xs rest h (closes rest e)) }
 
 pub shrinks_perhaps : {X : Type 0} {p : Parser X} → Strict p → Shrinks (perhaps p)
-shrinks_perhaps {X} {p} s = record {
-  by =
-      λ ts xs rest e. by_choice ts xs rest (chosen (begins kind.Close ts) (Some ([], ts)) (list p ts) (Some (xs, rest)) e);
-}
-  where
-    by_choice : (ts : List Tok) (xs : List X) (rest : List Tok)
-        → ((begins kind.Close ts ≡ true) × (◌≡◌ {A = Option (List X × List Tok)} (Some ([], ts)) (Some (xs, rest))))
-        ⊎ ((begins kind.Close ts ≡ false) × (list p ts ≡ Some (xs, rest))) → length rest ≤ length ts
-    by_choice ts xs rest (inl h) = let j = (both h.1).1 in rw j (omega arith)
-    by_choice ts xs rest (inr h) = let j : length rest < length ts = (Strict-list s).by ts xs rest h.1 in omega arith
+shrinks_perhaps {p = p} s =
+    Shrinks-choice (give []) (list p) (begins kind.Close) (λ ts. refl) (Shrinks-give []) (Strict-Shrinks (Strict-list s))
 
 pub strict_parens : {X : Type 0} {p : Parser X} → Shrinks p → Strict (parens p)
 strict_parens s =

@@ -9,18 +9,10 @@ pub fails_on : {Y Z : Type 0} (e : ReadFault) (given : Option Y) (other : Option
     → RefusesTokens e given → RefusesTokens e other
 fails_on (fault.Syntax at) given other h f = h f
 fails_on fault.Memory given other h f = tt
-fails_on fault.TooLong given other h f = absurd f
-fails_on fault.NotAscii given other h f = absurd f
-fails_on fault.TooDeep given other h f = absurd f
+fails_on _ given other h f = absurd f
 
 pub refused : {X Y Z : Type 0} (view : X → Z) (r : Result X ReadFault) (e : ReadFault) (given : Option Y)
     (other : Option Z) → IsErrAnd r (λ y. y ≡ e) → (given ≡ None → other ≡ None) → RefusesTokens e given
     → Gives view r other
 refused view (Ok x) e given other same h f = absurd same
 refused view (Err y) e given other same h f = rw same (fails_on e given other h f)
-
--- lack of memory says nothing of the tokens
-pub short_of_memory : {X Z : Type 0} (view : X → Z) (r : Result X ReadFault) (e : ReadFault) (other : Option Z)
-    → IsErrAnd r (λ y. y ≡ e) → e ≡ fault.Memory → Gives view r other
-short_of_memory view (Ok x) e other same is = absurd same
-short_of_memory view (Err y) e other same is = rw (same, is) tt

@@ -3,16 +3,16 @@ use Rattle.std.specs.Prelude.{nat_le, option_and_then}
 use Rattle.std.proofs.Common.{◌≡◌, ℕ, zero, suc, ◌+◌, ◌<◌, ◌≤◌, Bool, true, false, cond, List, [], ◌∷◌, length, Option, Some, None, refl}
 use Rattle.std.proofs.Common.{sym, ◌∙◌, ap, arith}
 use Rattle.std.proofs.lemmas.Bool.Decides.{nat_tests}
-use Rattle.language.specs.Tree.{Name, Operator, implies, or, xor, and, equal, differs, Expression, const, var, negation, two}
+use Rattle.language.specs.Tree.{Name, Operator, implies, Expression, two}
 use Rattle.tokens.specs.declared.vocabulary.Kind.{Kind}
 use Rattle.tokens.specs.declared.vocabulary.Kind.TheVariants as kind
 use Rattle.tokens.specs.declared.vocabulary.Token.{Token}
 use Rattle.tokens.specs.Token.{Tok, same_kind, tok_of, toks_of}
-use Rattle.syntax.specs.Parser.{Parser, Strict, give, refuse, ◌>>=◌, take}
-use Rattle.grammar.specs.Grammar.{Takes, takes, name_at, operator_at, level, left_level, right_level, Reads, reads_zero, reads_one}
+use Rattle.syntax.specs.Parser.{Parser, Strict}
+use Rattle.grammar.specs.Grammar.{Takes, takes, operator_at, level, left_level, right_level, Reads, reads_zero, reads_one}
 use Rattle.grammar.specs.Grammar.{reads_name, reads_not, reads_paren, reads_two}
 use Rattle.syntax.specs.Exact.{Goal, from, after, binds, operand_step, go_on, expression_step, reading, operand}
-use Rattle.syntax.proofs.KindTests.{same_kind-true, same_kind-is}
+use Rattle.syntax.proofs.ChainLemmas.{Finding, Finding-give, Finding-refuse, Finding-bind, Finding-last, Finding-kind, take_is}
 use Rattle.syntax.proofs.Fixes.{both, between, bind_is, Shrinks, Agree, Strict-Shrinks, Shrinks-give, Shrinks-refuse, Strict-take}
 use Rattle.syntax.proofs.Fixes.{Shrinks-bind, Agree-same, Agree-bind, Shrinks-cond, Agree-cond, IsStep, fix_shrinks, fix_is, Finds}
 use Rattle.syntax.proofs.Fixes.{fix_finds, carried}
@@ -75,28 +75,6 @@ pub data Stops (l : ℕ) : List Tok → Type 0 where
   stops_end : Stops l []
   stops_at : {t : Tok} {ts : List Tok} → binds l t.kind ≡ None → Stops l (t ∷ ts)
 
--- the operands, by the kind of the first token
-module _ (f : Goal → Parser (Expression Name)) (t : Tok) where
-  operand_zero : t.kind ≡ kind.Zero → operand_step f t ≡ give (const false)
-  unfolding same_kind
-  operand_zero e = rw e refl
-
-  operand_one : t.kind ≡ kind.One → operand_step f t ≡ give (const true)
-  unfolding same_kind
-  operand_one e = rw e refl
-
-  operand_name : t.kind ≡ kind.Id → operand_step f t ≡ give (var (name_at t))
-  unfolding same_kind
-  operand_name e = rw e refl
-
-  operand_not : t.kind ≡ kind.Not → operand_step f t ≡ (f (from 5) >>= λ e. give (negation e))
-  unfolding same_kind
-  operand_not e = rw e refl
-
-  operand_paren : t.kind ≡ kind.Open → operand_step f t ≡ (f (from 0) >>= λ e. take kind.Close >>= λ _. give e)
-  unfolding same_kind
-  operand_paren e = rw e refl
-
 -- an operator binds at its own level and below it, and at no other
 some_binds : (l : ℕ) (k : Kind) (o : Operator) → operator_at k ≡ Some o → l ≤ level o → binds l k ≡ Some o
 some_binds l k o e h = rw e (grind (arith, nat_tests))
@@ -136,11 +114,7 @@ Stops-weaker {l} {m} h (stops_at {t} {ts} e) = stops_at (weaker_none l m (operat
 none_at_5 : (p : Option Operator) → option_and_then (λ o. cond (nat_le 5 (level o)) (Some o) None) p ≡ None
 none_at_5 None = refl
 none_at_5 (Some implies) = refl
-none_at_5 (Some or) = refl
-none_at_5 (Some xor) = refl
-none_at_5 (Some and) = refl
-none_at_5 (Some equal) = refl
-none_at_5 (Some differs) = refl
+none_at_5 (Some _) = refl
 
 pub Stops-5 : (ts : List Tok) → Stops 5 ts
 Stops-5 [] = stops_end
@@ -164,9 +138,6 @@ reading_starts : (l : ℕ) (a : Expression Name) (t : Tok) (ts rest : List Tok) 
 reading_starts l a t ts rest e =
     reading_is (from l) (t ∷ ts) ∙ bind_is (operand_step reading t) (λ a. reading (after l a)) ts a rest e
 
-pub take_is : {k : Kind} {ts rest : List Tok} → Takes k ts rest → (t : Tok) × (take k ts ≡ Some (t, rest))
-take_is {k} (takes {t} {rest} e) = (t, rw (same_kind-is e) refl)
-
 -- what may not come next after an expression of this level, for the expression to be whole
 abbrev bound : ℕ → ℕ
 bound zero = 0
@@ -175,21 +146,13 @@ bound (suc l) = suc (suc l)
 -- the levels of an operator's sides
 left_levels : (o : Operator) → (level o < bound (left_level o)) × (level o ≤ left_level o)
 left_levels implies = (omega arith, omega arith)
-left_levels or = (omega arith, omega arith)
-left_levels xor = (omega arith, omega arith)
-left_levels and = (omega arith, omega arith)
-left_levels equal = (omega arith, omega arith)
-left_levels differs = (omega arith, omega arith)
+left_levels _ = (omega arith, omega arith)
 
 bound_right : (o : Operator) (m : ℕ) → m ≤ level o → bound m ≤ right_level o
 bound_right implies zero h = omega arith
 bound_right implies (suc m) h = absurd (omega arith)
 bound_right o zero h = omega arith
-bound_right or (suc m) h = omega arith
-bound_right xor (suc m) h = omega arith
-bound_right and (suc m) h = omega arith
-bound_right equal (suc m) h = omega arith
-bound_right differs (suc m) h = omega arith
+bound_right o (suc m) h = omega arith
 
 bound_above : (l : ℕ) → l ≤ bound l
 bound_above zero = omega arith
@@ -210,24 +173,17 @@ operator_stops l t us o e h = stops_at (rw e (let j : nat_le l (level o) ≡ fal
 -- reading comes past each expression of the grammar
 passes : {m : ℕ} {ts rest : List Tok} {a : Expression Name} → Reads m ts a rest → (l : ℕ) → l ≤ m → Stops (bound m) rest
     → reading (from l) ts ≡ reading (after l a) rest
-passes (reads_zero {t = t} {rest = rest} e) l h s =
-    reading_starts l _ t rest rest (ap (λ (p : Parser (Expression Name)). p rest) (operand_zero reading t e))
-passes (reads_one {t = t} {rest = rest} e) l h s =
-    reading_starts l _ t rest rest (ap (λ (p : Parser (Expression Name)). p rest) (operand_one reading t e))
-passes (reads_name {t = t} {rest = rest} e) l h s =
-    reading_starts l _ t rest rest (ap (λ (p : Parser (Expression Name)). p rest) (operand_name reading t e))
+unfolding same_kind
+passes (reads_zero {t = t} {rest = rest} e) l h s = reading_starts l _ t rest rest (rw e refl)
+passes (reads_one {t = t} {rest = rest} e) l h s = reading_starts l _ t rest rest (rw e refl)
+passes (reads_name {t = t} {rest = rest} e) l h s = reading_starts l _ t rest rest (rw e refl)
 passes (reads_not {t = t} {ts = ts} {rest = rest} {e = a} e r) l h s =
     let inner : reading (from 5) ts ≡ Some (a, rest) = passes r 5 (omega arith) (Stops-weaker (omega arith) (Stops-5 rest))
     ∙ reading_stops 5 a rest (Stops-5 rest) in
-    reading_starts l _ t ts rest
-    (ap (λ (p : Parser (Expression Name)). p ts) (operand_not reading t e)
-    ∙ bind_is (reading (from 5)) (λ e. give (negation e)) ts a rest inner)
+    reading_starts l _ t ts rest (rw (e, inner) refl)
 passes (reads_paren {t = t} {ts = ts} {us = us} {rest = rest} {e = a} e r c) l h s =
     let inner : reading (from 0) ts ≡ Some (a, us) = passes r 0 (omega arith) (close_stops c) ∙ reading_stops 0 a us (close_stops c) in
-    let closed = take_is c in
-    reading_starts l _ t ts rest (ap (λ (p : Parser (Expression Name)). p ts) (operand_paren reading t e)
-    ∙ bind_is (reading (from 0)) (λ e. take kind.Close >>= λ _. give e) ts a us inner
-    ∙ bind_is (take kind.Close) (λ _. give a) us closed.0 rest closed.1)
+    reading_starts l _ t ts rest (rw (e, inner, (take_is c).1) refl)
 passes {m} (reads_two {t = t} {ts = ts} {us = us} {rest = rest} {a = a} {b = b} o low left op right) l h s =
     let first : reading (from l) ts ≡ reading (after l a) (t ∷ us) =
     passes left l (let j = (left_levels o).1 in omega arith) (operator_stops (bound (left_level o)) t us o op (left_levels o).0) in
@@ -267,91 +223,31 @@ Found (after l a) us e rest = (ts : List Tok) → Ready l ts a us → Reads l ts
 
 small_left : (o : Operator) → left_level o ≤ 5
 small_left implies = omega arith
-small_left or = omega arith
-small_left xor = omega arith
-small_left and = omega arith
-small_left equal = omega arith
-small_left differs = omega arith
+small_left _ = omega arith
+
+-- an operator of a level at least 1 and at most n may stand left of one of level n
+left_within : (p : Operator) (n : ℕ) → level p ≤ n → 1 ≤ n → left_level p ≤ n
+left_within implies n h least = omega arith
+left_within _ n h least = omega arith
 
 next_left : (o p : Operator) → level p < right_level o → left_level p ≤ level o
 next_left implies p h = absurd (omega arith)
-next_left or implies h = omega arith
-next_left or or h = omega arith
-next_left or xor h = omega arith
-next_left or and h = omega arith
-next_left or equal h = omega arith
-next_left or differs h = omega arith
-next_left xor implies h = omega arith
-next_left xor or h = omega arith
-next_left xor xor h = omega arith
-next_left xor and h = omega arith
-next_left xor equal h = omega arith
-next_left xor differs h = omega arith
-next_left and implies h = omega arith
-next_left and or h = omega arith
-next_left and xor h = omega arith
-next_left and and h = omega arith
-next_left and equal h = omega arith
-next_left and differs h = omega arith
-next_left equal implies h = omega arith
-next_left equal or h = omega arith
-next_left equal xor h = omega arith
-next_left equal and h = omega arith
-next_left equal equal h = omega arith
-next_left equal differs h = omega arith
-next_left differs implies h = omega arith
-next_left differs or h = omega arith
-next_left differs xor h = omega arith
-next_left differs and h = omega arith
-next_left differs equal h = omega arith
-next_left differs differs h = omega arith
+next_left o p h = left_within p (level o) (omega arith) (omega arith)
 
 stops_next : {l : ℕ} {us : List Tok} {o : Operator} → Stops l us → Next us o → level o < l
 stops_next stops_end x = elim x [ ]
 stops_next {l} (stops_at {t} e) (next {o = o} h) = none_binds l t.kind o h e
 
-pub take_finds : (k : Kind) (ts : List Tok) (t : Tok) (rest : List Tok) → take k ts ≡ Some (t, rest) → Takes k ts rest × (ts ≡ t ∷ rest)
-take_finds k [] t rest e = cc
-take_finds k (u ∷ ts) t rest e = by_test k u t ts rest (same_kind u.kind k) refl e
-  where
-    by_test : (k : Kind) (u t : Tok) (ts rest : List Tok) (b : Bool) → same_kind u.kind k ≡ b
-        → cond {A = Option (Tok × List Tok)} b (Some (u, ts)) None ≡ Some (t, rest) → Takes k (u ∷ ts) rest × (u ∷ ts ≡ t ∷ rest)
-    by_test k u t ts rest true is e = carried (λ t rest. Takes k (u ∷ ts) rest × (u ∷ ts ≡ t ∷ rest)) e (takes (same_kind-true is), refl)
-    by_test k u t ts rest false is e = cc
-
 -- what is read at the start is an operand of each level
-operand_finds : (f : Goal → Parser (Expression Name)) → Finds Found f → (t : Tok) (ts : List Tok) (a : Expression Name) (us : List Tok)
-    → operand_step f t ts ≡ Some (a, us) → (m : ℕ) → Reads m (t ∷ ts) a us
-operand_finds f sound t ts a us e m =
-    by_tests (same_kind t.kind kind.Zero) refl (same_kind t.kind kind.One) refl (same_kind t.kind kind.Id) refl
-    (same_kind t.kind kind.Not) refl (same_kind t.kind kind.Open) refl e
-  where
-    negated : t.kind ≡ kind.Not → (f (from 5) >>= λ e. give (negation e)) ts ≡ Some (a, us) → Reads m (t ∷ ts) a us
-    negated is e =
-        let b = between (f (from 5)) (λ e. give (negation e)) ts a us e in
-        carried (λ a us. Reads m (t ∷ ts) a us) b.second (reads_not is (sound (from 5) ts b.x b.us b.first).0)
-
-    inside : t.kind ≡ kind.Open → (f (from 0) >>= λ e. take kind.Close >>= λ _. give e) ts ≡ Some (a, us) → Reads m (t ∷ ts) a us
-    inside is e =
-        let b = between (f (from 0)) (λ e. take kind.Close >>= λ _. give e) ts a us e in
-        let c = between (take kind.Close) (λ _. give b.x) b.us a us b.second in
-        carried (λ a us. Reads m (t ∷ ts) a us) c.second
-        (reads_paren is (sound (from 0) ts b.x b.us b.first).0 (take_finds kind.Close b.us c.x c.us c.first).0)
-
-    by_tests : (z : Bool) → same_kind t.kind kind.Zero ≡ z → (i : Bool) → same_kind t.kind kind.One ≡ i → (n : Bool)
-        → same_kind t.kind kind.Id ≡ n → (b : Bool) → same_kind t.kind kind.Not ≡ b → (o : Bool) → same_kind t.kind kind.Open ≡ o →
-        cond {A =
-        Parser (Expression Name)} z (give (const false))
-        (cond i (give (const true))
-        (cond n (give (var (name_at t)))
-        (cond b (f (from 5) >>= λ e. give (negation e)) (cond o (f (from 0) >>= λ e. take kind.Close >>= λ _. give e) refuse)))) ts
-        ≡ Some (a, us) → Reads m (t ∷ ts) a us
-    by_tests true is i _ n _ b _ o _ e = carried (λ a us. Reads m (t ∷ ts) a us) e (reads_zero (same_kind-true is))
-    by_tests false _ true is n _ b _ o _ e = carried (λ a us. Reads m (t ∷ ts) a us) e (reads_one (same_kind-true is))
-    by_tests false _ false _ true is b _ o _ e = carried (λ a us. Reads m (t ∷ ts) a us) e (reads_name (same_kind-true is))
-    by_tests false _ false _ false _ true is o _ e = negated (same_kind-true is) e
-    by_tests false _ false _ false _ false _ true is e = inside (same_kind-true is) e
-    by_tests false _ false _ false _ false _ false _ e = cc
+operand_finds : (f : Goal → Parser (Expression Name)) → Finds Found f → (t : Tok) (ts : List Tok) (m : ℕ)
+    → Finding (operand_step f t) ts (Reads m (t ∷ ts))
+operand_finds f sound t ts m =
+    Finding-kind t (λ is. Finding-give (reads_zero is))
+    (Finding-kind t (λ is. Finding-give (reads_one is))
+    (Finding-kind t (λ is. Finding-give (reads_name is))
+    (Finding-kind t (λ is. Finding-bind (f (from 5)) (λ e us r. Finding-give (reads_not is (sound (from 5) ts e us r).0)))
+    (Finding-kind t (λ is. Finding-bind (f (from 0)) (λ e us r. Finding-last (λ rest c. reads_paren is (sound (from 0) ts e us r).0 c)))
+    Finding-refuse))))
 
 go_on_finds : (f : Goal → Parser (Expression Name)) → Finds Found f
     → (l : ℕ) (a : Expression Name) (t : Tok) (us : List Tok) (o : Option Operator) → binds l t.kind ≡ o
@@ -378,7 +274,7 @@ step_finds f sound (from l) (t ∷ ts) e rest h =
     sound (after l b.x) b.us e rest b.second (t ∷ ts) (record {
       m = l + 5;
       above = omega arith;
-      reads = operand_finds f sound t ts b.x b.us b.first (l + 5);
+      reads = (operand_finds f sound t ts (l + 5)).by b.x b.us b.first;
       left = λ o n. let j = small_left o in omega arith;
     })
 step_finds f sound (after l a) [] e rest h = λ ts ready.
@@ -420,10 +316,6 @@ pub no_right : (l : ℕ) (a : Expression Name) (t : Tok) (us : List Tok) (o : Op
     → reading (from (right_level o)) us ≡ None → reading (after l a) (t ∷ us) ≡ None
 no_right l a t us o e f = reading_is (after l a) (t ∷ us) ∙ ap (go_on reading l a t us) e ∙ rw f refl
 
-pub ends_empty : (l : ℕ) (a : Expression Name) (ts : List Token) → length ts ≡ 0 → reading (after l a) (toks_of ts) ≡ Some (a, toks_of ts)
-ends_empty l a [] e = stops_at_end l a
-ends_empty l a (t ∷ ts) e = absurd (omega arith)
-
 pub ends_before : (l : ℕ) (a : Expression Name) (ts us : List Token) (t : Token) → ts ≡ t ∷ us → binds l t.kind ≡ None
     → reading (after l a) (toks_of ts) ≡ Some (a, toks_of ts)
 ends_before l a ts us t e h = rw e (stops_here l a (tok_of t) (toks_of us) h)
@@ -447,25 +339,3 @@ pub operand_begins : (k : Kind) (ts us : List Token) (t : Token) → ts ≡ t �
     ≡ operand_step reading (record { kind = k; at = t.at; text = t.text.now }) (toks_of us)
 unfolding operand
 operand_begins k ts us t e is = rw (e, is) refl
-
--- nothing is read at the end, or where no operand begins
-pub no_operand_left : (ts : List Token) → length ts ≡ 0 → operand (toks_of ts) ≡ None
-unfolding operand
-no_operand_left [] e = refl
-no_operand_left (t ∷ ts) e = absurd (omega arith)
-
-no_operand_by : (k : Kind) (at : ℕ) (text : List ℕ) (us : List Tok) → (k ≡ kind.Zero → ⊥) → (k ≡ kind.One → ⊥)
-    → (k ≡ kind.Id → ⊥) → (k ≡ kind.Not → ⊥) → (k ≡ kind.Open → ⊥)
-    → operand_step reading (record { kind = k; at = at; text = text }) us ≡ None
-unfolding same_kind
-no_operand_by kind.Zero at text us z o i n p = absurd (z refl)
-no_operand_by kind.One at text us z o i n p = absurd (o refl)
-no_operand_by kind.Id at text us z o i n p = absurd (i refl)
-no_operand_by kind.Not at text us z o i n p = absurd (n refl)
-no_operand_by kind.Open at text us z o i n p = absurd (p refl)
-no_operand_by _ at text us z o i n p = refl
-
-pub no_operand_begins : (ts us : List Token) (t : Token) → ts ≡ t ∷ us → (t.kind ≡ kind.Zero → ⊥) → (t.kind ≡ kind.One → ⊥)
-    → (t.kind ≡ kind.Id → ⊥) → (t.kind ≡ kind.Not → ⊥) → (t.kind ≡ kind.Open → ⊥) → operand (toks_of ts) ≡ None
-no_operand_begins ts us t e z o i n p =
-    operand_begins t.kind ts us t e refl ∙ no_operand_by t.kind t.at t.text.now (toks_of us) z o i n p

@@ -55,9 +55,6 @@ Shrinks-give x = record { by = λ ts y rest e. let h = (both e).1 in rw h (omega
 pub Shrinks-refuse : {X : Type 0} → Shrinks (refuse {X = X})
 Shrinks-refuse = record { by = λ ts y rest e. cc }
 
-pub Strict-refuse : {X : Type 0} → Strict (refuse {X = X})
-Strict-refuse = record { by = λ ts y rest e. cc }
-
 pub Strict-take : (k : Kind) → Strict (take k)
 Strict-take k = record { by = went k }
   where
@@ -178,10 +175,6 @@ fix_finds step Q h i ts x rest e = run_finds step Q h (suc (length ts)) i ts x r
 pub Shrinks-cond : {X : Type 0} {p q : Parser X} (b : Bool) → Shrinks p → Shrinks q → Shrinks (cond b p q)
 Shrinks-cond true s r = s
 Shrinks-cond false s r = r
-
-pub Strict-cond : {X : Type 0} {p q : Parser X} (b : Bool) → Strict p → Strict q → Strict (cond b p q)
-Strict-cond true s r = s
-Strict-cond false s r = r
 
 pub Agree-cond : {X : Type 0} {n : ℕ} {p q u v : Parser X} (b : Bool) → Agree n p u → Agree n q v → Agree n (cond b p q) (cond b u v)
 Agree-cond true s r = s

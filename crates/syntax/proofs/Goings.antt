@@ -1,17 +1,15 @@
 -- The steps of the loop that reads statements.
 use Rattle.std.specs.Prelude.{option_and_then}
-use Rattle.std.proofs.Common.{◌≡◌, ℕ, true, false, List, [], ◌∷◌, ◌++◌, length, Option, Some, None, refl, sym, ◌∙◌, ap, arith}
-use Rattle.language.specs.Tree.{Name, RightSide, leave, Block, done, Mark}
+use Rattle.std.proofs.Common.{◌≡◌, true, false, List, [], ◌∷◌, ◌++◌, Option, Some, None, refl, sym, ◌∙◌, ap}
+use Rattle.language.specs.Tree.{Name, leave, Block, done, Mark}
 use Rattle.tokens.specs.declared.vocabulary.Kind.{Kind}
 use Rattle.tokens.specs.declared.vocabulary.Kind.TheVariants as kind
 use Rattle.tokens.specs.declared.vocabulary.Token.{Token}
 use Rattle.tokens.specs.Token.{Tok, toks_of, same_kind}
-use Rattle.syntax.specs.Parser.{Parser, give, ◌>>=◌, begins, take}
-use Rattle.trees.specs.Trees.{Deed, simple, branch, repeat, Item, before, all_before}
-use Rattle.syntax.specs.Exact.{item_step, rest_step, starts_here, section, closing, item, going_on, put_before, marked, condition}
-use Rattle.syntax.specs.Exact.{calling, asking, assignment, asks_behind, named, semicolon_after, giving, deed_step, deed_by, deed, if_deed}
-use Rattle.syntax.specs.Exact.{while_deed}
-use Rattle.syntax.proofs.Closings.{behind_closing}
+use Rattle.syntax.specs.Parser.{Parser, give, ◌>>=◌, begins}
+use Rattle.trees.specs.Trees.{Deed, simple, Item, before, all_before}
+use Rattle.syntax.specs.Exact.{item_step, rest_step, starts_here, section, item, going_on, put_before, marked}
+use Rattle.syntax.specs.Exact.{calling, asking, assignment, asks_behind, named, semicolon_after, giving, deed_step, deed_by, deed}
 use Rattle.syntax.proofs.Fixes.{bind_is}
 use Rattle.syntax.proofs.Sections.{section_is}
 
@@ -60,97 +58,11 @@ sections_end is ts e = rw e refl
 -- what the loop over statements does
 pub ruleset section_steps = (sections_start, sections_no_start, sections_go_on, sections_refused, sections_end)
 
--- a test, and statements, with a token of this kind after them
-abbrev pub test_before : Kind → Parser (RightSide Name)
-test_before k = condition >>= λ r. closing k r
-
-abbrev pub section_before : Kind → Parser (Block Name Name Name)
-section_before k = section >>= λ b. closing k b
-
--- the steps of an `if`
-abbrev after_yes : RightSide Name → Block Name Name Name → Parser Deed
-after_yes r a = section >>= λ b. take kind.Fi >>= λ _. give (branch r a b)
-
-abbrev after_if : RightSide Name → Parser Deed
-after_if r = section >>= λ a. take kind.Else >>= λ _. after_yes r a
-
-module _ (ts : List Tok) where
-  pub if_refused : test_before kind.Then ts ≡ None → if_deed ts ≡ None
-  unfolding if_deed
-  if_refused e = behind_closing condition kind.Then after_if ts ∙ rw e refl
-
-  module _ {r : RightSide Name} {t1 : List Tok} (e1 : test_before kind.Then ts ≡ Some (r, t1)) where
-    if_tested : if_deed ts ≡ after_if r t1
-    unfolding if_deed
-    if_tested = behind_closing condition kind.Then after_if ts ∙ rw e1 refl
-
-    pub if_no_yes : section_before kind.Else t1 ≡ None → if_deed ts ≡ None
-    if_no_yes e = if_tested ∙ behind_closing section kind.Else (after_yes r) t1 ∙ rw e refl
-
-    module _ {t2 : List Tok} {a : Block Name Name Name} (e2 : section_before kind.Else t1 ≡ Some (a, t2)) where
-      if_yes : if_deed ts ≡ after_yes r a t2
-      if_yes = if_tested ∙ behind_closing section kind.Else (after_yes r) t1 ∙ rw e2 refl
-
-      pub if_no_no : section_before kind.Fi t2 ≡ None → if_deed ts ≡ None
-      if_no_no e = if_yes ∙ behind_closing section kind.Fi (λ b. give (branch r a b)) t2 ∙ rw e refl
-
-      pub if_whole : {t3 : List Tok} {b : Block Name Name Name} → section_before kind.Fi t2 ≡ Some (b, t3)
-          → if_deed ts ≡ Some (branch r a b, t3)
-      if_whole e = if_yes ∙ behind_closing section kind.Fi (λ b. give (branch r a b)) t2 ∙ rw e refl
-
--- the steps of a `while`
-abbrev after_while : RightSide Name → Parser Deed
-after_while r = section >>= λ a. take kind.Od >>= λ _. give (repeat r a)
-
-module _ (ts : List Tok) where
-  pub while_refused : test_before kind.Do ts ≡ None → while_deed ts ≡ None
-  unfolding while_deed
-  while_refused e = behind_closing condition kind.Do after_while ts ∙ rw e refl
-
-  module _ {r : RightSide Name} {t1 : List Tok} (e1 : test_before kind.Do ts ≡ Some (r, t1)) where
-    while_tested : while_deed ts ≡ after_while r t1
-    unfolding while_deed
-    while_tested = behind_closing condition kind.Do after_while ts ∙ rw e1 refl
-
-    pub while_no_body : section_before kind.Od t1 ≡ None → while_deed ts ≡ None
-    while_no_body e = while_tested ∙ behind_closing section kind.Od (λ a. give (repeat r a)) t1 ∙ rw e refl
-
-    pub while_whole : {t2 : List Tok} {a : Block Name Name Name} → section_before kind.Od t1 ≡ Some (a, t2)
-        → while_deed ts ≡ Some (repeat r a, t2)
-    while_whole e = while_tested ∙ behind_closing section kind.Od (λ a. give (repeat r a)) t1 ∙ rw e refl
-
 -- what a statement does is read as its first word says
 pub deed_begins : (k : Kind) (ts us : List Token) (t : Token) → ts ≡ t ∷ us → t.kind ≡ k → deed (toks_of ts)
     ≡ deed_by section (record { kind = k; at = t.at; text = t.text.now }) (toks_of us)
 unfolding deed
 deed_begins k ts us t e is = rw (e, is) refl
-
--- nothing is read at the end, or where no statement begins
-pub no_deed_left : (ts : List Token) → length ts ≡ 0 → deed (toks_of ts) ≡ None
-unfolding deed
-no_deed_left [] e = refl
-no_deed_left (t ∷ ts) e = absurd (omega arith)
-
-no_deed_by : (k : Kind) (at : ℕ) (text : List ℕ) (us : List Tok) → (k ≡ kind.Skip → ⊥) → (k ≡ kind.Return → ⊥)
-    → (k ≡ kind.Goto → ⊥) → (k ≡ kind.Assert → ⊥) → (k ≡ kind.Assume → ⊥) → (k ≡ kind.If → ⊥) → (k ≡ kind.While → ⊥)
-    → (k ≡ kind.Id → ⊥) → deed_by section (record { kind = k; at = at; text = text }) us ≡ None
-unfolding same_kind
-no_deed_by kind.Skip at text us s r g a m f w i = absurd (s refl)
-no_deed_by kind.Return at text us s r g a m f w i = absurd (r refl)
-no_deed_by kind.Goto at text us s r g a m f w i = absurd (g refl)
-no_deed_by kind.Assert at text us s r g a m f w i = absurd (a refl)
-no_deed_by kind.Assume at text us s r g a m f w i = absurd (m refl)
-no_deed_by kind.If at text us s r g a m f w i = absurd (f refl)
-no_deed_by kind.While at text us s r g a m f w i = absurd (w refl)
-no_deed_by kind.Id at text us s r g a m f w i = absurd (i refl)
-no_deed_by _ at text us s r g a m f w i = refl
-
-pub no_deed_begins : (ts us : List Token) (t : Token) → ts ≡ t ∷ us → (t.kind ≡ kind.Skip → ⊥) → (t.kind ≡ kind.Return → ⊥)
-    → (t.kind ≡ kind.Goto → ⊥) → (t.kind ≡ kind.Assert → ⊥) → (t.kind ≡ kind.Assume → ⊥) → (t.kind ≡ kind.If → ⊥)
-    → (t.kind ≡ kind.While → ⊥) → (t.kind ≡ kind.Id → ⊥) → deed (toks_of ts) ≡ None
-no_deed_begins ts us t e s r g a m f w i =
-    deed_begins t.kind ts us t e refl
-    ∙ no_deed_by t.kind t.at t.text.now (toks_of us) s r g a m f w i
 
 -- `return` stands alone, or a value follows
 pub deed_leaves : (ts us : List Token) (t : Token) → ts ≡ t ∷ us → t.kind ≡ kind.Return
@@ -180,10 +92,6 @@ unfolding deed named same_kind
 deed_assigns ts us t e is h g = rw (e, is, h, g) refl
 
 -- a statement is a mark and what it does
-pub item_no_mark : (ts : List Tok) → marked ts ≡ None → item ts ≡ None
-unfolding item
-item_no_mark ts e = rw e refl
-
 module _ (ts : List Tok) {m : Mark Name} {us : List Tok} (e : marked ts ≡ Some (m, us)) where
   abbrev with_mark : Parser Item
   with_mark = deed >>= λ d. give (record { mark = m; deed = d })
@@ -191,9 +99,6 @@ module _ (ts : List Tok) {m : Mark Name} {us : List Tok} (e : marked ts ≡ Some
   item_behind : item ts ≡ with_mark us
   unfolding item deed
   item_behind = bind_is marked (λ m. deed_step section >>= λ d. give (record { mark = m; deed = d })) ts m us e
-
-  pub item_no_deed : deed us ≡ None → item ts ≡ None
-  item_no_deed f = item_behind ∙ rw f refl
 
   pub item_whole : {d : Deed} {rest : List Tok} → deed us ≡ Some (d, rest)
       → item ts ≡ Some (record { mark = m; deed = d }, rest)

@@ -1,5 +1,6 @@
 pub mod Fixes
 pub mod KindTests
+pub mod ChainLemmas
 pub mod Expressions
 pub mod Exactly
 pub mod Parts
@@ -16,7 +17,6 @@ pub mod OneTree
 pub mod Appended
 pub mod Prints
 pub mod PrintedBlocks
-pub mod PrintedDeeds
 pub mod PrintedPrograms
 pub mod PrintsBack
 pub mod PrintsBackBlocks

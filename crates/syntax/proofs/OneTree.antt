@@ -41,20 +41,13 @@ pub one_fault : (bytes : List ℕ) (f g : ReadFault) → ReadFaultStands f bytes
     → fault_number g < 5
     → fault_number f ≡ fault_number g
 one_fault bytes fault.TooLong fault.TooLong s t a b = refl
-one_fault bytes fault.TooLong fault.NotAscii s t a b = absurd (let h = t.0 in omega arith)
-one_fault bytes fault.TooLong (fault.Syntax at) s t a b = absurd (let h = t.0 in omega arith)
-one_fault bytes fault.TooLong fault.TooDeep s t a b = absurd (let h = t.0 in omega arith)
-one_fault bytes fault.NotAscii fault.TooLong s t a b = absurd (let h = s.0 in omega arith)
+one_fault bytes fault.TooLong g s t a b = absurd (let h = t.0 in omega arith)
+one_fault bytes f fault.TooLong s t a b = absurd (let h = s.0 in omega arith)
 one_fault bytes fault.NotAscii fault.NotAscii s t a b = refl
-one_fault bytes fault.NotAscii (fault.Syntax at) s t a b = absurd (s.1 t.1)
-one_fault bytes fault.NotAscii fault.TooDeep s t a b = absurd (s.1 t.1)
-one_fault bytes (fault.Syntax at) fault.TooLong s t a b = absurd (let h = s.0 in omega arith)
-one_fault bytes (fault.Syntax at) fault.NotAscii s t a b = absurd (t.1 s.1)
-one_fault bytes (fault.Syntax at) (fault.Syntax other) s t a b = refl
-one_fault bytes (fault.Syntax at) fault.TooDeep s t a b = absurd (syntax_or_deep bytes at s.2 t.2)
-one_fault bytes fault.TooDeep fault.TooLong s t a b = absurd (let h = s.0 in omega arith)
-one_fault bytes fault.TooDeep fault.NotAscii s t a b = absurd (t.1 s.1)
-one_fault bytes fault.TooDeep (fault.Syntax at) s t a b = absurd (syntax_or_deep bytes at t.2 s.2)
-one_fault bytes fault.TooDeep fault.TooDeep s t a b = refl
+one_fault bytes fault.NotAscii g s t a b = absurd (s.1 t.1)
+one_fault bytes f fault.NotAscii s t a b = absurd (t.1 s.1)
 one_fault bytes fault.Memory g s t a b = absurd (omega arith)
 one_fault bytes f fault.Memory s t a b = absurd (omega arith)
+one_fault bytes (fault.Syntax at) fault.TooDeep s t a b = absurd (syntax_or_deep bytes at s.2 t.2)
+one_fault bytes fault.TooDeep (fault.Syntax at) s t a b = absurd (syntax_or_deep bytes at t.2 s.2)
+one_fault bytes f g s t a b = refl

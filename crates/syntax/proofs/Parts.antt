@@ -1,5 +1,5 @@
 -- The parts of statements, read exactly as the grammar says.
-use Rattle.std.proofs.Common.{◌≡◌, ℕ, ◌<◌, Bool, true, false, ◌||◌, List, [], ◌∷◌, length, Some, refl, ap, ◌⊎◌, inl, inr}
+use Rattle.std.proofs.Common.{◌≡◌, ℕ, Bool, true, false, ◌||◌, List, [], ◌∷◌, Some, refl, ap}
 use Rattle.language.specs.Tree.{Name, Operator, Expression, RightSide, any, value}
 use Rattle.tokens.specs.declared.vocabulary.Kind.{Kind}
 use Rattle.tokens.specs.declared.vocabulary.Kind.TheVariants as kind
@@ -9,9 +9,11 @@ use Rattle.grammar.specs.Grammar.{Takes, takes, name_at, operator_at, Reads, rea
 use Rattle.grammar.specs.Grammar.{reads_two, IsName, is_name, InParens, Listed, Perhaps, IsExpression, IsRight, is_any, is_value}
 use Rattle.syntax.specs.Exact.{binds, name, name_list, expression, right, rights, formals, argument_list, enclosed, condition, names_call}
 use Rattle.syntax.proofs.KindTests.{same_kind-true, same_kind-is}
-use Rattle.syntax.proofs.Fixes.{carried, between, bind_is, Strict-Shrinks, Shrinks-give, Strict-take, Strict-bind}
-use Rattle.syntax.proofs.Expressions.{Stops, stops_end, stops_at, take_is, take_finds, reading_finds, reading_complete, reading_strict}
-use Rattle.syntax.proofs.Exactly.{Exactly, Anything, chosen, begins_takes, NoComma, exactly_list, exactly_parens, exactly_perhaps}
+use Rattle.syntax.proofs.Fixes.{Strict-Shrinks, Shrinks-give, Strict-take, Strict-bind}
+use Rattle.syntax.proofs.ChainLemmas.{Finding-give, Finding-bind, Finding-take, Finding-last, Finding-choice, Strict-choice, Reading}
+use Rattle.syntax.proofs.ChainLemmas.{take_is, kind_taken}
+use Rattle.syntax.proofs.Expressions.{Stops, stops_end, stops_at, reading_finds, reading_complete, reading_strict}
+use Rattle.syntax.proofs.Exactly.{Exactly, exactly, Anything, begins_takes, NoComma, exactly_list, exactly_parens, exactly_perhaps}
 use Rattle.syntax.proofs.Exactly.{Strict-list, strict_parens, shrinks_perhaps}
 
 -- names
@@ -19,22 +21,10 @@ pub strict_name : Strict name
 strict_name = Strict-bind (Strict-take kind.Id) (λ t. Shrinks-give (name_at t))
 
 pub exactly_name : Exactly IsName Anything name
-exactly_name = record {
-  finds = λ ts x rest e.
-      let b = between (take kind.Id) (λ t. give (name_at t)) ts x rest e in
-      let f = take_finds kind.Id ts b.x b.us b.first in
-      carried (λ x rest. IsName ts x rest) b.second (found ts b.x b.us f.0 f.1);
-  reads = went;
-}
+exactly_name = exactly (λ ts. Finding-take (λ t us found same. Finding-give (rw same (is_name (kind_taken (rw same at found)))))) went
   where
-    kind_of : {ts rest : List Tok} (t : Tok) → Takes kind.Id ts rest → ts ≡ t ∷ rest → t.kind ≡ kind.Id
-    kind_of t (takes {t = u} e) same = let h : u ≡ t = cc in rw (← h) e
-
-    found : (ts : List Tok) (t : Tok) (us : List Tok) → Takes kind.Id ts us → ts ≡ t ∷ us → IsName ts (name_at t) us
-    found ts t us h e = rw e (is_name (kind_of t h e))
-
-    went : (ts : List Tok) (x : Name) (rest : List Tok) → IsName ts x rest → Unit {0} → name ts ≡ Some (x, rest)
-    went ts x rest (is_name {t = t} e) u = bind_is (take kind.Id) (λ t. give (name_at t)) (t ∷ rest) t rest (rw (same_kind-is e) refl)
+    went : (ts : List Tok) (x : Name) (rest : List Tok) → IsName ts x rest → Unit {0} → Reading name ts x rest
+    went ts x rest (is_name e) u = record { is = rw (same_kind-is e) refl }
 
 -- the kinds that begin an expression
 abbrev opens : Kind → Bool
@@ -87,44 +77,22 @@ exactly_expression = record {
 
 -- right sides
 pub strict_right : Strict right
-strict_right = record {
-  by =
-      λ ts x rest e.
-      by_choice ts x rest
-      (chosen (begins kind.Any ts) ((take kind.Any >>= λ _. give any) ts) ((expression >>= λ e. give (value e)) ts) (Some (x, rest)) e);
-}
-  where
-    by_choice : (ts : List Tok) (x : RightSide Name) (rest : List Tok)
-        → ((begins kind.Any ts ≡ true) × ((take kind.Any >>= λ _. give any) ts ≡ Some (x, rest)))
-        ⊎ ((begins kind.Any ts ≡ false) × ((expression >>= λ e. give (value e)) ts ≡ Some (x, rest))) → length rest < length ts
-    by_choice ts x rest (inl h) = (Strict-bind (Strict-take kind.Any) (λ t. Shrinks-give any)).by ts x rest h.1
-    by_choice ts x rest (inr h) = (Strict-bind strict_expression (λ e. Shrinks-give (value e))).by ts x rest h.1
+strict_right =
+    Strict-choice (take kind.Any >>= λ _. give any) (expression >>= λ e. give (value e)) (begins kind.Any) (λ ts. refl)
+    (Strict-bind (Strict-take kind.Any) (λ t. Shrinks-give any)) (Strict-bind strict_expression (λ e. Shrinks-give (value e)))
 
 pub exactly_right : Exactly IsRight (Stops 0) right
 unfolding same_kind
-exactly_right = record {
-  finds =
-      λ ts x rest e.
-      by_choice ts x rest
-      (chosen (begins kind.Any ts) ((take kind.Any >>= λ _. give any) ts) ((expression >>= λ e. give (value e)) ts) (Some (x, rest)) e);
-  reads = went;
-}
+exactly_right =
+    exactly
+    (λ ts. Finding-choice (take kind.Any >>= λ _. give any) (expression >>= λ e. give (value e)) (begins kind.Any ts) refl
+    (λ _. Finding-last (λ rest t. is_any t)) (λ _. Finding-bind expression (λ e us r. Finding-give (is_value (exactly_expression.finds ts e us r)))))
+    went
   where
-    by_choice : (ts : List Tok) (x : RightSide Name) (rest : List Tok)
-        → ((begins kind.Any ts ≡ true) × ((take kind.Any >>= λ _. give any) ts ≡ Some (x, rest)))
-        ⊎ ((begins kind.Any ts ≡ false) × ((expression >>= λ e. give (value e)) ts ≡ Some (x, rest))) → IsRight ts x rest
-    by_choice ts x rest (inl h) =
-        let b = between (take kind.Any) (λ _. give any) ts x rest h.1 in
-        carried (λ x rest. IsRight ts x rest) b.second (is_any (take_finds kind.Any ts b.x b.us b.first).0)
-    by_choice ts x rest (inr h) =
-        let b = between expression (λ e. give (value e)) ts x rest h.1 in
-        carried (λ x rest. IsRight ts x rest) b.second (is_value (exactly_expression.finds ts b.x b.us b.first))
-
-    went : (ts : List Tok) (x : RightSide Name) (rest : List Tok) → IsRight ts x rest → Stops 0 rest → right ts ≡ Some (x, rest)
-    went ts x rest (is_any t) s = rw (begins_takes t) (bind_is (take kind.Any) (λ _. give any) ts (take_is t).0 rest (take_is t).1)
+    went : (ts : List Tok) (x : RightSide Name) (rest : List Tok) → IsRight ts x rest → Stops 0 rest → Reading right ts x rest
+    went ts x rest (is_any t) s = record { is = rw (begins_takes t, (take_is t).1) refl }
     went ts x rest (is_value {e = e} r) s =
-        let h = begins_no kind.Any refl r in
-        rw h (bind_is expression (λ e. give (value e)) ts e rest (exactly_expression.reads ts e rest r s))
+        record { is = rw (begins_no kind.Any refl r, exactly_expression.reads ts e rest r s) refl }
 
 -- a comma and a closing parenthesis are not operators
 pub comma_stops : (us : List Tok) → begins kind.Comma us ≡ true → Stops 0 us

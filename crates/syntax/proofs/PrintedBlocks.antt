@@ -6,7 +6,7 @@ use Rattle.language.specs.Tree.{Name, Mark, Block}
 use Rattle.tokens.specs.Parts.{text_of}
 use Rattle.tokens.proofs.PartsCut.{text_of-append}
 use Rattle.trees.specs.declared.tree.Stmt.{Stmt}
-use Rattle.trees.specs.Trees.{name_of, Deed, simple, branch, repeat, Item, deed_of, marked_before, before, block_of}
+use Rattle.trees.specs.Trees.{name_of, Deed, simple, Item, deed_of, marked_before, before, block_of}
 use Rattle.trees.proofs.Folds.{item_is}
 use Rattle.grammar.specs.Printed.{label_parts, margin, block_parts}
 use Rattle.syntax.specs.PrintedDeed.{deed_parts}
@@ -26,8 +26,7 @@ marked_text : (level : ℕ) (m : Mark Name) (d : Deed) (k : Block Name Name Name
     → text_of (block_parts level (marked_before m d k))
     ≡ text_of (margin level) ++ (text_of (label_parts m.label) ++ (text_of (deed_parts level d) ++ text_of (block_parts level k)))
 marked_text level m (simple s) k = simp (text_of-append, append_assoc)
-marked_text level m (branch r a b) k = simp (text_of-append, append_assoc)
-marked_text level m (repeat r a) k = simp (text_of-append, append_assoc)
+marked_text level m _ k = simp (text_of-append, append_assoc)
 
 pub first_text : {A : Type 0} (level : ℕ) (s : Stmt A) (k : List (Stmt A))
     → text_of (block_parts level (block_of (s ∷ k)))

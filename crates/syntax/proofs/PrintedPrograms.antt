@@ -2,7 +2,6 @@
 use Rattle.std.proofs.Common.{◌≡◌, ℕ, ◌+◌, ◌<◌, cond, List, [], ◌∷◌, ◌++◌, length, map, drop, get_or, sym, ◌∙◌, ap, append_assoc, codes}
 use Rattle.std.specs.Prelude.{◌==◌, false, Result, IfOk, is_ok}
 use Rattle.std.proofs.lemmas.List.{drop_more}
-use Rattle.language.specs.Tree as tree
 use Rattle.tokens.specs.Parts.{Part, text_of}
 use Rattle.tokens.proofs.PartsCut.{text_of-append}
 use Rattle.trees.specs.declared.tree.Name.{Name}
@@ -11,30 +10,14 @@ use Rattle.trees.specs.declared.tree.Program.{Program}
 use Rattle.grammar.specs.Grammar.{joined}
 use Rattle.trees.specs.Trees.{name_of, names_of, proc_of, procs_of, threads_of, tree_of, block_of}
 use Rattle.grammar.specs.Printed.{name_parts, separated, margin, block_parts, declaration_parts, procedure_parts, thread_parts, printed}
-use Rattle.syntax.proofs.Appended.{four_behind, seven_behind}
 use Rattle.syntax.proofs.Prints.{pushed_last}
-
-declaration_text : (level : ℕ) (n : tree.Name) (ns : List tree.Name)
-    → text_of (declaration_parts level (n ∷ ns))
-    ≡ text_of (margin level) ++ (codes "decl " ++ (text_of (separated name_parts (n ∷ ns)) ++ (59 ∷ 10 ∷ [])))
-declaration_text level n ns = simp (text_of-append, append_assoc)
 
 pub declared : {A X E : Type 0} (r : Result X E) (level : ℕ) (names : List (Name A)) (old s1 s2 s3 new : List ℕ) → length names == 0 ≡ false
     → s1 ≡ old ++ text_of (margin level) → s2 ≡ s1 ++ codes "decl " → s3 ≡ s2 ++ text_of (separated name_parts (names_of names))
     → new ≡ cond (is_ok r) (s3 ++ (59 ∷ 10 ∷ [])) s3 → IfOk r (λ _. new ≡ old ++ text_of (declaration_parts level (names_of names)))
 declared r level [] old s1 s2 s3 new some h1 h2 h3 last = cc
 declared r level (n ∷ names) old s1 s2 s3 new some h1 h2 h3 last =
-    pushed_last r new s3 _ _ last
-    (rw (h3, h2, h1)
-    (four_behind old _ _ _ _ ∙ ap (λ (t : List ℕ). old ++ t) (sym (declaration_text level (name_of n) (names_of names)))))
-
-procedure_text : (p : tree.Procedure)
-    → text_of (procedure_parts p)
-    ≡ text_of (name_parts p.name)
-    ++ ((40 ∷ [])
-    ++ (text_of (separated name_parts p.formals) ++ (codes ")\nbegin\n"
-    ++ (text_of (declaration_parts 1 p.locals) ++ (text_of (block_parts 1 p.body) ++ codes "end\n")))))
-procedure_text p = simp (text_of-append, append_assoc)
+    pushed_last r new s3 _ _ last (rw (h3, h2, h1) (simp (text_of-append, append_assoc)))
 
 pub procedure_printed : {A X E : Type 0} (r : Result X E) (p : Proc A) (formals locals : List (Name A)) (body : List _)
     (old s1 s2 s3 s4 s5 s6 new : List ℕ)
@@ -44,9 +27,7 @@ pub procedure_printed : {A X E : Type 0} (r : Result X E) (p : Proc A) (formals 
     → s5 ≡ s4 ++ text_of (declaration_parts 1 (names_of locals)) → s6 ≡ s5 ++ text_of (block_parts 1 (block_of body))
     → new ≡ cond (is_ok r) (s6 ++ codes "end\n") s6 → IfOk r (λ _. new ≡ old ++ text_of (procedure_parts (proc_of p)))
 procedure_printed r p formals locals body old s1 s2 s3 s4 s5 s6 new f l b h1 h2 h3 h4 h5 h6 last =
-    pushed_last r new s6 _ _ last
-    (rw (h6, h5, h4, h3, h2, h1, f, l, b)
-    (seven_behind old _ _ _ _ _ _ _ ∙ ap (λ (t : List ℕ). old ++ t) (sym (procedure_text (proc_of p)))))
+    pushed_last r new s6 _ _ last (rw (h6, h5, h4, h3, h2, h1, f, l, b) (simp (text_of-append, append_assoc)))
 
 -- one more of a list is printed
 module _ {X Y : Type 0} (show : Y → List Part) (f : X → Y) where

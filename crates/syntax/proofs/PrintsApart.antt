@@ -2,7 +2,7 @@
 use Rattle.std.proofs.Common.{◌≡◌, ℕ, zero, suc, true, false, List, [], ◌∷◌, ◌++◌, map, refl, sym, ◌∙◌, ap, append_assoc, append-nil, inl}
 use Rattle.std.proofs.Common.{inr, Option, None, Some}
 use Rattle.std.specs.List.{AllByRecursion}
-use Rattle.language.specs.Tree.{Name, Operator, implies, or, xor, and, equal, differs, Expression, const, var, negation, two, RightSide}
+use Rattle.language.specs.Tree.{Name, Operator, implies, Expression, const, var, negation, two, RightSide}
 use Rattle.language.specs.Tree.{any, value, Simple, skip, assign, assert, assume, goto, leave, leave_with, call, call_for, Block, done}
 use Rattle.language.specs.Tree.{one, choose, loop, Procedure, ThreadLine, Tree}
 use Rattle.tokens.specs.declared.vocabulary.Kind.{Kind}
@@ -61,18 +61,11 @@ free_as_name k h (line ∷ more) apart = tt
 -- After ! comes an operand, which begins with no =.
 not_free : (e : Expression Name) (more : List Part) → IsApart kind.Not (operand_parts e ++ more)
 not_free (const false) more = refl
-not_free (const true) more = refl
-not_free (var x) more = refl
-not_free (negation e) more = refl
-not_free (two o a b) more = refl
+not_free _ more = refl
 
 operator_spelled : (o : Operator) → IsSpelled (kind_of o) (spelling (kind_of o))
 operator_spelled implies = inr refl
-operator_spelled or = inr refl
-operator_spelled xor = inr refl
-operator_spelled and = inr refl
-operator_spelled equal = inr refl
-operator_spelled differs = inr refl
+operator_spelled _ = inr refl
 
 -- What follows a closing parenthesis, a semicolon, a space and a line feed may be anything that stands apart.
 closed : (more : List Part) → AreApart more → Tail (fixed kind.Close ∷ more)

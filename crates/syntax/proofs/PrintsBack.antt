@@ -1,6 +1,6 @@
 -- The tokens of printed parts, by the grammar.
 use Rattle.std.proofs.Common.{◌≡◌, ℕ, ◌+◌, ◌<◌, ◌≤◌, true, false, List, [], ◌∷◌, ◌++◌, length, map, refl, ap, append_assoc, arith, Some}
-use Rattle.language.specs.Tree.{Name, Operator, implies, or, xor, and, equal, differs, Expression, const, var, negation, two, RightSide}
+use Rattle.language.specs.Tree.{Name, Operator, implies, Expression, const, var, negation, two, RightSide}
 use Rattle.language.specs.Tree.{any, value}
 use Rattle.tokens.specs.declared.vocabulary.Kind.TheVariants as kind
 use Rattle.tokens.specs.Token.{Tok}
@@ -33,11 +33,7 @@ zero_le n = omega arith
 
 operator_shown : (o : Operator) → operator_at (kind_of o) ≡ Some o
 operator_shown implies = refl
-operator_shown or = refl
-operator_shown xor = refl
-operator_shown and = refl
-operator_shown equal = refl
-operator_shown differs = refl
+operator_shown _ = refl
 
 -- An operation without parentheses, if its operands are read at every level.
 operation_shows : (o : Operator) (a b : Expression Name) → ((l : ℕ) → Shows (Reads l) unplaced_expression (operand_parts a) a)

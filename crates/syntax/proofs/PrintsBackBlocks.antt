@@ -2,7 +2,7 @@
 use Rattle.std.proofs.Common.{◌≡◌, ℕ, zero, suc, ◌+◌, List, [], ◌∷◌, ◌++◌, length, map, refl, sym, ◌∙◌, ap, subst, append_assoc, arith}
 use Rattle.std.proofs.Common.{Option, None, Some}
 use Rattle.language.specs.Tree.{Name, Expression, RightSide, Simple, skip, assign, assert, assume, goto, leave, leave_with, call, call_for}
-use Rattle.language.specs.Tree.{Block, done, one, choose, loop}
+use Rattle.language.specs.Tree.{Mark, Block, done, one, choose, loop}
 use Rattle.tokens.specs.declared.vocabulary.Kind.{Kind}
 use Rattle.tokens.specs.declared.vocabulary.Kind.TheVariants as kind
 use Rattle.tokens.specs.Token.{Tok}
@@ -111,16 +111,8 @@ simple_shows (call_for x p es) ok at more =
 
 simple_begun : (s : Simple Name Name Name) → SimpleInGrammar s → (more : List Part)
     → (k : Kind) × (w : List ℕ) × (others : List Part) × (simple_parts s ++ more ≡ shown k w ∷ others)
-simple_begun skip ok more = (_, _, _, refl)
-simple_begun leave ok more = (_, _, _, refl)
-simple_begun (leave_with e) ok more = (_, _, _, refl)
-simple_begun (goto l) ok more = (_, _, _, refl)
-simple_begun (assert r) ok more = (_, _, _, refl)
-simple_begun (assume r) ok more = (_, _, _, refl)
 simple_begun (assign [] rs) ok more = absurd (omega arith)
-simple_begun (assign (x ∷ xs) rs) ok more = (_, _, _, refl)
-simple_begun (call p es) ok more = (_, _, _, refl)
-simple_begun (call_for x p es) ok more = (_, _, _, refl)
+simple_begun _ ok more = (_, _, _, refl)
 
 mark_shows : (label : Option Name) (placed : ℕ) (k : Kind) (w : List ℕ) (others more : List Part) → more ≡ shown k w ∷ others → (at : ℕ)
     → Read IsMarked unplaced_mark (record { label = label; at = placed }) (tokens_of at (label_parts label ++ more)) more
@@ -138,6 +130,12 @@ mark_shows (Some l) placed k w others more is at =
       same = refl;
       reads = labelled refl (takes refl);
     }
+
+-- a mark in front of a test
+mark_before_test : (m : Mark Name) (first last : Kind) (r : RightSide Name) (behind : List Part) (at : ℕ)
+    → Read IsMarked unplaced_mark m (tokens_of at (label_parts m.label ++ (test_parts first r last ++ (line ∷ behind))))
+    (test_parts first r last ++ (line ∷ behind))
+mark_before_test m first last r behind at = mark_shows m.label m.at first (spelling first) _ _ refl at
 
 -- Margins leave no token.
 margin_at : (level at : ℕ) (ps : List Part) → (n : ℕ) × (tokens_of at (margin level ++ ps) ≡ tokens_of n ps)
@@ -194,15 +192,11 @@ test_shows first r last at more =
 -- There is a statement in a block, whatever its offsets.
 to_bare : (x : Block Name Name Name) → IsSome x → IsSome (unplaced_block x)
 to_bare done some = some
-to_bare (one m s k) some = tt
-to_bare (choose m r a b k) some = tt
-to_bare (loop m r a k) some = tt
+to_bare _ some = tt
 
 from_bare : (x : Block Name Name Name) → IsSome (unplaced_block x) → IsSome x
 from_bare done some = some
-from_bare (one m s k) some = tt
-from_bare (choose m r a b k) some = tt
-from_bare (loop m r a k) some = tt
+from_bare _ some = tt
 
 pub some_too : (x y : Block Name Name Name) → unplaced_block x ≡ unplaced_block y → IsSome y → IsSome x
 some_too x y e some = from_bare x (subst IsSome (sym e) (to_bare y some))
@@ -239,9 +233,7 @@ block_shows (choose m r a b k) ok level at more =
     let from_fi : List Part = line_parts level (fixed kind.Fi ∷ []) ++ rest in
     let from_else : List Part = line_parts level (fixed kind.Else ∷ []) ++ (block_parts (suc level) b ++ from_fi) in
     let start = first_line level at (label_parts m.label) (test_parts kind.If r kind.Then) (block_parts (suc level) a ++ from_else) in
-    let mark =
-    mark_shows m.label m.at kind.If (spelling kind.If) _
-    (test_parts kind.If r kind.Then ++ (line ∷ (block_parts (suc level) a ++ from_else))) refl start.0 in
+    let mark = mark_before_test m kind.If kind.Then r (block_parts (suc level) a ++ from_else) start.0 in
     let test = test_shows kind.If r kind.Then mark.next (line ∷ (block_parts (suc level) a ++ from_else)) in
     let yes = block_shows a ok.3 (suc level) (test.next + 1) from_else in
     let between = word_at kind.Else level yes.next (block_parts (suc level) b ++ from_fi) in
@@ -266,9 +258,7 @@ block_shows (loop m r a k) ok level at more =
     let rest : List Part = block_parts level k ++ more in
     let from_od : List Part = line_parts level (fixed kind.Od ∷ []) ++ rest in
     let start = first_line level at (label_parts m.label) (test_parts kind.While r kind.Do) (block_parts (suc level) a ++ from_od) in
-    let mark =
-    mark_shows m.label m.at kind.While (spelling kind.While) _
-    (test_parts kind.While r kind.Do ++ (line ∷ (block_parts (suc level) a ++ from_od))) refl start.0 in
+    let mark = mark_before_test m kind.While kind.Do r (block_parts (suc level) a ++ from_od) start.0 in
     let test = test_shows kind.While r kind.Do mark.next (line ∷ (block_parts (suc level) a ++ from_od)) in
     let body = block_shows a ok.3 (suc level) (test.next + 1) from_od in
     let end = word_at kind.Od level body.next rest in

@@ -25,16 +25,12 @@ module _ (A : Type 0) (bytes : List ℕ) (tokens : List Tok) (within : length by
   only_memory : (e : ReadFault) (tree : Tree) → Text bytes tree → RefusesTokens {Y = Tree × List Tok} e (program tokens) → e ≡ fault.Memory
   only_memory (fault.Syntax at) tree text f = let h = reads tree text in cc
   only_memory fault.Memory tree text f = refl
-  only_memory fault.TooLong tree text f = absurd f
-  only_memory fault.NotAscii tree text f = absurd f
-  only_memory fault.TooDeep tree text f = absurd f
+  only_memory _ tree text f = absurd f
 
   stands : (e : ReadFault) → RefusesTokens {Y = Tree × List Tok} e (program tokens) → ReadFaultStands e bytes
   stands (fault.Syntax at) f = (within, ascii, inr (tokens, cut, shallow, λ tree is. let h = program_reads tokens tree is in cc))
   stands fault.Memory f = (within, ascii)
-  stands fault.TooLong f = absurd f
-  stands fault.NotAscii f = absurd f
-  stands fault.TooDeep f = absurd f
+  stands _ f = absurd f
 
   -- what is read is a text with that tree, each text is read, and a fault stands
   abbrev pub Right : Result (Program A) ReadFault → Type 0

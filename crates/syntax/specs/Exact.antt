@@ -65,9 +65,13 @@ list parser = parser >>= λ x. more parser >>= λ xs. give (x ∷ xs)
 abbrev pub closing : {X : Type 0} → Kind → X → Parser X
 closing token_kind x = take token_kind >>= λ _. give x
 
+-- this, with a token of this kind after it
+abbrev pub closed : {X : Type 0} → Kind → Parser X → Parser X
+closed token_kind parser = parser >>= λ x. closing token_kind x
+
 -- a list with a token of this kind after it
 abbrev pub listed : {X : Type 0} → Parser X → Kind → Parser (List X)
-listed parser token_kind = list parser >>= λ xs. closing token_kind xs
+listed parser token_kind = closed token_kind (list parser)
 
 -- this once, and again while the test holds
 unfoldable pub repeated : {X : Type 0} → (List Tok → Bool) → Parser X → Parser (List X)
@@ -122,7 +126,7 @@ semicolon_after d = take kind.Semicolon >>= λ _. give d
 
 -- an assignment
 unfoldable pub assignment : Parser Deed
-assignment = name_list >>= λ xs. take kind.Assign >>= λ _. rights >>= λ rs. semicolon_after (simple (assign xs rs))
+assignment = listed name kind.Assign >>= λ xs. listed right kind.Semicolon >>= λ rs. give (simple (assign xs rs))
 
 -- a call
 unfoldable pub calling : Parser Deed
@@ -130,7 +134,7 @@ calling = name >>= λ p. argument_list >>= λ es. semicolon_after (simple (call 
 
 -- a call for a value
 unfoldable pub asking : Parser Deed
-asking = name >>= λ x. take kind.Assign >>= λ _. name >>= λ p. argument_list >>= λ es. semicolon_after (simple (call_for x p es))
+asking = closed kind.Assign name >>= λ x. name >>= λ p. argument_list >>= λ es. semicolon_after (simple (call_for x p es))
 
 -- whether a token of this kind comes next, and after it what the test says
 abbrev pub past : Kind → (List Tok → Bool) → List Tok → Bool
@@ -154,12 +158,11 @@ named token tokens =
 -- an `if`, after that word
 abbrev pub branching : Parser (Block Name Name Name) → Parser Deed
 branching block =
-    condition >>= λ r. take kind.Then >>= λ _. block >>= λ a. take kind.Else >>= λ _. block >>= λ b. take kind.Fi >>= λ _.
-    give (branch r a b)
+    closed kind.Then condition >>= λ r. closed kind.Else block >>= λ a. closed kind.Fi block >>= λ b. give (branch r a b)
 
 -- a `while`, after that word
 abbrev pub repeating : Parser (Block Name Name Name) → Parser Deed
-repeating block = condition >>= λ r. take kind.Do >>= λ _. block >>= λ a. take kind.Od >>= λ _. give (repeat r a)
+repeating block = closed kind.Do condition >>= λ r. closed kind.Od block >>= λ a. give (repeat r a)
 
 -- a `goto`, after that word
 abbrev pub jumping : Parser Deed
@@ -167,11 +170,11 @@ jumping = name >>= λ l. semicolon_after (simple (goto l))
 
 -- an `assert`, after that word
 abbrev pub asserting : Parser Deed
-asserting = condition >>= λ r. semicolon_after (simple (assert r))
+asserting = closed kind.Semicolon condition >>= λ r. give (simple (assert r))
 
 -- an `assume`, after that word
 abbrev pub assuming : Parser Deed
-assuming = condition >>= λ r. semicolon_after (simple (assume r))
+assuming = closed kind.Semicolon condition >>= λ r. give (simple (assume r))
 
 -- a value, after `return`
 unfoldable pub giving : Parser Deed
@@ -243,7 +246,7 @@ going_on = rest_step section
 
 -- a declaration
 unfoldable pub declaration : Parser (List Name)
-declaration = take kind.Decl >>= λ _. name_list >>= λ ns. take kind.Semicolon >>= λ _. give ns
+declaration = take kind.Decl >>= λ _. listed name kind.Semicolon
 
 -- declarations, as long as there are any
 unfoldable pub all_declarations : Parser (List Name)
@@ -251,7 +254,7 @@ all_declarations = many (begins kind.Decl) declaration >>= λ nss. give (joined 
 
 -- what is in a procedure: begin, its locals, its statements, end
 unfoldable pub insides : Parser (List Name × Block Name Name Name)
-insides = take kind.Begin >>= λ _. all_declarations >>= λ ls. section >>= λ b. take kind.End >>= λ _. give (ls, b)
+insides = take kind.Begin >>= λ _. all_declarations >>= λ ls. closed kind.End section >>= λ b. give (ls, b)
 
 -- a procedure
 unfoldable pub procedure : Parser Procedure
@@ -263,7 +266,7 @@ procedures = repeated (begins kind.Id) procedure
 
 -- a thread line
 unfoldable pub thread_line : Parser ThreadLine
-thread_line = take kind.Thread >>= λ t. name >>= λ n. take kind.Semicolon >>= λ _. give (record { at = t.at; name = n })
+thread_line = take kind.Thread >>= λ t. closed kind.Semicolon name >>= λ n. give (record { at = t.at; name = n })
 
 -- whether any token comes
 abbrev pub any_left : List Tok → Bool

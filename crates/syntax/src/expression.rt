@@ -13,30 +13,18 @@ use std::alloc::Allocator;
 use tokens::{Kind, Token};
 use trees::{Expr, Op};
 
-/// How strongly an operator binds.
-fn level_of(op: Op) -> u8
-    ensures { result ≡ level (operator_of op) }
+/// How strongly an operator binds, and how strongly its right operand does at least: `=>` groups to the right, and the
+/// others to the left.
+fn levels_of(op: Op) -> (u8, u8)
+    ensures own { result.0 ≡ level (operator_of op) }
+    ensures right { result.1 ≡ right_level (operator_of op) }
 {
     match op {
-        Op::Implies => 0,
-        Op::Or => 1,
-        Op::Xor => 2,
-        Op::And => 3,
-        Op::Equal | Op::Differs => 4,
-    }
-}
-
-/// How strongly the right operand of an operator binds at least: `=>` groups to the right, and the others to
-/// the left.
-fn right_level_of(op: Op) -> u8
-    ensures { result ≡ right_level (operator_of op) }
-{
-    match op {
-        Op::Implies => 0,
-        Op::Or => 2,
-        Op::Xor => 3,
-        Op::And => 4,
-        Op::Equal | Op::Differs => 5,
+        Op::Implies => (0, 0),
+        Op::Or => (1, 2),
+        Op::Xor => (2, 3),
+        Op::And => (3, 4),
+        Op::Equal | Op::Differs => (4, 5),
     }
 }
 
@@ -53,7 +41,8 @@ fn operator_of_kind(least: u8, kind: Kind) -> Option<Op>
         Kind::Differs => Op::Differs,
         _ => return None,
     };
-    (least <= level_of(op)).then_some(op)
+    let (level, _) = levels_of(op);
+    (least <= level).then_some(op)
 }
 
 impl<'a, A: Allocator + Clone> Reader<'a, A> {
@@ -69,7 +58,8 @@ impl<'a, A: Allocator + Clone> Reader<'a, A> {
             let Some(op) = operator_of_kind(least, first.kind) else {
                 break;
             };
-            let (right, after) = self.expression(right_level_of(op), others)?;
+            let (_, level) = levels_of(op);
+            let (right, after) = self.expression(level, others)?;
             let (left, right) = self.boxed(tree, right)?;
             tree = Expr::Two(op, left, right);
             rest = after;

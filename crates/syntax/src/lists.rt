@@ -2,7 +2,7 @@
 
 ghost use Rattle.std.specs.Prelude.{map};
 ghost use Rattle.syntax.specs.Gives.{Parses, Shorter};
-ghost use Rattle.syntax.specs.Exact.{listed, enclosed, condition};
+ghost use Rattle.syntax.specs.Exact.{closed, listed, enclosed, condition};
 ghost use Rattle.syntax.specs.Parser.{Strict};
 ghost use Rattle.trees.specs.Trees.{rhs_of};
 ghost use Rattle.tokens.specs.Token.{toks_of};
@@ -66,13 +66,14 @@ impl<'a, A: Allocator + Clone> Reader<'a, A> {
         self.listed(Kind::Close, inside)
     }
 
-    /// Reads a right side in parentheses.
+    /// Reads a right side in parentheses, and a token of this kind after it.
     #[tactic(auto, unfolding(crate::specs::Exact::condition))]
-    pub fn test<'t>(&self, tokens: &'t [Token<'t>]) -> Read<'t, Rhs<A>>
-        ensures gives { Parses rhs_of result condition tokens.now }
+    pub fn test<'t>(&self, kind: Kind, tokens: &'t [Token<'t>]) -> Read<'t, Rhs<A>>
+        ensures gives { Parses rhs_of result (closed kind condition) tokens.now }
         ensures shorter { Shorter result tokens.now }
     {
         let (_, inside) = self.take(Kind::Open, tokens)?;
-        self.closed(Rhs::read(self, inside), Kind::Close)
+        let side = self.closed(Rhs::read(self, inside), Kind::Close);
+        self.closed(side, kind)
     }
 }

@@ -48,7 +48,7 @@ impl<'a, A: Allocator + Clone> Reader<'a, A> {
     {
         let (_, inside) = self.take(Kind::Begin, tokens)?;
         let (locals, others) = self.declarations(inside)?;
-        let (body, rest) = self.closed(self.statements(others), Kind::End)?;
+        let (body, rest) = self.statements_before(Kind::End, others)?;
         Ok(((locals, body), rest))
     }
 
@@ -102,7 +102,7 @@ impl<A: Allocator + Clone> Element<A> for Thread<A> {
     #[tactic(auto, unfolding(crate::specs::Exact::thread_line))]
     fn read<'t>(reader: &Reader<'_, A>, tokens: &'t [Token<'t>]) -> Read<'t, Thread<A>> {
         let (word, others) = reader.take(Kind::Thread, tokens)?;
-        let (name, rest) = reader.closed(Name::read(reader, others), Kind::Semicolon)?;
+        let (name, rest) = reader.name_before(Kind::Semicolon, others)?;
         Ok((Thread { at: word.at, name }, rest))
     }
 }

@@ -3,6 +3,8 @@
 ghost use Rattle.std.specs.Prelude.{◌≡◌, ◌≤◌, length, IfOk, option_map};
 ghost use Rattle.syntax.specs.Gives.{Parses, Shorter};
 ghost use Rattle.syntax.specs.Exact.{
+  closed,
+  name,
   marked,
   assignment,
   calling,
@@ -100,6 +102,14 @@ impl<'a, A: Allocator + Clone> Reader<'a, A> {
         self.closed(Ok((core, tokens)), Kind::Semicolon)
     }
 
+    /// Reads a name, and a token of this kind after it.
+    pub fn name_before<'t>(&self, kind: Kind, tokens: &'t [Token<'t>]) -> Read<'t, Name<A>>
+        ensures gives { Parses name_of result (closed kind name) tokens.now }
+        ensures shorter { Shorter result tokens.now }
+    {
+        self.closed(Name::read(self, tokens), kind)
+    }
+
     /// Reads an assignment.
     #[tactic(auto, unfolding(crate::specs::Exact::assignment))]
     fn assignment<'t>(&self, tokens: &'t [Token<'t>]) -> Read<'t, Core<A>>
@@ -112,7 +122,7 @@ impl<'a, A: Allocator + Clone> Reader<'a, A> {
     }
 
     /// Reads a call.
-    #[tactic(auto, unfolding(crate::specs::Exact::calling))]
+    #[tactic(auto, using(crate::proofs::Parts::strict_expression), unfolding(crate::specs::Exact::calling))]
     fn calling<'t>(&self, tokens: &'t [Token<'t>]) -> Read<'t, Core<A>>
         ensures gives { Parses deed_of result calling tokens.now }
         ensures shorter { Shorter result tokens.now }
@@ -123,12 +133,12 @@ impl<'a, A: Allocator + Clone> Reader<'a, A> {
     }
 
     /// Reads a call for a value.
-    #[tactic(auto, unfolding(crate::specs::Exact::asking))]
+    #[tactic(auto, using(crate::proofs::Parts::strict_expression), unfolding(crate::specs::Exact::asking))]
     fn asking<'t>(&self, tokens: &'t [Token<'t>]) -> Read<'t, Core<A>>
         ensures gives { Parses deed_of result asking tokens.now }
         ensures shorter { Shorter result tokens.now }
     {
-        let (target, behind) = self.closed(Name::read(self, tokens), Kind::Assign)?;
+        let (target, behind) = self.name_before(Kind::Assign, tokens)?;
         let (name, opened) = Name::read(self, behind)?;
         let (arguments, rest) = self.enclosed(opened)?;
         self.ended(Core::CallTo(target, name, arguments), rest)
@@ -158,8 +168,8 @@ impl<'a, A: Allocator + Clone> Reader<'a, A> {
         ensures gives { Parses deed_of result asserting tokens.now }
         ensures shorter { Shorter result tokens.now }
     {
-        let (side, rest) = self.test(tokens)?;
-        self.ended(Core::Assert(side), rest)
+        let (side, rest) = self.test(Kind::Semicolon, tokens)?;
+        Ok((Core::Assert(side), rest))
     }
 
     /// Reads an `assume`, after that word.
@@ -167,8 +177,8 @@ impl<'a, A: Allocator + Clone> Reader<'a, A> {
         ensures gives { Parses deed_of result assuming tokens.now }
         ensures shorter { Shorter result tokens.now }
     {
-        let (side, rest) = self.test(tokens)?;
-        self.ended(Core::Assume(side), rest)
+        let (side, rest) = self.test(Kind::Semicolon, tokens)?;
+        Ok((Core::Assume(side), rest))
     }
 
     /// Reads statements, at least one, as long as another comes.
@@ -186,6 +196,19 @@ impl<'a, A: Allocator + Clone> Reader<'a, A> {
             rest = after;
         }
         Ok((list, rest))
+    }
+
+    /// Reads statements, and a token of this kind after them.
+    #[cycle(statements)]
+    pub fn statements_before<'t>(
+        &self,
+        kind: Kind,
+        tokens: &'t [Token<'t>],
+    ) -> Read<'t, Vec<Stmt<A>, A>>
+        ensures gives { Parses (λ v. block_of v.items) result (closed kind section) tokens.now }
+        ensures shorter { Shorter result tokens.now }
+    {
+        self.closed(self.statements(tokens), kind)
     }
 
     /// Reads a statement.
@@ -233,9 +256,9 @@ impl<'a, A: Allocator + Clone> Reader<'a, A> {
         ensures gives { Parses deed_of result if_deed tokens.now }
         ensures shorter { Shorter result tokens.now }
     {
-        let (side, opened) = self.closed(self.test(tokens), Kind::Then)?;
-        let (yes, between) = self.closed(self.statements(opened), Kind::Else)?;
-        let (no, rest) = self.closed(self.statements(between), Kind::Fi)?;
+        let (side, opened) = self.test(Kind::Then, tokens)?;
+        let (yes, between) = self.statements_before(Kind::Else, opened)?;
+        let (no, rest) = self.statements_before(Kind::Fi, between)?;
         Ok((Core::If(side, yes, no), rest))
     }
 
@@ -246,8 +269,8 @@ impl<'a, A: Allocator + Clone> Reader<'a, A> {
         ensures gives { Parses deed_of result while_deed tokens.now }
         ensures shorter { Shorter result tokens.now }
     {
-        let (side, opened) = self.closed(self.test(tokens), Kind::Do)?;
-        let (body, rest) = self.closed(self.statements(opened), Kind::Od)?;
+        let (side, opened) = self.test(Kind::Do, tokens)?;
+        let (body, rest) = self.statements_before(Kind::Od, opened)?;
         Ok((Core::While(side, body), rest))
     }
 }

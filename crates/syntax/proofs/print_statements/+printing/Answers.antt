@@ -1,17 +1,18 @@
-use Rattle.std.proofs.Common.{◌≡◌, ◌∙◌, ap, ℕ, ◌+◌, ◌<◌, ◌≤◌, ◌*◌, arith, List}
+use Rattle.std.proofs.Common.{◌≡◌, ◌∙◌, ap, refl, append_assoc, [], ℕ, ◌+◌, ◌<◌, ◌≤◌, ◌*◌, arith, List}
 use Rattle.std.specs.declared.vec.Vec.{Vec}
 use Rattle.std.specs.String.{string_bytes}
-use Rattle.trees.specs.Trees.{deed_of, block_of}
+use Rattle.trees.specs.Trees.{deed_of, rhs_of, block_of}
 use Rattle.language.specs.Sequential.{statements}
 use Rattle.trees.specs.declared.tree.Rhs.{Rhs}
 use Rattle.trees.specs.declared.tree.Stmt.{Stmt}
 use Rattle.trees.specs.declared.tree.Core.{Core}
 use Rattle.trees.specs.declared.tree.Core.TheVariants.{If, While}
-use Rattle.trees.proofs.Folds.{deed_of-If, deed_of-While}
+use Rattle.tokens.proofs.PartsCut.{text_of-append}
+use Rattle.trees.proofs.Folds.{deed_of-Skip, deed_of-Return, deed_of-Goto, deed_of-Assign, deed_of-Assert, deed_of-Assume}
+use Rattle.trees.proofs.Folds.{deed_of-Call, deed_of-Give, deed_of-CallTo, deed_of-If, deed_of-While}
 use Rattle.trees.proofs.Held.{held, smaller}
 use Rattle.syntax.proofs.PrintedBlocks.{one_printed, none_left}
-use Rattle.syntax.proofs.PrintedDeeds.{skipped, left, given, jumped, assigned, called, asked, asserted, assumed, branched, repeated}
-use Rattle.syntax.proofs.PrintedDeeds.{branch_pushed, loop_pushed}
+use Rattle.syntax.proofs.Prints.{pushed_last, put_last, branch_pushed, loop_pushed}
 use Rattle.syntax.proofs.print_statements.+printing.Goals as goal
 
 -- what an `if` or a `while` holds is printed at a smaller measure
@@ -59,79 +60,74 @@ print_block-returns g t c =
 
 pub print_core-returns-in-Assign : goal.print_core-returns-in-Assign
 print_core-returns-in-Assign g t c =
-    assigned c.args.level c.print_assignment.result c.args.core.now (string_bytes c.args.out.now)
-    (string_bytes c.print_assignment.new.out) c.in-Assign.targets c.in-Assign.sides c.deref.result.now c.deref-in-Assign.result.now
-    c.in-Assign.is c.deref.ensures.value c.deref-in-Assign.ensures.value c.print_assignment.ensures
+    rw (ap deed_of c.in-Assign.is ∙ deed_of-Assign c.in-Assign.targets c.in-Assign.sides)
+    (rw (c.deref.ensures.value, c.deref-in-Assign.ensures.value) at c.print_assignment.ensures)
 
 pub print_core-returns-in-Call : goal.print_core-returns-in-Call
 print_core-returns-in-Call g t c =
-    called c.args.level c.print_call.result c.args.core.now (string_bytes c.args.out.now)
-    (string_bytes c.print_call.new.out) c.in-Call.name c.in-Call.arguments c.deref-in-Call.result.now
-    c.in-Call.is c.deref-in-Call.ensures.value c.print_call.ensures
+    rw (ap deed_of c.in-Call.is ∙ deed_of-Call c.in-Call.name c.in-Call.arguments)
+    (rw c.deref-in-Call.ensures.value at c.print_call.ensures)
 
 pub print_core-returns-in-Give : goal.print_core-returns-in-Give
 print_core-returns-in-Give g t c =
-    given c.args.level c.print_giving.result c.args.core.now (string_bytes c.args.out.now)
-    (string_bytes c.print_giving.new.out) c.in-Give.value c.in-Give.is c.print_giving.ensures
+    rw (ap deed_of c.in-Give.is ∙ deed_of-Give c.in-Give.value)
+    c.print_giving.ensures
 
 pub print_core-returns-in-CallTo : goal.print_core-returns-in-CallTo
 print_core-returns-in-CallTo g t c =
-    asked c.args.level c.print_asking.result c.args.core.now (string_bytes c.args.out.now)
-    (string_bytes c.print_asking.new.out) c.in-CallTo.target c.in-CallTo.name c.in-CallTo.arguments c.deref-in-CallTo.result.now
-    c.in-CallTo.is c.deref-in-CallTo.ensures.value c.print_asking.ensures
+    rw (ap deed_of c.in-CallTo.is ∙ deed_of-CallTo c.in-CallTo.target c.in-CallTo.name c.in-CallTo.arguments)
+    (rw c.deref-in-CallTo.ensures.value at c.print_asking.ensures)
 
 pub print_core-returns-in-Assert : goal.print_core-returns-in-Assert
 print_core-returns-in-Assert g t c =
-    asserted c.args.level c.print_test.result c.args.core.now (string_bytes c.args.out.now)
-    (string_bytes c.print_test.new.out) c.in-Assert.side c.in-Assert.is c.print_test.ensures
+    rw (ap deed_of c.in-Assert.is ∙ deed_of-Assert c.in-Assert.side)
+    (put_last c.print_test.result _ (string_bytes c.args.out.now) _ _ c.print_test.ensures (simp (text_of-append, append_assoc)))
 
 pub print_core-returns-in-Assume : goal.print_core-returns-in-Assume
 print_core-returns-in-Assume g t c =
-    assumed c.args.level c.print_test-in-Assume.result c.args.core.now (string_bytes c.args.out.now)
-    (string_bytes c.print_test-in-Assume.new.out) c.in-Assume.side c.in-Assume.is c.print_test-in-Assume.ensures
+    rw (ap deed_of c.in-Assume.is ∙ deed_of-Assume c.in-Assume.side)
+    (put_last c.print_test-in-Assume.result _ (string_bytes c.args.out.now) _ _ c.print_test-in-Assume.ensures
+    (simp (text_of-append, append_assoc)))
 
 pub print_core-returns-in-If : goal.print_core-returns-in-If
 print_core-returns-in-If g t c =
-    branched c.args.level c.print_branch.result c.args.core.now (string_bytes c.args.out.now)
-    (string_bytes c.print_branch.new.out) c.in-If.side c.in-If.then c.in-If.otherwise c.deref-in-If.result.now
-    c.deref-in-If-2.result.now
-    c.in-If.is c.deref-in-If.ensures.value c.deref-in-If-2.ensures.value c.print_branch.ensures
+    rw (ap deed_of c.in-If.is ∙ deed_of-If c.in-If.side c.in-If.then c.in-If.otherwise)
+    (rw (c.deref-in-If.ensures.value, c.deref-in-If-2.ensures.value) at c.print_branch.ensures)
 
 pub print_core-returns-in-While : goal.print_core-returns-in-While
 print_core-returns-in-While g t c =
-    repeated c.args.level c.print_loop.result c.args.core.now (string_bytes c.args.out.now)
-    (string_bytes c.print_loop.new.out) c.in-While.side c.in-While.body c.deref-in-While.result.now
-    c.in-While.is c.deref-in-While.ensures.value c.print_loop.ensures
+    rw (ap deed_of c.in-While.is ∙ deed_of-While c.in-While.side c.in-While.body)
+    (rw c.deref-in-While.ensures.value at c.print_loop.ensures)
 
 pub print_branch-returns : goal.print_branch-returns
 print_branch-returns g t c =
-    branch_pushed c.args.level c.in_ok-inner.inner c.print_line-2.result (string_bytes c.args.out.now)
-    (string_bytes c.print_line-2.new.out) c.args.side.now c.args.then.now c.in_ok-inner.ensures c.args.otherwise.now
+    branch_pushed c.print_line-2.result (string_bytes c.args.out.now) (string_bytes c.print_line-2.new.out)
     (string_bytes c.print_test.new.out) (string_bytes c.print_block.new.out) (string_bytes c.print_line.new.out)
-    (string_bytes c.print_block-2.new.out)
+    (string_bytes c.print_block-2.new.out) c.args.level c.in_ok-inner.inner (rhs_of c.args.side.now) (block_of c.args.then.now)
+    c.in_ok-inner.ensures (block_of c.args.otherwise.now)
     c.in_ok-print_test.ensures c.in_ok-print_block.ensures c.in_ok-print_line.ensures c.in_ok-print_block-2.ensures c.print_line-2.ensures
 
 pub print_loop-returns : goal.print_loop-returns
 print_loop-returns g t c =
-    loop_pushed c.args.level c.in_ok-inner.inner c.print_line.result (string_bytes c.args.out.now)
-    (string_bytes c.print_line.new.out) c.args.side.now c.args.body.now c.in_ok-inner.ensures
-    (string_bytes c.print_test.new.out) (string_bytes c.print_block.new.out)
-    c.in_ok-print_test.ensures c.in_ok-print_block.ensures c.print_line.ensures
+    loop_pushed c.print_line.result (string_bytes c.args.out.now) (string_bytes c.print_line.new.out)
+    (string_bytes c.print_test.new.out) (string_bytes c.print_block.new.out) [] [] c.args.level c.in_ok-inner.inner
+    (rhs_of c.args.side.now) (block_of c.args.body.now) c.in_ok-inner.ensures c.in_ok-print_test.ensures c.in_ok-print_block.ensures
+    c.print_line.ensures
 
 pub print_core-returns-in-Skip : goal.print_core-returns-in-Skip
 print_core-returns-in-Skip g t c =
-    skipped c.args.level c.push_str.result c.args.core.now (string_bytes c.args.out.now)
-    (string_bytes c.push_str.new.self) c.in-Skip.is c.push_str.ensures.bytes
+    rw (ap deed_of c.in-Skip.is ∙ deed_of-Skip _)
+    (pushed_last c.push_str.result _ (string_bytes c.args.out.now) _ _ c.push_str.ensures.bytes refl)
 
 pub print_core-returns-in-Return : goal.print_core-returns-in-Return
 print_core-returns-in-Return g t c =
-    left c.args.level c.push_str-in-Return.result c.args.core.now (string_bytes c.args.out.now)
-    (string_bytes c.push_str-in-Return.new.self) c.in-Return.is c.push_str-in-Return.ensures.bytes
+    rw (ap deed_of c.in-Return.is ∙ deed_of-Return _)
+    (pushed_last c.push_str-in-Return.result _ (string_bytes c.args.out.now) _ _ c.push_str-in-Return.ensures.bytes refl)
 
 pub print_core-returns-in-Goto : goal.print_core-returns-in-Goto
 print_core-returns-in-Goto g t c =
-    jumped c.args.level c.print_jump.result c.args.core.now (string_bytes c.args.out.now)
-    (string_bytes c.print_jump.new.out) c.in-Goto.label c.in-Goto.is c.print_jump.ensures
+    rw (ap deed_of c.in-Goto.is ∙ deed_of-Goto c.in-Goto.label)
+    c.print_jump.ensures
 
 pub print_core-print_branch-requires : goal.print_core-print_branch-requires
 print_core-print_branch-requires g t c κs within =

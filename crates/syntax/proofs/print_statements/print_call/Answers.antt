@@ -1,10 +1,10 @@
+use Rattle.std.proofs.Common.{append_assoc}
 use Rattle.std.specs.String.{string_bytes}
-use Rattle.syntax.proofs.PrintedDeeds.{call_pushed}
+use Rattle.tokens.proofs.PartsCut.{text_of-append}
+use Rattle.syntax.proofs.Prints.{pushed_last}
 use Rattle.syntax.proofs.print_statements.print_call.Goals as goal
 
 pub returns : goal.returns
 returns g c =
-    call_pushed c.push_str-2.result (string_bytes c.args.out.now) (string_bytes c.push_str-2.new.self)
-    (string_bytes c.print.new.out) (string_bytes c.push_str.new.self) (string_bytes c.print_list.new.out)
-    c.args.name.now c.args.arguments.now
-    c.in_ok-print.ensures c.in_ok-push_str.ensures.bytes c.in_ok-print_list.ensures c.push_str-2.ensures.bytes
+    pushed_last c.push_str-2.result (string_bytes c.push_str-2.new.self) (string_bytes c.print_list.new.out) _ _ c.push_str-2.ensures.bytes
+    (rw (c.in_ok-print_list.ensures, c.in_ok-push_str.ensures.bytes, c.in_ok-print.ensures) (simp (text_of-append, append_assoc)))

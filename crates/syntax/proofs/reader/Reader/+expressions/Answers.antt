@@ -1,46 +1,18 @@
-use Rattle.std.proofs.Common.{rules, arith, ◌≡◌, ◌+◌, ◌*◌, ◌<◌, ℕ, length, true, false, refl, List, ◌∷◌, ◌∙◌, sym, ap, Some}
+use Rattle.std.proofs.Common.{rules, ◌≡◌, true, false, refl, List, ◌∙◌, sym, ap, Some}
 use Rattle.language.specs.Tree.{Name, Expression, two}
 use Rattle.grammar.specs.Grammar.{right_level}
-use Rattle.syntax.specs.Exact.{reading, from, after, operand}
+use Rattle.syntax.specs.Exact.{reading, from, after}
 use Rattle.trees.specs.Trees.{operator_of, expr_of}
 use Rattle.tokens.specs.declared.vocabulary.Token.{Token}
 use Rattle.tokens.specs.Token.{tok_of, toks_of, same_kind}
 use Rattle.tokens.specs.declared.vocabulary.Kind.TheVariants as kind
-use Rattle.syntax.proofs.Closings.{closed_read, closed_shorter, less_still, shorter_after_one}
-use Rattle.syntax.proofs.Exits.{refused, short_of_memory}
-use Rattle.syntax.proofs.Expressions.{operand_begins, no_operand_left, no_operand_begins, starts, no_start, goes_on, no_right}
-use Rattle.syntax.proofs.Expressions.{ends_before, ends_empty}
+use Rattle.syntax.proofs.Closings.{closed_read}
+use Rattle.syntax.proofs.Expressions.{operand_begins, starts, goes_on}
+use Rattle.syntax.proofs.Expressions.{ends_before, stops_at_end}
+use Rattle.syntax.proofs.ChainLemmas.{at_end}
 use Rattle.trees.proofs.Folds.{expr_of-Const, expr_of-Var, expr_of-Not, expr_of-Two}
 use Rattle.syntax.proofs.reader.Reader.+expressions.Goals as goal
 use Rattle.syntax.proofs.reader.Reader.+expressions.Goals.{expression-in-Some+in_default-operator_of_kind, expression-in_default}
-
--- The measures of calls: fewer tokens, or as many and a function further down.
-same_less : (n : ℕ) → 2 * n < 2 * n + 1
-same_less n = omega arith
-
-one_less : {A : Type 0} {x : A} {xs ys : List A} → ys ≡ x ∷ xs → length xs < length ys
-one_less is = rw is (omega arith)
-
-operand_less : {A : Type 0} {x : A} {xs ys : List A} → ys ≡ x ∷ xs → 2 * length xs + 1 < 2 * length ys
-operand_less {A} {x} {xs} {ys} is = rw is (omega arith)
-
-right_less : {A : Type 0} {x : A} {xs ys : List A} {n : ℕ} → ys ≡ x ∷ xs → length ys < n → 2 * length xs + 1 < 2 * n + 1
-right_less {A} {x} {xs} {ys} {n} is less =
-    let h : length ys ≡ length xs + 1 = rw is (omega arith) in
-    omega (arith, h, less)
-
-pub expression-operand-requires : goal.expression-operand-requires
-expression-operand-requires g t c κs within = (rw (← c.decreases) (same_less _), within)
-
-pub expression-expression-requires : goal.expression-expression-requires
-expression-expression-requires g t c κs within =
-    (rw (← c.decreases) (right_less c.in-Some.ensures.cases.0 c.loop-first.invariant.shorter), within)
-
-pub operand-expression-requires : goal.operand-expression-requires
-operand-expression-requires g t c κs within = (rw (← c.decreases) (operand_less c.in-Some.ensures.cases.0), within)
-
-pub operand-expression-requires-in-Open : goal.operand-expression-requires-in-Open
-operand-expression-requires-in-Open g t c κs within = (rw (← c.decreases) (operand_less c.in-Some.ensures.cases.0), within)
 
 pub expression-loop-first-preserved : goal.expression-loop-first-preserved
 expression-loop-first-preserved g t c = record {
@@ -48,7 +20,7 @@ expression-loop-first-preserved g t c = record {
       let op = c.in-Some-operator_of_kind.op in
       let right : reading (from (right_level (operator_of op))) (toks_of c.in-Some.others.now) ≡ Some
       (expr_of c.in_ok-right.right, toks_of c.in_ok-right.after.now) =
-      rw c.right_level_of.ensures at c.in_ok-right.ensures.gives in
+      rw c.levels_of-level.ensures.right at c.in_ok-right.ensures.gives in
       c.loop-first.invariant.whole
       ∙ ap (λ (ts : List Token). reading (after c.args.least (expr_of c.loop-first.tree)) (toks_of ts)) c.in-Some.ensures.cases.0
       ∙ goes_on c.args.least (expr_of c.loop-first.tree) (expr_of c.in_ok-right.right) (tok_of c.in-Some.first.now)
@@ -69,7 +41,10 @@ expression-returns-clause-gives g t c =
           ends_before c.args.least
           (expr_of c.loop-first.tree) c.loop-first.rest.now w.in-Some.others.now w.in-Some.first.now w.in-Some.ensures.cases.0
           (sym w.in_default-operator_of_kind.ensures)
-      | expression-in_default w ↦ ends_empty c.args.least (expr_of c.loop-first.tree) c.loop-first.rest.now w.in_default.ensures.cases
+      | expression-in_default w ↦
+          at_end (reading (after c.args.least (expr_of c.loop-first.tree))) (λ ts. Some (expr_of c.loop-first.tree, ts))
+          (stops_at_end c.args.least (expr_of c.loop-first.tree))
+          c.loop-first.rest.now w.in_default.ensures.cases
     ]
 
 pub operand-returns-in-Zero-clause-gives : goal.operand-returns-in-Zero-clause-gives
@@ -103,84 +78,10 @@ operand-returns-in-Open-clause-gives g t c =
     c.in-Open.is) (closed_read expr_of (reading (from 0)) kind.Close c.expression-in-Open.result c.closed.result
     c.in-Some.rest.now c.expression-in-Open.ensures.gives c.closed.ensures)
 
-pub operand-returns-in-Open-clause-shorter : goal.operand-returns-in-Open-clause-shorter
-operand-returns-in-Open-clause-shorter g t c =
-    shorter_after_one c.closed.result c.in-Some.first.now c.in-Some.rest.now c.args.tokens.now c.in-Some.ensures.cases.0
-    (closed_shorter kind.Close c.expression-in-Open.result c.closed.result c.in-Some.rest.now
-    c.expression-in-Open.ensures.shorter c.closed.ensures)
-
-pub operand-returns-in_err-inner-in-Not-clause-gives : goal.operand-returns-in_err-inner-in-Not-clause-gives
-unfolding same_kind
-operand-returns-in_err-inner-in-Not-clause-gives g t c =
-    refused _ c.from_residual-in_err-inner-in-Not.result _ (reading (from 5) (toks_of c.in-Some.rest.now)) _
-    c.from_residual-in_err-inner-in-Not.ensures.1
-    (λ none. operand_begins kind.Not c.args.tokens.now c.in-Some.rest.now c.in-Some.first.now
-    c.in-Some.ensures.cases.0 c.in-Not.is ∙ rw none refl)
-    c.in_err-inner-in-Not.ensures.gives
-
-pub expression-returns-in_err-tree-clause-gives : goal.expression-returns-in_err-tree-clause-gives
-expression-returns-in_err-tree-clause-gives g t c =
-    refused _ c.from_residual.result _ (operand (toks_of c.args.tokens.now)) _ c.from_residual.ensures.1
-    (no_start c.args.least (toks_of c.args.tokens.now)) c.in_err-tree.ensures.gives
-
 pub expression-loop-first-init : goal.expression-loop-first-init
 expression-loop-first-init g t c = record {
   whole =
       starts c.args.least (toks_of c.args.tokens.now) (expr_of c.in_ok-tree.tree) (toks_of c.in_ok-tree.rest.now)
       c.in_ok-tree.ensures.gives;
   shorter = c.in_ok-tree.ensures.shorter;
-}
-
-pub expression-returns-in_err-right-clause-gives : goal.expression-returns-in_err-right-clause-gives
-expression-returns-in_err-right-clause-gives g t c =
-    let op = c.in-Some-operator_of_kind.op in
-    refused _ c.from_residual-in_err-right.result _ (reading (from (right_level (operator_of op))) (toks_of c.in-Some.others.now)) _
-    c.from_residual-in_err-right.ensures.1
-    (λ none. c.loop-first.invariant.whole
-    ∙ ap (λ (ts : List Token). reading (after c.args.least (expr_of c.loop-first.tree)) (toks_of ts)) c.in-Some.ensures.cases.0
-    ∙ no_right c.args.least (expr_of c.loop-first.tree) (tok_of c.in-Some.first.now) (toks_of c.in-Some.others.now) (operator_of op)
-    (sym c.in-Some-operator_of_kind.ensures) none) (rw c.right_level_of.ensures at c.in_err-right.ensures.gives)
-
-pub expression-returns-in_err-left-clause-gives : goal.expression-returns-in_err-left-clause-gives
-expression-returns-in_err-left-clause-gives g t c =
-    short_of_memory _ c.from_residual-in_err-left.result _ _ c.from_residual-in_err-left.ensures.1 c.in_err-left.ensures.err
-
-pub expression-returns-clause-shorter : goal.expression-returns-clause-shorter
-expression-returns-clause-shorter g t c = c.loop-first.invariant.shorter
-
-pub operand-returns-in_default-clause-gives : goal.operand-returns-in_default-clause-gives
-operand-returns-in_default-clause-gives g t c = no_operand_left c.args.tokens.now c.in_default.ensures.cases
-
-pub operand-returns-in_default-clause-shorter : goal.operand-returns-in_default-clause-shorter
-operand-returns-in_default-clause-shorter g t c = tt
-
-pub operand-returns-in_err-name-in-Id-clause-gives : goal.operand-returns-in_err-name-in-Id-clause-gives
-operand-returns-in_err-name-in-Id-clause-gives g t c =
-    short_of_memory _ c.from_residual.result _ _ c.from_residual.ensures.1 c.in_err-name-in-Id.ensures.err
-
-pub operand-returns-in_err-in_box-in-Not-clause-gives : goal.operand-returns-in_err-in_box-in-Not-clause-gives
-operand-returns-in_err-in_box-in-Not-clause-gives g t c =
-    short_of_memory _ c.from_residual-in_err-in_box-in-Not.result _ _ c.from_residual-in_err-in_box-in-Not.ensures.1
-    c.in_err-in_box-in-Not.ensures.err
-
-pub operand-returns-in-Zero-clause-shorter : goal.operand-returns-in-Zero-clause-shorter
-operand-returns-in-Zero-clause-shorter g t c = one_less c.in-Some.ensures.cases.0
-
-pub operand-returns-in-One-clause-shorter : goal.operand-returns-in-One-clause-shorter
-operand-returns-in-One-clause-shorter g t c = one_less c.in-Some.ensures.cases.0
-
-pub operand-returns-in_ok-name-in-Id-clause-shorter : goal.operand-returns-in_ok-name-in-Id-clause-shorter
-operand-returns-in_ok-name-in-Id-clause-shorter g t c = one_less c.in-Some.ensures.cases.0
-
-pub operand-returns-in_ok-in_box-in-Not-clause-shorter : goal.operand-returns-in_ok-in_box-in-Not-clause-shorter
-operand-returns-in_ok-in_box-in-Not-clause-shorter g t c =
-    less_still c.in_ok-inner-in-Not.ensures.shorter (one_less c.in-Some.ensures.cases.0)
-
-pub operand-returns-in_default-kind : goal.operand-returns-in_default-kind
-operand-returns-in_default-kind g t c = record {
-  gives =
-      let n = c.in_default-kind in
-      no_operand_begins c.args.tokens.now c.in-Some.rest.now c.in-Some.first.now c.in-Some.ensures.cases.0
-      n.not-Zero n.not-One n.not-Id n.not-Not n.not-Open;
-  shorter = tt;
 }

@@ -1,49 +1,14 @@
-use Rattle.std.proofs.Common.{rules, arith, ◌≡◌, ◌+◌, ◌*◌, ◌<◌, ◌≤◌, ℕ, length, List, [], ◌∷◌, ◌∙◌, ap, sym, Some, refl}
+use Rattle.std.proofs.Common.{rules, List, [], ◌∙◌, ap, sym, Some, refl}
 use Rattle.tokens.specs.declared.vocabulary.Kind.TheVariants as kind
 use Rattle.tokens.specs.Token.{toks_of, same_kind}
-use Rattle.syntax.specs.Exact.{marked, deed, item, condition, section, going_on, put_before, if_deed, while_deed}
-use Rattle.trees.specs.Trees.{Item, item_of, items_of, rhs_of, block_of}
-use Rattle.syntax.proofs.Exits.{refused, short_of_memory}
-use Rattle.syntax.proofs.Closings.{closed_read, closed_shorter, less_still, no_more, refused_shorter}
+use Rattle.syntax.specs.Exact.{section, going_on, put_before, if_deed, while_deed}
+use Rattle.trees.specs.Trees.{Item, item_of, items_of, block_of}
+use Rattle.syntax.proofs.Closings.{closed_read, closed_shorter, less_still}
 use Rattle.trees.proofs.Folds.{item_is, deed_of-Skip, deed_of-Return, deed_of-If, deed_of-While}
-use Rattle.syntax.proofs.Goings.{sections_start, sections_no_start, sections_go_on, sections_refused, item_no_mark, item_no_deed}
-use Rattle.syntax.proofs.Goings.{item_whole, deed_leaves, deed_gives, deed_calls, deed_asks, deed_assigns, test_before, section_before}
-use Rattle.syntax.proofs.Goings.{no_deed_left, no_deed_begins}
-use Rattle.syntax.proofs.Goings.{if_refused, if_no_yes, if_no_no, if_whole, while_refused, while_no_body, while_whole, deed_begins}
+use Rattle.syntax.proofs.Goings.{sections_start, sections_go_on}
+use Rattle.syntax.proofs.Goings.{item_whole, deed_leaves, deed_gives, deed_calls, deed_asks, deed_assigns, deed_begins}
 use Rattle.syntax.proofs.Loops.{pushed}
 use Rattle.syntax.proofs.reader.Reader.+statements.Goals as goal
-
--- The measures of calls: fewer tokens, or as many and a function further down.
-behind_less : {a b : ℕ} → a < b → 4 * a + 4 < 4 * b + 1
-behind_less less = omega (arith, less)
-
-word_less : {A : Type 0} {x : A} {xs ys : List A} → ys ≡ x ∷ xs → 4 * length xs + 1 < 4 * length ys + 2
-word_less {A} {x} {xs} {ys} is = rw is (omega arith)
-
-mark_less : {a b : ℕ} → a ≤ b → 4 * a + 2 < 4 * b + 3
-mark_less less = omega (arith, less)
-
-first_less : (a : ℕ) → 4 * a + 3 < 4 * a + 4
-first_less a = omega arith
-
-next_less : {a b : ℕ} → a < b → 4 * a + 3 < 4 * b + 4
-next_less less = omega (arith, less)
-
-pub core-branch-self-requires : goal.core-branch-self-requires
-core-branch-self-requires g t c κs within = (rw (← c.decreases) (word_less c.in-Some.ensures.cases.0), within)
-
-pub core-repeat-requires : goal.core-repeat-requires
-core-repeat-requires g t c κs within = (rw (← c.decreases) (word_less c.in-Some.ensures.cases.0), within)
-
-pub statement-core-requires : goal.statement-core-requires
-statement-core-requires g t c κs within = (rw (← c.decreases) (mark_less c.in_ok-label.ensures.no_longer), within)
-
-pub statements-statement-requires : goal.statements-statement-requires
-statements-statement-requires g t c κs within = (rw (← c.decreases) (first_less _), within)
-
-pub statements-statement-requires-in-loop-rest : goal.statements-statement-requires-in-loop-rest
-statements-statement-requires-in-loop-rest g t c κs within =
-    (rw (← c.decreases) (next_less c.loop-rest.invariant.shorter), within)
 
 pub core-returns-in-Skip-clause-gives : goal.core-returns-in-Skip-clause-gives
 unfolding same_kind if_deed while_deed
@@ -111,18 +76,6 @@ statements-loop-rest-preserved g t c = record {
   shorter = search rules;
 }
 
-pub statements-returns-in_err-first-clause-gives : goal.statements-returns-in_err-first-clause-gives
-statements-returns-in_err-first-clause-gives g t c =
-    refused _ c.from_residual.result _ (item (toks_of c.args.tokens.now)) _ c.from_residual.ensures.1
-    (sections_no_start (toks_of c.args.tokens.now)) c.in_err-first.ensures.gives
-
-pub statements-returns-in_err-next-clause-gives : goal.statements-returns-in_err-next-clause-gives
-statements-returns-in_err-next-clause-gives g t c =
-    refused _ c.from_residual-in_err-next.result _ (item (toks_of c.loop-rest.rest.now)) _
-    c.from_residual-in_err-next.ensures.1
-    (λ none. c.loop-rest.invariant.whole ∙ sections_refused (items_of c.loop-rest.list.items) (toks_of
-    c.loop-rest.rest.now) (sym c.begins_statement.ensures ∙ c.loop-rest-test.true) none) c.in_err-next.ensures.gives
-
 pub core-returns-in-Id-clause-gives : goal.core-returns-in-Id-clause-gives
 core-returns-in-Id-clause-gives g t c =
     rw (deed_calls c.args.tokens.now c.in-Some.others.now c.in-Some.first.now c.in-Some.ensures.cases.0
@@ -140,163 +93,37 @@ core-returns-in-Id-3-clause-gives g t c =
     c.in-Id.is (search rules) (sym c.asks_behind.ensures ∙ c.if-asks_behind.false))
     c.assignment.ensures.gives
 
-pub statement-returns-in_err-label-clause-gives : goal.statement-returns-in_err-label-clause-gives
-statement-returns-in_err-label-clause-gives g t c =
-    refused _ c.from_residual.result _ (marked (toks_of c.args.tokens.now)) _ c.from_residual.ensures.1
-    (item_no_mark (toks_of c.args.tokens.now)) c.in_err-label.ensures.gives
-
-pub statement-returns-in_err-core-clause-gives : goal.statement-returns-in_err-core-clause-gives
-statement-returns-in_err-core-clause-gives g t c =
-    refused _ c.from_residual-in_err-core.result _ (deed (toks_of c.in_ok-label.others.now)) _
-    c.from_residual-in_err-core.ensures.1
-    (item_no_deed (toks_of c.args.tokens.now) c.in_ok-label.ensures.gives) c.in_err-core.ensures.gives
-
 pub statement-returns-clause-gives : goal.statement-returns-clause-gives
 statement-returns-clause-gives g t c =
     item_whole (toks_of c.args.tokens.now) c.in_ok-label.ensures.gives c.in_ok-core.ensures.gives
     ∙ ap (λ (i : Item). Some (i, toks_of c.in_ok-core.rest.now)) (sym (item_is _))
 
-pub branch-statements-requires : goal.branch-statements-requires
-branch-statements-requires g t c κs within = (
-  rw (← c.decreases)
-      (behind_less (closed_shorter kind.Then c.test.result _ c.args.tokens.now c.test.ensures.shorter c.in_ok-side.ensures)),
-  within,
-)
-
-pub branch-statements-requires-2 : goal.branch-statements-requires-2
-branch-statements-requires-2 g t c κs within = (
-  rw (← c.decreases) (behind_less (less_still
-      (closed_shorter kind.Else c.statements.result _ c.in_ok-side.opened.now c.statements.ensures.shorter c.in_ok-yes.ensures)
-      (closed_shorter kind.Then c.test.result _ c.args.tokens.now c.test.ensures.shorter c.in_ok-side.ensures))),
-  within,
-)
-
-pub repeat-statements-requires : goal.repeat-statements-requires
-repeat-statements-requires g t c κs within = (
-  rw (← c.decreases)
-      (behind_less (closed_shorter kind.Do c.test.result _ c.args.tokens.now c.test.ensures.shorter c.in_ok-side.ensures)),
-  within,
-)
-
-pub branch-returns-in_err-side-clause-gives : goal.branch-returns-in_err-side-clause-gives
-branch-returns-in_err-side-clause-gives g t c =
-    refused _ c.from_residual.result _ (test_before kind.Then (toks_of c.args.tokens.now)) _ c.from_residual.ensures.1
-    (if_refused (toks_of c.args.tokens.now))
-    (closed_read rhs_of condition kind.Then c.test.result _ c.args.tokens.now c.test.ensures.gives c.in_err-side.ensures)
-
-pub branch-returns-in_err-yes-clause-gives : goal.branch-returns-in_err-yes-clause-gives
-branch-returns-in_err-yes-clause-gives g t c =
-    refused _ c.from_residual-in_err-yes.result _ (section_before kind.Else (toks_of c.in_ok-side.opened.now)) _
-    c.from_residual-in_err-yes.ensures.1
-    (if_no_yes (toks_of c.args.tokens.now)
-    (closed_read rhs_of condition kind.Then c.test.result _ c.args.tokens.now c.test.ensures.gives c.in_ok-side.ensures))
-    (closed_read
-    (λ v. block_of v.items) section kind.Else c.statements.result _ c.in_ok-side.opened.now c.statements.ensures.gives
-    c.in_err-yes.ensures)
-
-pub branch-returns-in_err-no-clause-gives : goal.branch-returns-in_err-no-clause-gives
-branch-returns-in_err-no-clause-gives g t c =
-    refused _ c.from_residual-in_err-no.result _ (section_before kind.Fi (toks_of c.in_ok-yes.between.now)) _
-    c.from_residual-in_err-no.ensures.1
-    (if_no_no (toks_of c.args.tokens.now)
-    (closed_read rhs_of condition kind.Then c.test.result _ c.args.tokens.now c.test.ensures.gives c.in_ok-side.ensures)
-    (closed_read
-    (λ v. block_of v.items) section kind.Else c.statements.result _ c.in_ok-side.opened.now c.statements.ensures.gives
-    c.in_ok-yes.ensures))
-    (closed_read
-    (λ v. block_of v.items) section kind.Fi c.statements-2.result _ c.in_ok-yes.between.now c.statements-2.ensures.gives
-    c.in_err-no.ensures)
-
-pub branch-returns-clause-gives : goal.branch-returns-clause-gives
-branch-returns-clause-gives g t c =
-    rw (
-      if_whole (toks_of c.args.tokens.now)
-          (closed_read rhs_of condition kind.Then c.test.result _ c.args.tokens.now c.test.ensures.gives c.in_ok-side.ensures)
-          (closed_read
-          (λ v. block_of v.items) section kind.Else c.statements.result _ c.in_ok-side.opened.now c.statements.ensures.gives
-          c.in_ok-yes.ensures)
-          (closed_read
-          (λ v. block_of v.items) section kind.Fi c.statements-2.result _ c.in_ok-yes.between.now c.statements-2.ensures.gives
-          c.in_ok-no.ensures),
-      deed_of-If c.in_ok-side.side c.in_ok-yes.yes c.in_ok-no.no,
-    ) refl
-
-pub branch-returns-clause-shorter : goal.branch-returns-clause-shorter
-branch-returns-clause-shorter g t c =
-    less_still (less_still
-    (closed_shorter kind.Fi c.statements-2.result _ c.in_ok-yes.between.now c.statements-2.ensures.shorter c.in_ok-no.ensures)
-    (closed_shorter kind.Else c.statements.result _ c.in_ok-side.opened.now c.statements.ensures.shorter c.in_ok-yes.ensures))
-    (closed_shorter kind.Then c.test.result _ c.args.tokens.now c.test.ensures.shorter c.in_ok-side.ensures)
-
-pub repeat-returns-in_err-side-clause-gives : goal.repeat-returns-in_err-side-clause-gives
-repeat-returns-in_err-side-clause-gives g t c =
-    refused _ c.from_residual.result _ (test_before kind.Do (toks_of c.args.tokens.now)) _ c.from_residual.ensures.1
-    (while_refused (toks_of c.args.tokens.now))
-    (closed_read rhs_of condition kind.Do c.test.result _ c.args.tokens.now c.test.ensures.gives c.in_err-side.ensures)
-
-pub repeat-returns-in_err-body-clause-gives : goal.repeat-returns-in_err-body-clause-gives
-repeat-returns-in_err-body-clause-gives g t c =
-    refused _ c.from_residual-in_err-body.result _ (section_before kind.Od (toks_of c.in_ok-side.opened.now)) _
-    c.from_residual-in_err-body.ensures.1
-    (while_no_body (toks_of c.args.tokens.now)
-    (closed_read rhs_of condition kind.Do c.test.result _ c.args.tokens.now c.test.ensures.gives c.in_ok-side.ensures))
-    (closed_read
-    (λ v. block_of v.items) section kind.Od c.statements.result _ c.in_ok-side.opened.now c.statements.ensures.gives
-    c.in_err-body.ensures)
-
-pub repeat-returns-clause-gives : goal.repeat-returns-clause-gives
-repeat-returns-clause-gives g t c =
-    rw (
-      while_whole (toks_of c.args.tokens.now)
-          (closed_read rhs_of condition kind.Do c.test.result _ c.args.tokens.now c.test.ensures.gives c.in_ok-side.ensures)
-          (closed_read
-          (λ v. block_of v.items) section kind.Od c.statements.result _ c.in_ok-side.opened.now c.statements.ensures.gives
-          c.in_ok-body.ensures),
-      deed_of-While c.in_ok-side.side c.in_ok-body.body,
-    ) refl
-
-pub repeat-returns-clause-shorter : goal.repeat-returns-clause-shorter
-repeat-returns-clause-shorter g t c =
-    less_still
-    (closed_shorter kind.Od c.statements.result _ c.in_ok-side.opened.now c.statements.ensures.shorter c.in_ok-body.ensures)
-    (closed_shorter kind.Do c.test.result _ c.args.tokens.now c.test.ensures.shorter c.in_ok-side.ensures)
-
-pub branch-returns-in_err-side-clause-shorter : goal.branch-returns-in_err-side-clause-shorter
-branch-returns-in_err-side-clause-shorter g t c = refused_shorter c.from_residual.result _ c.args.tokens.now c.from_residual.ensures.1
-
-pub branch-returns-in_err-yes-clause-shorter : goal.branch-returns-in_err-yes-clause-shorter
-branch-returns-in_err-yes-clause-shorter g t c =
-    refused_shorter c.from_residual-in_err-yes.result _ c.args.tokens.now c.from_residual-in_err-yes.ensures.1
-
-pub branch-returns-in_err-no-clause-shorter : goal.branch-returns-in_err-no-clause-shorter
-branch-returns-in_err-no-clause-shorter g t c =
-    refused_shorter c.from_residual-in_err-no.result _ c.args.tokens.now c.from_residual-in_err-no.ensures.1
-
-pub repeat-returns-in_err-side-clause-shorter : goal.repeat-returns-in_err-side-clause-shorter
-repeat-returns-in_err-side-clause-shorter g t c = refused_shorter c.from_residual.result _ c.args.tokens.now c.from_residual.ensures.1
-
-pub repeat-returns-in_err-body-clause-shorter : goal.repeat-returns-in_err-body-clause-shorter
-repeat-returns-in_err-body-clause-shorter g t c =
-    refused_shorter c.from_residual-in_err-body.result _ c.args.tokens.now c.from_residual-in_err-body.ensures.1
-
-pub core-returns-in_default-clause-gives : goal.core-returns-in_default-clause-gives
-core-returns-in_default-clause-gives g t c = no_deed_left c.args.tokens.now c.in_default.ensures.cases
-
-pub core-returns-in_default-clause-shorter : goal.core-returns-in_default-clause-shorter
-core-returns-in_default-clause-shorter g t c = tt
-
-pub core-returns-in_default-kind : goal.core-returns-in_default-kind
-core-returns-in_default-kind g t c = record {
+pub statements_before-returns : goal.statements_before-returns
+statements_before-returns g t c = record {
   gives =
-      let n = c.in_default-kind in
-      no_deed_begins c.args.tokens.now c.in-Some.others.now c.in-Some.first.now c.in-Some.ensures.cases.0
-      n.not-Skip n.not-Return n.not-Goto n.not-Assert n.not-Assume n.not-If n.not-While n.not-Id;
-  shorter = tt;
+      closed_read (λ v. block_of v.items) section c.args.kind c.statements.result c.closed.result c.args.tokens.now
+      c.statements.ensures.gives c.closed.ensures;
+  shorter =
+      closed_shorter c.args.kind c.statements.result c.closed.result c.args.tokens.now c.statements.ensures.shorter c.closed.ensures;
 }
 
-pub statement-returns-clause-shorter : goal.statement-returns-clause-shorter
-statement-returns-clause-shorter g t c = no_more c.in_ok-core.ensures.shorter c.in_ok-label.ensures.no_longer
+pub branch-returns : goal.branch-returns
+unfolding if_deed
+branch-returns g t c = record {
+  gives =
+      rw (
+        c.in_ok-side.ensures.gives,
+        c.in_ok-yes.ensures.gives,
+        c.in_ok-no.ensures.gives,
+        deed_of-If c.in_ok-side.side c.in_ok-yes.yes c.in_ok-no.no,
+      ) refl;
+  shorter = less_still (less_still c.in_ok-no.ensures.shorter c.in_ok-yes.ensures.shorter) c.in_ok-side.ensures.shorter;
+}
 
-pub statements-returns-in_err-put-clause-gives : goal.statements-returns-in_err-put-clause-gives
-statements-returns-in_err-put-clause-gives g t c =
-    short_of_memory _ c.from_residual-in_err-put.result _ _ c.from_residual-in_err-put.ensures.1 c.in_err-put.ensures.err
+pub repeat-returns : goal.repeat-returns
+unfolding while_deed
+repeat-returns g t c = record {
+  gives =
+      rw (c.in_ok-side.ensures.gives, c.in_ok-body.ensures.gives, deed_of-While c.in_ok-side.side c.in_ok-body.body) refl;
+  shorter = less_still c.in_ok-body.ensures.shorter c.in_ok-side.ensures.shorter;
+}

@@ -1,6 +1,6 @@
+use Rattle.std.proofs.Common.{refl}
 use Rattle.trees.proofs.Folds.{deed_of-Assert}
 use Rattle.syntax.proofs.reader.Reader.asserting.Goals as goal
 
 pub returns-clause-gives : goal.returns-clause-gives
-returns-clause-gives g c =
-    rw c.in_ok-side.ensures.gives (rw (deed_of-Assert c.in_ok-side.side) at c.ended.ensures.gives)
+returns-clause-gives g c = rw (c.in_ok-side.ensures.gives, deed_of-Assert c.in_ok-side.side) refl

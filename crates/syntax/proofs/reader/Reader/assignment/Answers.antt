@@ -1,10 +1,6 @@
-use Rattle.std.proofs.Common.{◌∙◌, refl}
-use Rattle.tokens.specs.declared.vocabulary.Kind.TheVariants as kind
-use Rattle.tokens.specs.Token.{toks_of}
+use Rattle.std.proofs.Common.{refl}
 use Rattle.trees.proofs.Folds.{deed_of-Assign}
-use Rattle.syntax.specs.Exact.{listed, name, right}
-use Rattle.syntax.proofs.Closings.{assignment_is, assignment_refused}
-use Rattle.syntax.proofs.Exits.{refused}
+use Rattle.syntax.specs.Exact.{assignment}
 use Rattle.syntax.proofs.Parts.{strict_name, strict_right}
 use Rattle.syntax.proofs.reader.Reader.assignment.Goals as goal
 
@@ -14,19 +10,7 @@ listed-requires g c = strict_name
 pub listed-requires-2 : goal.listed-requires-2
 listed-requires-2 g c = strict_right
 
-pub returns-in_err-targets-clause-gives : goal.returns-in_err-targets-clause-gives
-returns-in_err-targets-clause-gives g c =
-    refused _ c.from_residual.result _ (listed name kind.Assign (toks_of c.args.tokens.now)) _
-    c.from_residual.ensures.1 (assignment_refused (toks_of c.args.tokens.now)) c.in_err-targets.ensures.gives
-
-pub returns-in_err-sides-clause-gives : goal.returns-in_err-sides-clause-gives
-returns-in_err-sides-clause-gives g c =
-    refused _ c.from_residual-in_err-sides.result _ (listed right kind.Semicolon (toks_of c.in_ok-targets.others.now))
-    _ c.from_residual-in_err-sides.ensures.1
-    (λ none. assignment_is (toks_of c.args.tokens.now) c.in_ok-targets.ensures.gives ∙ rw none refl)
-    c.in_err-sides.ensures.gives
-
 pub returns-clause-gives : goal.returns-clause-gives
+unfolding assignment
 returns-clause-gives g c =
-    assignment_is (toks_of c.args.tokens.now) c.in_ok-targets.ensures.gives
-    ∙ rw (c.in_ok-sides.ensures.gives, deed_of-Assign c.in_ok-targets.targets c.in_ok-sides.sides) refl
+    rw (c.in_ok-targets.ensures.gives, c.in_ok-sides.ensures.gives, deed_of-Assign c.in_ok-targets.targets c.in_ok-sides.sides) refl

@@ -1,42 +1,15 @@
-use Rattle.std.proofs.Common.{refl}
-use Rattle.tokens.specs.Token.{toks_of}
-use Rattle.syntax.specs.Exact.{calling, name, argument_list}
-use Rattle.syntax.proofs.Exits.{refused}
-use Rattle.syntax.proofs.Closings.{less_still, shorter_behind, refused_shorter}
+use Rattle.syntax.specs.Exact.{calling}
+use Rattle.syntax.proofs.Closings.{less_still, shorter_behind}
 use Rattle.trees.proofs.Folds.{deed_of-Call}
-use Rattle.syntax.proofs.Parts.{strict_expression}
 use Rattle.syntax.proofs.reader.Reader.calling.Goals as goal
 
-pub enclosed-requires : goal.enclosed-requires
-enclosed-requires g c = strict_expression
-
-pub returns-clause-gives : goal.returns-clause-gives
+pub returns : goal.returns
 unfolding calling
-returns-clause-gives g c =
-    rw (c.in_ok-name.ensures.gives, c.in_ok-arguments.ensures.gives)
-    (rw (deed_of-Call c.in_ok-name.name c.in_ok-arguments.arguments) at c.ended.ensures.gives)
-
-pub returns-in_err-name-clause-gives : goal.returns-in_err-name-clause-gives
-unfolding calling
-returns-in_err-name-clause-gives g c =
-    refused _ c.from_residual.result _ (name (toks_of c.args.tokens.now)) _ c.from_residual.ensures.1
-    (λ none. rw none refl) c.in_err-name.ensures.gives
-
-pub returns-in_err-arguments-clause-gives : goal.returns-in_err-arguments-clause-gives
-unfolding calling
-returns-in_err-arguments-clause-gives g c =
-    refused _ c.from_residual-in_err-arguments.result _ (argument_list (toks_of c.in_ok-name.others.now)) _
-    c.from_residual-in_err-arguments.ensures.1
-    (λ none. rw (c.in_ok-name.ensures.gives, none) refl) c.in_err-arguments.ensures.gives
-
-pub returns-clause-shorter : goal.returns-clause-shorter
-returns-clause-shorter g c =
-    shorter_behind c.ended.result c.in_ok-arguments.rest.now c.args.tokens.now
-    (less_still c.in_ok-arguments.ensures.shorter c.in_ok-name.ensures.shorter) c.ended.ensures.shorter
-
-pub returns-in_err-name-clause-shorter : goal.returns-in_err-name-clause-shorter
-returns-in_err-name-clause-shorter g c = refused_shorter c.from_residual.result _ c.args.tokens.now c.from_residual.ensures.1
-
-pub returns-in_err-arguments-clause-shorter : goal.returns-in_err-arguments-clause-shorter
-returns-in_err-arguments-clause-shorter g c =
-    refused_shorter c.from_residual-in_err-arguments.result _ c.args.tokens.now c.from_residual-in_err-arguments.ensures.1
+returns g c = record {
+  gives =
+      rw (c.in_ok-name.ensures.gives, c.in_ok-arguments.ensures.gives)
+      (rw (deed_of-Call c.in_ok-name.name c.in_ok-arguments.arguments) at c.ended.ensures.gives);
+  shorter =
+      shorter_behind c.ended.result c.in_ok-arguments.rest.now c.args.tokens.now
+      (less_still c.in_ok-arguments.ensures.shorter c.in_ok-name.ensures.shorter) c.ended.ensures.shorter;
+}

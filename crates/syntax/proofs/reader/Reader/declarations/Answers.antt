@@ -1,10 +1,9 @@
 use Rattle.std.proofs.Common.{arith, List, ◌∙◌, ap, sym}
 use Rattle.language.specs.Tree.{Name}
-use Rattle.syntax.specs.Exact.{prepend, declaration, all_declarations}
+use Rattle.syntax.specs.Exact.{prepend, all_declarations}
 use Rattle.trees.specs.Trees.{name_of, names_of}
 use Rattle.tokens.specs.Token.{toks_of}
-use Rattle.syntax.proofs.Loops.{declarations_go_on, declarations_refused, declarations_end, appended}
-use Rattle.syntax.proofs.Exits.{refused}
+use Rattle.syntax.proofs.Loops.{declarations_go_on, declarations_end, appended}
 use Rattle.syntax.proofs.reader.Reader.declarations.Goals as goal
 
 pub loop-rest-preserved : goal.loop-rest-preserved
@@ -18,14 +17,6 @@ loop-rest-preserved g c = record {
       (appended name_of c.loop-rest.list.items c.in_ok-next.next.items c.append.new.self.items c.in_ok-append.ensures.items);
   no_longer = omega (arith, c.loop-rest.invariant.no_longer, c.in_ok-next.ensures.shorter);
 }
-
-pub returns-in_err-next-clause-gives : goal.returns-in_err-next-clause-gives
-returns-in_err-next-clause-gives g c =
-    refused _ c.from_residual-in_err-next.result _ (declaration (toks_of c.loop-rest.rest.now)) _
-    c.from_residual-in_err-next.ensures.1
-    (λ none. c.loop-rest.invariant.whole ∙ declarations_refused (names_of c.loop-rest.list.items)
-    (toks_of c.loop-rest.rest.now) (sym c.begins.ensures ∙ c.loop-rest-test.true) none)
-    c.in_err-next.ensures.gives
 
 pub returns-clause-gives : goal.returns-clause-gives
 returns-clause-gives g c =

@@ -1,17 +1,8 @@
-use Rattle.std.proofs.Common.{refl, sym, ◌∙◌, map}
+use Rattle.std.proofs.Common.{sym, ◌∙◌, map}
 use Rattle.tokens.specs.declared.vocabulary.Kind.TheVariants as kind
-use Rattle.tokens.specs.Token.{toks_of}
-use Rattle.syntax.specs.Parser.{take}
 use Rattle.syntax.specs.Exact.{enclosed, perhaps}
-use Rattle.syntax.proofs.Closings.{closed_read, shorter_behind, none_read, none_shorter}
-use Rattle.syntax.proofs.Exits.{refused}
+use Rattle.syntax.proofs.Closings.{closed_read, none_read}
 use Rattle.syntax.proofs.reader.Reader.enclosed.Goals as goal
-
-pub returns-in_err-inside-clause-gives : goal.returns-in_err-inside-clause-gives
-unfolding enclosed
-returns-in_err-inside-clause-gives g c =
-    refused _ c.from_residual.result _ (take kind.Open (toks_of c.args.tokens.now)) _ c.from_residual.ensures.1
-    (λ none. rw none refl) c.in_err-inside.ensures.gives
 
 pub returns-then-begins-clause-gives : goal.returns-then-begins-clause-gives
 unfolding enclosed
@@ -23,16 +14,7 @@ returns-then-begins-clause-gives g c =
     (sym c.begins.ensures ∙ c.if-begins.true) c.none.ensures.ok c.none.ensures.err)
     c.closed.ensures)
 
-pub returns-then-begins-clause-shorter : goal.returns-then-begins-clause-shorter
-returns-then-begins-clause-shorter g c =
-    none_shorter c.none.result c.closed.result kind.Close c.in_ok-inside.inside.now c.args.tokens.now c.in_ok-inside.ensures.shorter
-    c.none.ensures.ok c.closed.ensures
-
 pub returns-clause-gives : goal.returns-clause-gives
 unfolding enclosed
 returns-clause-gives g c =
     rw (c.in_ok-inside.ensures.gives, sym c.begins.ensures ∙ c.if-begins.false) c.listed.ensures.gives
-
-pub returns-clause-shorter : goal.returns-clause-shorter
-returns-clause-shorter g c =
-    shorter_behind c.listed.result c.in_ok-inside.inside.now c.args.tokens.now c.in_ok-inside.ensures.shorter c.listed.ensures.shorter
