@@ -1,5 +1,0 @@
-use Rattle.ticket_lock.specs.Promises.{IsIdle}
-use Rattle.board_tests.proofs.locks.work.Given as goal
-
-abbrev pub invariant-loop-mark : goal.invariant-loop-mark
-invariant-loop-mark g l = IsIdle l.lock.id l.lane
