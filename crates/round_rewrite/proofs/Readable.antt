@@ -13,7 +13,8 @@ use Rattle.grammar.specs.InGrammar.{ProcedureInGrammar, ThreadInGrammar, InGramm
 use Rattle.resolved.specs.Statements.{variables_of, variables_of_side, variables_of_sides, variables_of_all}
 use Rattle.resolved.proofs.Each.{each_left, each_right}
 use Rattle.round_rewrite.specs.Table.{Naming, numbers, no_mark, temporaries, in_round, expression_form, side, all_rounds, targets, sides}
-use Rattle.round_rewrite.specs.Table.{draws, drawing, stop_test, rise, prologue, statement, rewritten, guess, guesses, starts, check, checks}
+use Rattle.round_rewrite.specs.Table.{draws, drawing, stop_test, rise, prologue, statement, rewritten, guess, guesses}
+use Rattle.round_rewrite.specs.Table.{starts, check, checks}
 use Rattle.round_rewrite.specs.Table.{copied, globals, receiver_draws, received, raised, each, reset_targets}
 use Rattle.round_rewrite.specs.Names.{fresh_name, bit_name, bit_names, copy_name, save_name, drawn_name, by_names, rewritten_procedure}
 use Rattle.round_rewrite.specs.Names.{main_procedure, rewritten_tree}

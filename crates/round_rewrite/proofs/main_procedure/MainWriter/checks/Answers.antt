@@ -15,5 +15,6 @@ pub returns : goal.returns
 returns g c =
     let last = c.args.self.now.rounds.last in
     let all : c.loop-round.round ≡ last = omega (arith, c.loop-round-test.false, c.loop-round.auto.round-end) in
-    subst (λ n. Lays c.args.into.now.items c.loop-round.into.items (checks (by_names []) last (names_of c.args.self.now.globals.now) (numbers 0 n)))
+    subst (λ n. Lays c.args.into.now.items c.loop-round.into.items (checks (by_names []) last
+    (names_of c.args.self.now.globals.now) (numbers 0 n)))
     all c.loop-round.invariant

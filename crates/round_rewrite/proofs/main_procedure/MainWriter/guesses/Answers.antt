@@ -15,5 +15,6 @@ pub returns : goal.returns
 returns g c =
     let last = c.args.self.now.rounds.last in
     let all : c.loop-before.before ≡ last = omega (arith, c.loop-before-test.false, c.loop-before.auto.before-end) in
-    subst (λ n. Lays c.args.into.now.items c.loop-before.into.items (guesses (by_names []) last (names_of c.args.self.now.globals.now) (numbers 1 n)))
+    subst (λ n. Lays c.args.into.now.items c.loop-before.into.items (guesses (by_names []) last
+    (names_of c.args.self.now.globals.now) (numbers 1 n)))
     all c.loop-before.invariant
