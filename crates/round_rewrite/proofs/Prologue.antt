@@ -1,6 +1,6 @@
 -- What the prologue, the test of stop, and frames that leave do, both ways.
-use Rattle.std.proofs.Common.{◌≡◌, eqb, ℕ, suc, ◌<◌, ◌≤◌, Bool, true, false, not, cond, List, [], ◌∷◌, reverse, refl, sym, ◌∙◌, ap, subst, ap₂}
-use Rattle.std.proofs.Common.{arith, inl, inr}
+use Rattle.std.proofs.Common.{◌≡◌, eqb, ℕ, suc, ◌<◌, ◌≤◌, Bool, true, false, not, cond, List, [], ◌∷◌}
+use Rattle.std.proofs.Common.{reverse, refl, sym, ◌∙◌, ap, subst, ap₂, arith, inl, inr}
 use Rattle.std.proofs.lemmas.Bool.{cases_eq, eq-eqb, ne_eqb}
 use Rattle.language.specs.Tree.{const, RightSide, any, value, skip, assign, leave, done, one, choose}
 use Rattle.language.specs.Value.{Place, global, bit, with_bit, value_of, IsValue, AreValues, written_globals, written_locals}

@@ -12,8 +12,9 @@ use Rattle.grammar.specs.InGrammar.{IsId, AreIds, ExpressionInGrammar, SideInGra
 use Rattle.grammar.specs.InGrammar.{ProcedureInGrammar, ThreadInGrammar, InGrammar}
 use Rattle.resolved.specs.Statements.{variables_of, variables_of_side, variables_of_sides, variables_of_all}
 use Rattle.resolved.proofs.Each.{each_left, each_right}
-use Rattle.round_rewrite.specs.Table.{Naming, numbers, no_mark, temporaries, in_round, expression_form, side, all_rounds, targets, sides, draws}
-use Rattle.round_rewrite.specs.Table.{drawing, stop_test, rise, prologue, statement, rewritten, guess, guesses, starts, check, checks}
+use Rattle.round_rewrite.specs.Table.{Naming, numbers, no_mark, temporaries, in_round, expression_form, side, all_rounds, targets, sides}
+use Rattle.round_rewrite.specs.Table.{draws, drawing, stop_test, rise, prologue, statement, rewritten, guess, guesses}
+use Rattle.round_rewrite.specs.Table.{starts, check, checks}
 use Rattle.round_rewrite.specs.Table.{copied, globals, receiver_draws, received, raised, each, reset_targets}
 use Rattle.round_rewrite.specs.Names.{fresh_name, bit_name, bit_names, copy_name, save_name, drawn_name, by_names, rewritten_procedure}
 use Rattle.round_rewrite.specs.Names.{main_procedure, rewritten_tree}
@@ -327,7 +328,8 @@ module _ (last : ℕ) (small : last < most_rounds) where
       AllByRecursion IsId (map (write k) (x ∷ xs)) =
       λ write f. written_each IsId IsId (write k) (x ∷ xs) (λ y i. f k y lt i) h in (
         tt,
-        assign_in_grammar (map (copy_name k) (x ∷ xs)) (map (λ y. any) (x ∷ xs)) (omega arith) (simp length-map) (written copy_name copy_id) (any_uses IsId (x ∷ xs)),
+        assign_in_grammar (map (copy_name k) (x ∷ xs)) (map (λ y. any) (x ∷ xs)) (omega arith) (simp length-map)
+            (written copy_name copy_id) (any_uses IsId (x ∷ xs)),
         (
           tt,
           assign_in_grammar (map (save_name k) (x ∷ xs)) (map (λ y. value (var (copy_name k y))) (x ∷ xs)) (omega arith)
@@ -379,11 +381,11 @@ module _ (last : ℕ) (small : last < most_rounds) where
             keep (guesses (by_names []) last t.globals) (guess (by_names []) last t.globals) (λ b. refl) (λ k ks b. refl) IsSome
             (some_guess t.globals) (numbers 1 last) second (some_starts t.threads last_part h.some_thread);
         body =
-            keep_below (guesses (by_names []) last t.globals) (guess (by_names []) last t.globals) (λ b. refl) (λ k ks b. refl) BlockInGrammar
-            most_rounds (λ k b lt. guess_in_grammar t.globals k b lt ids) 1 last (omega arith) second
+            keep_below (guesses (by_names []) last t.globals) (guess (by_names []) last t.globals) (λ b. refl) (λ k ks b. refl)
+            BlockInGrammar most_rounds (λ k b lt. guess_in_grammar t.globals k b lt ids) 1 last (omega arith) second
             (starts_in_grammar t.threads last_part h.threads
-            (keep_below (checks (by_names []) last t.globals) (check (by_names []) last t.globals) (λ b. refl) (λ k ks b. refl) BlockInGrammar
-            last (λ k b lt. check_in_grammar t.globals k b (omega arith) ids) 0 last (omega arith) done tt));
+            (keep_below (checks (by_names []) last t.globals) (check (by_names []) last t.globals) (λ b. refl) (λ k ks b. refl)
+            BlockInGrammar last (λ k b lt. check_in_grammar t.globals k b (omega arith) ids) 0 last (omega arith) done tt));
       }
 
 -- the rewritten tree is one of the grammar

@@ -167,7 +167,8 @@ module _ (t : Tree) (vocabulary : Vocabulary) (ps' : List Name)
       let here : List Name = map (λ k. copy_name k x) (all_rounds N last) in
       let there : Bool → List Place = λ c. map (λ k. copy_at (length gs) k (place x c)) (all_rounds P last) in
       at_test
-      (λ c. map (place_of s') (cond (not c) (here ++ more) (x ∷ more)) ≡ cond (is_global (place x c)) (there c ++ others) (place x c ∷ others))
+      (λ c. map (place_of s') (cond (not c) (here ++ more) (x ∷ more))
+      ≡ cond (is_global (place x c)) (there c ++ others) (place x c ∷ others))
       (is_declared x.text own) (λ e. ap₂ (λ a b. a ∷ b) (kept_place vocabulary ps' x e ∙ ap (place x) e) ih)
       (λ e. map-append (place_of s') here more ∙ ap₂ (λ a b. a ++ b) (copies_resolved x h.0 e 0 (suc last) (omega arith) ∙ ap there e) ih)
   targets_resolved _ _ h = refl
@@ -186,7 +187,8 @@ module _ (t : Tree) (vocabulary : Vocabulary) (ps' : List Name)
       let here : List (RightSide Name) = map (copy_value N last e x) (all_rounds N last) in
       let there : Bool → List (RightSide Place) = λ c. map (copy_value P last e' (place x c)) (all_rounds P last) in
       at_test
-      (λ c. map (resolve_side s') (cond (not c) (here ++ shared) (r ∷ kept)) ≡ cond (is_global (place x c)) (there c ++ shared') (r' ∷ kept'))
+      (λ c. map (resolve_side s') (cond (not c) (here ++ shared) (r ∷ kept))
+      ≡ cond (is_global (place x c)) (there c ++ shared') (r' ∷ kept'))
       (is_declared x.text own) own_side
       (λ hidden. map-append (resolve_side s') here shared
       ∙ ap₂ (λ a b. a ++ b)
@@ -199,7 +201,8 @@ module _ (t : Tree) (vocabulary : Vocabulary) (ps' : List Name)
   sides_resolved j (x ∷ xs) [] h hr room = refl
   sides_resolved j (x ∷ xs) (any ∷ rs) h hr room =
       let drawn : ℕ = draws N.is_shared xs rs in
-      spread_resolved x h.0 (var (drawn_name j)) (var (local (length own + j))) any any (sides N last (suc j) xs rs) (sides N last j xs rs) _ _
+      spread_resolved x h.0 (var (drawn_name j)) (var (local (length own + j))) any any (sides N last (suc j) xs rs)
+      (sides N last j xs rs) _ _
       (λ e.
       let more : j + suc drawn ≤ d = subst (λ c. j + cond (not c) (suc drawn) drawn ≤ d) e room in
       (drawn_resolved j (omega arith), sides_resolved (suc j) xs rs h.1 hr.1 (omega arith)))

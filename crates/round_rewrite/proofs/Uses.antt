@@ -251,7 +251,8 @@ module _ (own : List Name) (last d : ℕ) (D S : Name → Type 0) (held : Held o
       let others : List (RightSide Name) = sides N last j xs rs in
       let uses = expression_uses v (each_left S (variables_of v) (variables_of_sides rs) g) in
       let rec = sides_use j xs rs h.1 (each_right S (variables_of v) (variables_of_sides rs) g) room in
-      spread_uses x h.0 v' (value v') others others (λ e. (uses, rec)) (λ e. each_both D (variables_of v') (variables_of_sides others) uses rec)
+      spread_uses x h.0 v' (value v') others others (λ e. (uses, rec))
+      (λ e. each_both D (variables_of v') (variables_of_sides others) uses rec)
   sides_use j _ _ h g room = tt
 
   -- what gets the value of a call

@@ -335,7 +335,8 @@ module _ (t : Tree) (last : ℕ) (ok : IsChecked t) (small : last < most_rounds)
     )
 
     -- what a right side uses is declared once it is rewritten
-    side_works : (r : RightSide Name) → AllByRecursion Known (variables_of_side r ++ []) → AllByRecursion (In p') (variables_of_side (side N last r))
+    side_works : (r : RightSide Name) → AllByRecursion Known (variables_of_side r ++ [])
+        → AllByRecursion (In p') (variables_of_side (side N last r))
     side_works r h = side_uses own last drawn (In p') Known held r (each_left _ (variables_of_side r) [] h)
 
     label_there : (l : Name) → is_declared l.text (labels_of (statements_of p.body)) ≡ true

@@ -9,16 +9,18 @@ use Rattle.round_rewrite.proofs.main_procedure.MainWriter.check.Goals as goal
 
 pub loop-x-preserved : goal.loop-x-preserved
 loop-x-preserved g c =
-    each_more name_of (λ xs. check (by_names []) c.args.self.now.rounds.last xs c.args.round)
+    let last = c.args.self.now.rounds.last in
+    let xs = c.args.self.now.globals.now in
+    each_more name_of (λ ys. check (by_names []) last ys c.args.round)
     (λ y k. one no_mark (assume (value (two equal (var (save_name (suc c.args.round) y)) (var (copy_name c.args.round y))))) k)
-    (λ y ys k. refl) c.args.self.now.globals.now c.loop-x.x-index c.x-item.result c.loop-x-test.true c.x-item.is
+    (λ y ys k. refl) xs c.loop-x.x-index c.x-item.result c.loop-x-test.true c.x-item.is
     c.loop-x.into.items c.push.new.into.items (laid _ _ no_mark _ _ c.in_ok-push.ensures c.in_ok-agrees.ensures)
-    (λ rest. all_before (items_of c.args.into.now.items) (check (by_names []) c.args.self.now.rounds.last (names_of c.args.self.now.globals.now) c.args.round
-    rest)) c.loop-x.invariant
+    (λ rest. all_before (items_of c.args.into.now.items) (check (by_names []) last (names_of xs) c.args.round rest)) c.loop-x.invariant
 
 pub returns : goal.returns
 returns g c =
-    each_end name_of (λ xs. check (by_names []) c.args.self.now.rounds.last xs c.args.round) (λ k. refl) c.args.self.now.globals.now c.loop-x.x-index
-    c.loop-x-test.false c.loop-x.into.items
-    (λ rest. all_before (items_of c.args.into.now.items) (check (by_names []) c.args.self.now.rounds.last (names_of c.args.self.now.globals.now) c.args.round
-    rest)) c.loop-x.invariant
+    let last = c.args.self.now.rounds.last in
+    let xs = c.args.self.now.globals.now in
+    each_end name_of (λ ys. check (by_names []) last ys c.args.round) (λ k. refl) xs c.loop-x.x-index c.loop-x-test.false
+    c.loop-x.into.items
+    (λ rest. all_before (items_of c.args.into.now.items) (check (by_names []) last (names_of xs) c.args.round rest)) c.loop-x.invariant

@@ -8,4 +8,5 @@ use Rattle.round_rewrite.proofs.main_procedure.MainWriter.checks.Given as goal
 
 abbrev pub invariant-loop-round : goal.invariant-loop-round
 invariant-loop-round g l =
-    Lays l.initial.into.items l.into.items (λ k. checks (by_names []) l.self.rounds.last (names_of l.self.globals.now) (numbers 0 l.round) k)
+    Lays l.initial.into.items l.into.items
+    (λ k. checks (by_names []) l.self.rounds.last (names_of l.self.globals.now) (numbers 0 l.round) k)

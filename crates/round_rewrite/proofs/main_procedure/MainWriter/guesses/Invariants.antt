@@ -8,4 +8,5 @@ use Rattle.round_rewrite.proofs.main_procedure.MainWriter.guesses.Given as goal
 
 abbrev pub invariant-loop-before : goal.invariant-loop-before
 invariant-loop-before g l =
-    Lays l.initial.into.items l.into.items (λ k. guesses (by_names []) l.self.rounds.last (names_of l.self.globals.now) (numbers 1 l.before) k)
+    Lays l.initial.into.items l.into.items
+    (λ k. guesses (by_names []) l.self.rounds.last (names_of l.self.globals.now) (numbers 1 l.before) k)
