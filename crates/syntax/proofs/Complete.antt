@@ -85,19 +85,23 @@ simple_reads f (is_give {vs = vs} {rest = rest} {e = e} (takes {rest = us} is) r
     Reading-bind expression _ (exactly_expression.reads us e vs r (semicolon_stops vs rest c)) (Reading-last c) in
     rw (is, begins_no kind.Semicolon refl r) read.is
 simple_reads f (is_goto {vs = vs} {rest = rest} {l = l} (takes {rest = us} is) h c) =
-    let read : Reading jumping us (simple (goto l)) rest = Reading-bind name _ (exactly_name.reads us l vs h tt) (Reading-last c) in rw is read.is
+    let read : Reading jumping us (simple (goto l)) rest = Reading-bind name _ (exactly_name.reads us l vs h tt) (Reading-last c) in
+    rw is read.is
 simple_reads f (is_assert {vs = vs} {rest = rest} {r = r} (takes {rest = us} is) h c) =
-    let read : Reading asserting us (simple (assert r)) rest = Reading-closed condition _ (exactly_test.reads us r vs h tt) c Reading-give in
+    let read : Reading asserting us (simple (assert r)) rest =
+    Reading-closed condition _ (exactly_test.reads us r vs h tt) c Reading-give in
     rw is read.is
 simple_reads f (is_assume {vs = vs} {rest = rest} {r = r} (takes {rest = us} is) h c) =
-    let read : Reading assuming us (simple (assume r)) rest = Reading-closed condition _ (exactly_test.reads us r vs h tt) c Reading-give in
+    let read : Reading assuming us (simple (assume r)) rest =
+    Reading-closed condition _ (exactly_test.reads us r vs h tt) c Reading-give in
     rw is read.is
 simple_reads f (is_assign {ts = []} (listed h m) a l c) = elim h [ ]
 simple_reads f (is_assign {ts = t ∷ ts} {us = us} {vs = vs} {ws = ws} {rest = rest} {xs = xs} {rs = rs} h a l c) =
     let n = names_next t ts us xs h in
     let read : Reading assignment (t ∷ ts) (simple (assign xs rs)) rest =
     Reading-closed name_list _ (exactly_names.reads (t ∷ ts) xs us h (tt, begins_other kind.Comma a refl)) a
-    (Reading-closed rights _ (exactly_rights.reads vs rs ws l (semicolon_stops ws rest c, begins_other kind.Comma c refl)) c Reading-give) in
+    (Reading-closed rights _ (exactly_rights.reads vs rs ws l (semicolon_stops ws rest c, begins_other kind.Comma c refl)) c
+    Reading-give) in
     at ts (by_name f t n.0) ∙ rw (next_no kind.Open ts us vs refl refl n.1 a, next_asks_no ts us vs n.1 a (rights_no_call l c)) read.is
 simple_reads f (is_call {vs = vs} {rest = rest} {es = es} (is_name {t = t} {rest = us} is) h c) =
     let read : Reading calling (t ∷ us) (simple (call (name_at t) es)) rest =
@@ -207,7 +211,8 @@ if_reads : {t1 t2 t3 t4 t5 t6 t7 t8 : List Tok} {r : RightSide Name} {a b : Bloc
 unfolding same_kind
 if_reads {t2 = t2} {t3 = t3} {t8 = t8} {r = r} {a = a} {b = b} (takes is) h th sa el sb fi =
     let read : Reading (branching section) t2 (branch r a b) t8 =
-    Reading-closed condition _ (exactly_test.reads t2 r t3 h tt) th (Reading-closed section _ sa el (Reading-closed section _ sb fi Reading-give)) in
+    Reading-closed condition _ (exactly_test.reads t2 r t3 h tt) th
+    (Reading-closed section _ sa el (Reading-closed section _ sb fi Reading-give)) in
     rw is read.is
 
 while_reads : {t1 t2 t3 t4 t5 t6 : List Tok} {r : RightSide Name} {a : Block Name Name Name} → Takes kind.While t1 t2

@@ -144,7 +144,8 @@ pub repeated_reads : {X : Type 0} (test : List Tok → Bool) {P : List Tok → X
 unfolding repeated
 repeated_reads test {p = p} s is starts ts xs rest (several {us = us} {x = x} {xs = ys} h m) e =
     let whole : Reading (repeated test p) ts (x ∷ ys) rest =
-    Reading-bind p _ (is.reads ts x us h tt) (Reading-bind (many test p) _ (many_reads test p s is starts (λ us h. tt) m tt e) Reading-give) in
+    Reading-bind p _ (is.reads ts x us h tt)
+    (Reading-bind (many test p) _ (many_reads test p s is starts (λ us h. tt) m tt e) Reading-give) in
     whole.is
 
 -- after commas

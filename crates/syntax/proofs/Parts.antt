@@ -86,7 +86,8 @@ unfolding same_kind
 exactly_right =
     exactly
     (λ ts. Finding-choice (take kind.Any >>= λ _. give any) (expression >>= λ e. give (value e)) (begins kind.Any ts) refl
-    (λ _. Finding-last (λ rest t. is_any t)) (λ _. Finding-bind expression (λ e us r. Finding-give (is_value (exactly_expression.finds ts e us r)))))
+    (λ _. Finding-last (λ rest t. is_any t))
+    (λ _. Finding-bind expression (λ e us r. Finding-give (is_value (exactly_expression.finds ts e us r)))))
     went
   where
     went : (ts : List Tok) (x : RightSide Name) (rest : List Tok) → IsRight ts x rest → Stops 0 rest → Reading right ts x rest

@@ -35,7 +35,8 @@ pub exactly_declaration : Exactly IsDeclaration Anything declaration
 unfolding declaration
 exactly_declaration =
     exactly
-    (λ ts. Finding-take (λ _ us d _. Finding-bind name_list (λ ns vs n. Finding-last (λ rest s. is_declaration d (exactly_names.finds us ns vs n) s))))
+    (λ ts. Finding-take (λ _ us d _. Finding-bind name_list (λ ns vs n.
+    Finding-last (λ rest s. is_declaration d (exactly_names.finds us ns vs n) s))))
     went
   where
     went : (ts : List Tok) (ns : List Name) (rest : List Tok) → IsDeclaration ts ns rest → Unit {0} → Reading declaration ts ns rest
@@ -157,7 +158,8 @@ exactly_thread_line =
   where
     went : (ts : List Tok) (l : ThreadLine) (rest : List Tok) → IsThread ts l rest → Unit {0} → Reading thread_line ts l rest
     went ts l rest (is_thread {t = t} {us = us} {vs = vs} {n = n} e h s) u =
-        Reading-bind {us = us} {x = t} (take kind.Thread) _ (rw (same_kind-is e) refl) (Reading-closed name _ (exactly_name.reads us n vs h tt) s Reading-give)
+        Reading-bind {us = us} {x = t} (take kind.Thread) _ (rw (same_kind-is e) refl)
+        (Reading-closed name _ (exactly_name.reads us n vs h tt) s Reading-give)
 
 line_begins : (ts : List Tok) (l : ThreadLine) (us : List Tok) → IsThread ts l us → any_left ts ≡ true
 line_begins ts l us (is_thread e h s) = refl

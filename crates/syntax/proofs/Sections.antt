@@ -7,9 +7,11 @@ use Rattle.syntax.specs.Parser.{Parser, Strict, give, refuse, ◌>>=◌, begins,
 use Rattle.grammar.specs.Grammar.{name_at}
 use Rattle.trees.specs.Trees.{Deed, simple, branch, repeat, before}
 use Rattle.syntax.specs.Exact.{condition, marked, assignment, calling, asking, asks_behind, named, giving, returning, branching, repeating}
-use Rattle.syntax.specs.Exact.{closed, semicolon_after, jumping, asserting, assuming, deed_by, deed_step, starts_here, item_step, rest_step, section_step, section}
+use Rattle.syntax.specs.Exact.{closed, semicolon_after, jumping, asserting, assuming, deed_by, deed_step, starts_here, item_step}
+use Rattle.syntax.specs.Exact.{rest_step, section_step, section}
 use Rattle.syntax.proofs.Fixes.{both, Shrinks, Agree, Strict-Shrinks, Shrinks-give, Shrinks-refuse, Strict-take, Shrinks-bind, Strict-bind}
-use Rattle.syntax.proofs.Fixes.{Shrinks-Strict-bind, Agree-same, Agree-bind, Agree-Strict-bind, Agree-cond, Shrinks-cond, IsStep, fix_shrinks, fix_is}
+use Rattle.syntax.proofs.Fixes.{Shrinks-Strict-bind, Agree-same, Agree-bind, Agree-Strict-bind, Agree-cond, Shrinks-cond, IsStep}
+use Rattle.syntax.proofs.Fixes.{fix_shrinks, fix_is}
 use Rattle.syntax.proofs.ChainLemmas.{Shrinks-choice, Strict-closed, Shrinks-closed, Agree-closed}
 use Rattle.syntax.proofs.Parts.{strict_name, strict_names, strict_rights, strict_arguments, strict_expression, strict_test}
 

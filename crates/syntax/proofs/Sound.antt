@@ -75,7 +75,8 @@ module _ (f : Unit {0} → Parser (Block Name Name Name)) (sound : Finds Found f
   return_finds is =
       Finding-choice (semicolon_after (simple leave)) giving (begins kind.Semicolon ts) refl
       (λ _. Finding-last (λ rest c. plain_found (is_return (takes is) c)))
-      (λ _. Finding-bind expression (λ e us r. Finding-last (λ rest c. plain_found (is_give (takes is) (exactly_expression.finds ts e us r) c))))
+      (λ _. Finding-bind expression (λ e us r. Finding-last (λ rest c.
+      plain_found (is_give (takes is) (exactly_expression.finds ts e us r) c))))
 
   goto_finds : t.kind ≡ kind.Goto → Finding jumping ts (Continues (t ∷ ts))
   goto_finds is = Finding-bind name (λ l us n. Finding-last (λ rest c. plain_found (is_goto (takes is) (exactly_name.finds ts l us n) c)))

@@ -8,13 +8,13 @@ use Rattle.fault_details.proofs.visible.first_declared.Goals as goal
 
 pub returns-then-is_some : goal.returns-then-is_some
 returns-then-is_some c =
-    at_list (is_like c.args.word.now) c.args.tokens.now c.loop-i.i (omega arith) c.listed.result.now c.first_like-found.result c.listed.ensures
-    c.first_like-found.ensures (sym c.is_some.ensures ∙ c.if-is_some.true) ∙ c.loop-i.invariant
+    at_list (is_like c.args.word.now) c.args.tokens.now c.loop-i.i (omega arith) c.listed.result.now c.first_like-found.result
+    c.listed.ensures c.first_like-found.ensures (sym c.is_some.ensures ∙ c.if-is_some.true) ∙ c.loop-i.invariant
 
 pub loop-i-preserved : goal.loop-i-preserved
 loop-i-preserved c =
-    past_list (is_like c.args.word.now) c.args.tokens.now c.loop-i.i (omega arith) c.listed.result.now c.first_like-found.result c.listed.ensures
-    c.first_like-found.ensures (sym c.is_some.ensures ∙ c.if-is_some.false) ∙ c.loop-i.invariant
+    past_list (is_like c.args.word.now) c.args.tokens.now c.loop-i.i (omega arith) c.listed.result.now c.first_like-found.result
+    c.listed.ensures c.first_like-found.ensures (sym c.is_some.ensures ∙ c.if-is_some.false) ∙ c.loop-i.invariant
 
 pub returns : goal.returns
 returns c =

@@ -14,4 +14,5 @@ returns-in_ok-push_str-in-Two g c =
       ← c.deref-in-Two.ensures,
     )
     (put_last c.print_operand-in-Two.result _ (string_bytes c.push_str.new.self) _ _ c.print_operand-in-Two.ensures
-    (rw (c.in_ok-push_str-in-Two.ensures.bytes, c.sign.ensures, c.in_ok-print_operand-in-Two.ensures) (simp (text_of-append, append_assoc))))
+    (rw (c.in_ok-push_str-in-Two.ensures.bytes, c.sign.ensures, c.in_ok-print_operand-in-Two.ensures)
+    (simp (text_of-append, append_assoc))))

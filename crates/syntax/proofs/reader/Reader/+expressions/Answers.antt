@@ -1,4 +1,4 @@
-use Rattle.std.proofs.Common.{rules, ◌≡◌, true, false, refl, List, ◌∙◌, sym, ap, Some}
+use Rattle.std.proofs.Common.{rules, arith, ◌≡◌, ◌+◌, ◌*◌, ◌<◌, ℕ, length, true, false, refl, List, ◌∷◌, ◌∙◌, sym, ap, Some}
 use Rattle.language.specs.Tree.{Name, Expression, two}
 use Rattle.grammar.specs.Grammar.{right_level}
 use Rattle.syntax.specs.Exact.{reading, from, after}
@@ -13,6 +13,31 @@ use Rattle.syntax.proofs.ChainLemmas.{at_end}
 use Rattle.trees.proofs.Folds.{expr_of-Const, expr_of-Var, expr_of-Not, expr_of-Two}
 use Rattle.syntax.proofs.reader.Reader.+expressions.Goals as goal
 use Rattle.syntax.proofs.reader.Reader.+expressions.Goals.{expression-in-Some+in_default-operator_of_kind, expression-in_default}
+
+-- The measures of calls: fewer tokens, or as many and a function further down.
+same_less : (n : ℕ) → 2 * n < 2 * n + 1
+same_less n = omega arith
+
+operand_less : {A : Type 0} {x : A} {xs ys : List A} → ys ≡ x ∷ xs → 2 * length xs + 1 < 2 * length ys
+operand_less {A} {x} {xs} {ys} is = rw is (omega arith)
+
+right_less : {A : Type 0} {x : A} {xs ys : List A} {n : ℕ} → ys ≡ x ∷ xs → length ys < n → 2 * length xs + 1 < 2 * n + 1
+right_less {A} {x} {xs} {ys} {n} is less =
+    let h : length ys ≡ length xs + 1 = rw is (omega arith) in
+    omega (arith, h, less)
+
+pub expression-operand-requires : goal.expression-operand-requires
+expression-operand-requires g t c κs within = (rw (← c.decreases) (same_less _), within)
+
+pub expression-expression-requires : goal.expression-expression-requires
+expression-expression-requires g t c κs within =
+    (rw (← c.decreases) (right_less c.in-Some.ensures.cases.0 c.loop-first.invariant.shorter), within)
+
+pub operand-expression-requires : goal.operand-expression-requires
+operand-expression-requires g t c κs within = (rw (← c.decreases) (operand_less c.in-Some.ensures.cases.0), within)
+
+pub operand-expression-requires-in-Open : goal.operand-expression-requires-in-Open
+operand-expression-requires-in-Open g t c κs within = (rw (← c.decreases) (operand_less c.in-Some.ensures.cases.0), within)
 
 pub expression-loop-first-preserved : goal.expression-loop-first-preserved
 expression-loop-first-preserved g t c = record {

@@ -1,4 +1,4 @@
-use Rattle.std.proofs.Common.{rules, List, [], ◌∙◌, ap, sym, Some, refl}
+use Rattle.std.proofs.Common.{rules, arith, ◌≡◌, ◌+◌, ◌*◌, ◌<◌, ◌≤◌, ℕ, length, List, [], ◌∷◌, ◌∙◌, ap, sym, Some, refl}
 use Rattle.tokens.specs.declared.vocabulary.Kind.TheVariants as kind
 use Rattle.tokens.specs.Token.{toks_of, same_kind}
 use Rattle.syntax.specs.Exact.{section, going_on, put_before, if_deed, while_deed}
@@ -9,6 +9,54 @@ use Rattle.syntax.proofs.Goings.{sections_start, sections_go_on}
 use Rattle.syntax.proofs.Goings.{item_whole, deed_leaves, deed_gives, deed_calls, deed_asks, deed_assigns, deed_begins}
 use Rattle.syntax.proofs.Loops.{pushed}
 use Rattle.syntax.proofs.reader.Reader.+statements.Goals as goal
+
+-- The measures of calls: fewer tokens, or as many and a function further down.
+behind_less : {a b : ℕ} → a < b → 5 * a + 5 < 5 * b + 1
+behind_less less = omega (arith, less)
+
+before_less : (a : ℕ) → 5 * a + 4 < 5 * a + 5
+before_less a = omega arith
+
+word_less : {A : Type 0} {x : A} {xs ys : List A} → ys ≡ x ∷ xs → 5 * length xs + 1 < 5 * length ys + 2
+word_less {A} {x} {xs} {ys} is = rw is (omega arith)
+
+mark_less : {a b : ℕ} → a ≤ b → 5 * a + 2 < 5 * b + 3
+mark_less less = omega (arith, less)
+
+first_less : (a : ℕ) → 5 * a + 3 < 5 * a + 4
+first_less a = omega arith
+
+next_less : {a b : ℕ} → a < b → 5 * a + 3 < 5 * b + 4
+next_less less = omega (arith, less)
+
+pub core-branch-self-requires : goal.core-branch-self-requires
+core-branch-self-requires g t c κs within = (rw (← c.decreases) (word_less c.in-Some.ensures.cases.0), within)
+
+pub core-repeat-requires : goal.core-repeat-requires
+core-repeat-requires g t c κs within = (rw (← c.decreases) (word_less c.in-Some.ensures.cases.0), within)
+
+pub statement-core-requires : goal.statement-core-requires
+statement-core-requires g t c κs within = (rw (← c.decreases) (mark_less c.in_ok-label.ensures.no_longer), within)
+
+pub statements-statement-requires : goal.statements-statement-requires
+statements-statement-requires g t c κs within = (rw (← c.decreases) (first_less _), within)
+
+pub statements-statement-requires-in-loop-rest : goal.statements-statement-requires-in-loop-rest
+statements-statement-requires-in-loop-rest g t c κs within =
+    (rw (← c.decreases) (next_less c.loop-rest.invariant.shorter), within)
+
+pub statements_before-statements-requires : goal.statements_before-statements-requires
+statements_before-statements-requires g t c κs within = (rw (← c.decreases) (before_less _), within)
+
+pub branch-statements_before-requires : goal.branch-statements_before-requires
+branch-statements_before-requires g t c κs within = (rw (← c.decreases) (behind_less c.in_ok-side.ensures.shorter), within)
+
+pub branch-statements_before-requires-2 : goal.branch-statements_before-requires-2
+branch-statements_before-requires-2 g t c κs within =
+    (rw (← c.decreases) (behind_less (less_still c.in_ok-yes.ensures.shorter c.in_ok-side.ensures.shorter)), within)
+
+pub repeat-statements_before-requires : goal.repeat-statements_before-requires
+repeat-statements_before-requires g t c κs within = (rw (← c.decreases) (behind_less c.in_ok-side.ensures.shorter), within)
 
 pub core-returns-in-Skip-clause-gives : goal.core-returns-in-Skip-clause-gives
 unfolding same_kind if_deed while_deed

@@ -9,7 +9,8 @@ unfolding condition
 returns g c =
     let ts = c.in_ok-inside.inside.now in
     record {
-      gives = rw c.in_ok-inside.ensures.gives (closed_read rhs_of (closed kind.Close right) c.args.kind c.closed-side.result c.closed.result ts
+      gives = rw c.in_ok-inside.ensures.gives
+          (closed_read rhs_of (closed kind.Close right) c.args.kind c.closed-side.result c.closed.result ts
           (closed_read rhs_of right kind.Close c.read.result c.closed-side.result ts c.read.ensures.gives c.closed-side.ensures)
           c.closed.ensures);
       shorter = shorter_behind c.closed.result ts c.args.tokens.now c.in_ok-inside.ensures.shorter
