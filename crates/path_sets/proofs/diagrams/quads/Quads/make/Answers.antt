@@ -6,6 +6,9 @@ use Rattle.path_sets.proofs.GrowthLemmas.{still_once}
 use Rattle.path_sets.proofs.QuadLemmas.{is_nothing, quads_down, quads_reduced, quads_keep, quad_sees}
 use Rattle.path_sets.proofs.diagrams.quads.Quads.make.Goals as goal
 
+pub index_of-requires : goal.index_of-requires
+index_of-requires g c = same_quad
+
 pub invariant_of-self : goal.invariant_of-self
 invariant_of-self g c =
     let s = c.args.self.now in
