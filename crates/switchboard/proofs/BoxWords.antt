@@ -121,7 +121,8 @@ module _ {M W : Type 0} (fits : W → ℕ → M → Type 0) (g : Ground M W) whe
       let n : ℕ = get_or s.words 0 0 in
       let w : SeatView M W = record v { seen = x; told = y } in
       let k = r.each id v is_at in
-      rebuilt fits g s r id v is_at r.order r.first r.low (set s.words 0 n) s.homes w (grows_same r.order r.first r.low) (λ j _. refl) r.sound
+      rebuilt fits g s r id v is_at r.order r.first r.low (set s.words 0 n) s.homes w
+      (grows_same r.order r.first r.low) (λ j _. refl) r.sound
       (locks_still fits g s r id v is_at n w (λ q. refl))
       (omega (arith, length-set s.words 0 n, r.some_word)) (get_or-set_same s.words 0 n 0 r.some_word ∙ r.word) (omega (arith, r.count))
       (omega arith) record { board = k.board; saw = saw; told = told; owns = k.owns; parts = k.parts; idle = k.idle }

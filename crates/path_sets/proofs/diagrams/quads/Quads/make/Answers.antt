@@ -19,7 +19,8 @@ invariant_of-self g c =
       down = quads_down ns s.down x c.requires new c.index_of.ensures.grown;
       reduced =
           quads_reduced ns x
-          (λ is. true≢false (sym (quad_self x) ∙ ap (quad_eq x) is ∙ sym c.eq.ensures ∙ c.if-eq.false)) s.reduced new c.index_of.ensures.grown;
+          (λ is. true≢false (sym (quad_self x) ∙ ap (quad_eq x) is ∙ sym c.eq.ensures ∙ c.if-eq.false)) s.reduced new
+          c.index_of.ensures.grown;
       once = still_once x ns s.once new c.index_of.ensures.grown;
     }
 
