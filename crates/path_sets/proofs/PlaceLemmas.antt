@@ -1,5 +1,6 @@
 -- Items of lists by their places.
-use Rattle.std.proofs.Common.{◌≡◌, ◌<◌, ℕ, zero, suc, List, [], ◌∷◌, ◌++◌, Some, length, slice_get, slice_set, inl, inr, refl, sym, ap, ◌∙◌, arith, ◌⊎◌, map}
+use Rattle.std.proofs.Common.{◌≡◌, ◌<◌, ℕ, zero, suc, List, [], ◌∷◌, ◌++◌, Some, length, slice_get, slice_set, map}
+use Rattle.std.proofs.Common.{inl, inr, refl, sym, ap, ◌∙◌, arith, ◌⊎◌}
 use Rattle.std.specs.Prelude.{IsPermutation}
 use Rattle.std.specs.List.{Contains}
 use Rattle.std.specs.Option.{option_map}

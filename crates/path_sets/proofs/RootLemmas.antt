@@ -100,7 +100,8 @@ pub diagram_begins : (old new : List (DiagramKey × ℕ)) (diagram : DiagramKey)
     → GivesRoot old diagram 0 new
     → RootsStay old new
 diagram_begins old new diagram none is given = record {
-  indexes = λ i r h. subst (λ es. slice_get (keys_of es) i ≡ Some r) (sym is) (subst (λ ks. slice_get ks i ≡ Some r) (sym (map-append (λ (p : DiagramKey × ℕ). p.0) old ((diagram, 0) ∷ [])))
+  indexes = λ i r h. subst (λ es. slice_get (keys_of es) i ≡ Some r) (sym is)
+      (subst (λ ks. slice_get ks i ≡ Some r) (sym (map-append (λ (p : DiagramKey × ℕ). p.0) old ((diagram, 0) ∷ [])))
       (still_there (keys_of old) (diagram ∷ []) i r h));
   numbers = λ e b. elim (is_diagram e b diagram) [
     | inl (at, at') ↦

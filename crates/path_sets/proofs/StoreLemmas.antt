@@ -10,12 +10,11 @@ use Rattle.path_sets.specs.Walks.{IsGrown}
 use Rattle.path_sets.proofs.MaskKeyLemmas.{same_three, three_self}
 use Rattle.std.proofs.lemmas.Bool.{eqb-true, and_parts}
 
--- whether two nodes are the same
-abbrev pub node_eq : BitNode → BitNode → Bool
-node_eq x y = nat_eq x.level y.level && (nat_eq x.low y.low && nat_eq x.high y.high)
-
-node_self : (x : BitNode) → node_eq x x ≡ true
-node_self x = three_self x.level x.low x.high
+-- nodes that compare as equal are the same
+pub same_node : (x y : BitNode) → nat_eq x.level y.level && (nat_eq x.low y.low && nat_eq x.high y.high) ≡ true → x ≡ y
+same_node x y h =
+    let (level, low, high) = same_three x.level y.level x.low y.low x.high y.high h in
+    λ j. record { level = level j; low = low j; high = high j }
 
 -- whether two nodes of two bits are the same
 abbrev pub quad_eq : Quad → Quad → Bool
@@ -41,16 +40,9 @@ same_quad x y h =
 
 module _ {X : Type 0} (eq : X → X → Bool) (self : (x : X) → eq x x ≡ true) where
   -- a node that is put in if none is equal to it is new
-  put_in : (x : X) (old new : List X) → new ≡ (if list_any (eq x) old then old else old ++ x ∷ []) → IsGrown x old new
+  pub put_in : (x : X) (old new : List X) → new ≡ (if list_any (eq x) old then old else old ++ x ∷ []) → IsGrown x old new
   put_in x old new h = by (list_any (eq x) old) refl h
     where
       by : (b : Bool) → list_any (eq x) old ≡ b → new ≡ (if b then old else old ++ x ∷ []) → IsGrown x old new
       by true e is = inl is
       by false e is = inr (is, λ i at. true≢false (sym (any_passes_from_place (eq x) old i x at (self x)) ∙ e))
-
-pub grown : (x : BitNode) (old new : List BitNode) → new ≡ (if list_any (node_eq x) old then old else old ++ x ∷ []) → IsGrown x old new
-grown = put_in node_eq node_self
-
-pub quads_grown : (x : Quad) (old new : List Quad) → new ≡ (if list_any (quad_eq x) old then old else old ++ x ∷ [])
-    → IsGrown x old new
-quads_grown = put_in quad_eq quad_self

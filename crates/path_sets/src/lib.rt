@@ -8,6 +8,7 @@
 mod counting;
 mod diagrams;
 mod edge_limit;
+mod kept_nodes;
 mod laws;
 mod ordered;
 mod path_set;

@@ -328,7 +328,8 @@ module _ {G : Type 0} (b : Start G) where
       all = λ i h. same_taken x.found y.found keeps.taken i (g.all i h);
     }
 
-    module _ {P : Type 0} (job : ℕ) (s : Sight Due (Graphs G)) (w : Worker P G A S) (y : Table G A S) (deals : IsDealing b members job s w) where
+    module _ {P : Type 0} (job : ℕ) (s : Sight Due (Graphs G)) (w : Worker P G A S) (y : Table G A S)
+        (deals : IsDealing b members job s w) where
       -- The table has answered a message, which is due and is posted next.
       pub answered_sending : (to : ℕ) (d : Due) → KeepsTable members None w.table y → IsAnswer w.table y to d
           → IsSending b members job to d s (record w { table = y })

@@ -1,8 +1,7 @@
 -- The rule of a board with a lock for each mailbox holds for a new board, and the passes that are dealt.
-use Rattle.std.proofs.Common.{◌≡◌, ◌≢◌, inl, ℕ, zero, suc, ◌+◌, ◌-◌, ◌*◌, ◌^◌, ◌<◌, ◌≤◌, false, List, [], ◌∷◌, ◌++◌, map, length, get_or}
+use Rattle.std.proofs.Common.{◌≡◌, ◌≢◌, ℕ, zero, suc, ◌+◌, ◌-◌, ◌*◌, ◌^◌, ◌<◌, ◌≤◌, false, List, [], ◌∷◌, ◌++◌, map, length, get_or}
 use Rattle.std.proofs.Common.{slice_get}
 use Rattle.std.proofs.Common.{Some, None, refl, sym, ap, ◌∙◌, subst, arith, Option}
-use mathlib.Core.Option as maybe
 use mathlib.Core.Option.{some, some-injective, some-ne-none}
 use mathlib.Core.Logic.{dite}
 use native.Mathlib.Decide.{ℕ_discrete}
@@ -11,10 +10,10 @@ use Rattle.atomic_table.specs.Table as table
 use Rattle.atomic_table.specs.Seated.{TableId}
 use Rattle.ticket_lock.specs.declared.hand.Hand.{Hand}
 use Rattle.ticket_lock.specs.Count.{times}
-use Rattle.ticket_lock.specs.Core.{Fits, TicketCore}
+use Rattle.ticket_lock.specs.Core.{TicketCore}
 use Rattle.ticket_lock.specs.Proved.Facts.{times-one, StartsWith-refl}
 use Rattle.ticket_lock.proofs.HistoryFacts.{times-other}
-use Rattle.ticket_lock.proofs.HandLemmas.{Divides, divides_new}
+use Rattle.ticket_lock.proofs.HandLemmas.{Divides, divides_new, core_new, at_only}
 use Rattle.post_ledger.specs.declared.event.Event.{Event}
 use Rattle.post_ledger.specs.declared.entry.Entry.{Entry}
 use Rattle.post_ledger.specs.declared.entry.Entry.TheVariants.{Posted}
@@ -44,34 +43,6 @@ module _ {T : Type 0} where
   one_bares : (n k : ℕ) → (let one : Hand T → Hand T = λ h. fresh_hand 1 in map one (fresh_hands n k) ≡ fresh_hands n 1)
   one_bares zero k = refl
   one_bares (suc n) k = ap (λ l. fresh_hand 1 ∷ l) (one_bares n k)
-
-  -- a new lock
-  core_open : (n : ℕ) (x : T) (here : maybe.Option (maybe.Option (Option T))) → n ≤ 64 → here ≡ some (some (Some x))
-      → TicketCore 0 0 (x ∷ []) here (fresh_hand n ∷ [])
-  core_open n x here few is = record {
-    served = refl;
-    order = omega arith;
-    held = λ k lo hi. absurd (omega arith);
-    past = λ k lo. absurd (omega arith);
-    ahead = λ k hi. refl;
-    drawn_once = λ k hi. absurd (omega arith);
-    undrawn = λ k hi. refl;
-    drawn = refl;
-    parts = omega arith;
-    each = λ j h e. one_hand j h e;
-    home = λ none. (x, ([], refl), is);
-  }
-    where
-      one_hand : (j : ℕ) (h : Hand T) → (let l : List (Hand T) = fresh_hand n ∷ [] in get_elem? l j ≡ some h) → Fits 0 (x ∷ []) h
-      one_hand zero h e =
-          subst (λ z. Fits 0 (x ∷ []) z)
-          (some-injective (fresh_hand n) h e) record {
-            begins = (x ∷ [], refl);
-            inside = inl refl;
-            few = omega arith;
-            idle = λ _. (refl, refl);
-          }
-      one_hand (suc j) h e = absurd (some-ne-none h (sym e))
 
   -- what lies in a slot of a new table
   at_home : (l : List (Option T)) (q : ℕ) (x : T) → q < length l → ((h : Option T) → slice_get l q ≡ Some h → h ≡ Some x)
@@ -145,7 +116,7 @@ module _ {M W : Type 0} (fits : W → ℕ → M → Type 0) (g : Ground M W) (ne
                 (sym (zeros (word_of q + 1) (omega arith)))
                 (subst (λ h. TicketCore 0 0 (part q first_order ∷ []) (get_elem? (map some slots) q) (h ∷ []))
                 (sym (bares_at g.boxes g.boxes q short))
-                (core_open g.boxes (part q first_order) (get_elem? (map some slots) q) few
+                (core_new [] g.boxes (part q first_order) (get_elem? (map some slots) q) (part q first_order ∷ [], refl) few
                 (at_home slots q (part q first_order) (omega (arith, many)) (boxes q)))));
           },
           ([], refl),
@@ -154,27 +125,18 @@ module _ {M W : Type 0} (fits : W → ℕ → M → Type 0) (g : Ground M W) (ne
         word = one;
         count = omega arith;
         few = omega arith;
-        each = λ j u e. one_seat v record {
-          board = λ i k at. one_board i k at;
+        each = at_only (KnowsBoard fits g first_order None 1) v record {
+          board = at_only (λ k. k ≡ g) g refl;
           saw = saw;
           told = saw_none fits g first_order None 1;
           owns = λ k o at. let r = owns_at M 0 g.boxes k o at in none_own o.number (omega (arith, r.0)) ∙ sym r.1;
           parts = λ q short. ap (λ (h : Hand (List (Event M))). h.parts) (bares_at g.boxes g.boxes q short) ∙ sym (length-owns M 0 g.boxes);
           idle = λ e. refl;
-        } j u e;
+        };
         once = λ n. omega (arith, owns_once M 0 g.boxes n);
         whole = omega (arith, length-owns M 0 g.boxes);
         maker = λ a e. cc;
       }
-    where
-      one_seat : (v : SeatView M W) → KnowsBoard fits g first_order None 1 v → (j : ℕ) (u : SeatView M W)
-          → (let l : List (SeatView M W) = v ∷ [] in get_elem? l j ≡ some u) → KnowsBoard fits g first_order None 1 u
-      one_seat v k zero u e = subst (λ z. KnowsBoard fits g first_order None 1 z) (some-injective v u e) k
-      one_seat v k (suc j) u e = absurd (some-ne-none u (sym e))
-
-      one_board : (i : ℕ) (k : Ground M W) → (let l : List (Ground M W) = g ∷ [] in get_elem? l i ≡ some k) → k ≡ g
-      one_board zero k e = sym (some-injective g k e)
-      one_board (suc i) k e = absurd (some-ne-none k (sym e))
 
   -- what is left after one pass was dealt
   pub less_next : (first count : ℕ)
@@ -215,18 +177,12 @@ module _ {M W : Type 0} (fits : W → ℕ → M → Type 0) (g : Ground M W) (ne
         board = k.board;
         saw = k.saw;
         told = k.told;
-        owns = λ j o at. first_only first count j o r.order at (λ n x there. k.owns n x there);
+        owns = at_only (λ (o : Own M). own o.number r.order ≡ o.events) record { number = first; events = []; made = false }
+            (k.owns 0 record { number = first; events = []; made = false } refl);
         parts = λ q short. ap (λ (h : Hand (List (Event M))). h.parts) (hand_b q short);
         idle = λ e. refl;
       }
       (λ n. omega arith) (omega arith) (λ n. omega arith) refl (omega arith))
-    where
-      first_only : (first count j : ℕ) (o : Own M) (order : List (Entry M))
-          → (let l : List (Own M) = record { number = first; events = []; made = false } ∷ [] in get_elem? l j ≡ some o)
-          → ((n : ℕ) (x : Own M) → get_elem? (owns_from first (suc count)) n ≡ some x → own x.number order ≡ x.events)
-          → own o.number order ≡ o.events
-      first_only first count zero o order e all = all 0 o e
-      first_only first count (suc j) o order e all = absurd (some-ne-none o (sym e))
 
   -- the pass that was dealt
   pub dealt_pass : (id : TableId) (number count calls : ℕ) (m : Seat M W) → m ≡ (first_pass_alone (first_view g number (suc count)), [])

@@ -1,12 +1,12 @@
 -- Each step on the word of outstanding posts may be taken.
-use Rattle.std.proofs.Common.{◌≡◌, ◌≢◌, ◌⊎◌, inl, inr, ℕ, zero, suc, ◌+◌, ◌-◌, ◌*◌, ◌^◌, ◌%◌, ◌<◌, ◌≤◌, ◌==◌, ◌||◌, if◌then◌else◌, Bool}
+use Rattle.std.proofs.Common.{◌≡◌, ◌≢◌, ◌⊎◌, inl, inr, ℕ, ◌+◌, ◌-◌, ◌*◌, ◌^◌, ◌%◌, ◌<◌, ◌≤◌, ◌==◌, ◌||◌, if◌then◌else◌, Bool}
 use Rattle.std.proofs.Common.{true, false}
 use Rattle.std.proofs.Common.{List, [], ◌∷◌, map, length, set, get_or, Some, None, refl, sym, ap, ◌∙◌, subst, arith, Option, length-set}
 use Rattle.std.proofs.Common.{get_or-set_same, eq-eqb, lt_of_not-le}
 use Rattle.std.proofs.lemmas.Bool.{eqb-true}
 use Rattle.std.proofs.lemmas.Nat.{or_shifted, or_block, or_comm}
 use Rattle.std.specs.Int.Bits.{bit_or}
-use mathlib.Core.Option.{some, some-injective, some-ne-none}
+use mathlib.Core.Option.{some}
 use native.Mathlib.Decide.{dec_le}
 use lib.ListN.{get_elem?}
 use Rattle.atomic_table.specs.Table as table
@@ -14,6 +14,7 @@ use Rattle.ticket_lock.specs.Count.{times, total}
 use Rattle.ticket_lock.specs.History.{StartsWith}
 use Rattle.ticket_lock.specs.Proved.Facts.{total_set, total_at, total_two, set_here, at_inside, times-one, StartsWith-refl}
 use Rattle.ticket_lock.proofs.HistoryFacts.{total_only}
+use Rattle.ticket_lock.proofs.HandLemmas.{at_only}
 use Rattle.ticket_lock.proofs.HistoryFacts.{StartsWith-length, StartsWith-whole}
 use Rattle.ticket_lock.proofs.LoneSteps.{longer_first, longer_second, longer_begins, longer_whole}
 use Rattle.post_ledger.specs.declared.entry.Entry.{Entry}
@@ -120,7 +121,8 @@ module _ {M W : Type 0} (fits : W → ℕ → M → Type 0) (g : Ground M W) whe
       let n : ℕ = get_or s.words 0 0 in
       let w : SeatView M W = record v { seen = x; told = y } in
       let k = r.each id v is_at in
-      rebuilt fits g s r id v is_at r.order r.first r.low (set s.words 0 n) s.homes w (grows_same r.order r.first r.low) (λ j _. refl) r.sound
+      rebuilt fits g s r id v is_at r.order r.first r.low (set s.words 0 n) s.homes w
+      (grows_same r.order r.first r.low) (λ j _. refl) r.sound
       (locks_still fits g s r id v is_at n w (λ q. refl))
       (omega (arith, length-set s.words 0 n, r.some_word)) (get_or-set_same s.words 0 n 0 r.some_word ∙ r.word) (omega (arith, r.count))
       (omega arith) record { board = k.board; saw = saw; told = told; owns = k.owns; parts = k.parts; idle = k.idle }
@@ -262,7 +264,8 @@ module _ {M W : Type 0} (fits : W → ℕ → M → Type 0) (g : Ground M W) whe
         board = k.board;
         saw = saw;
         told = saw_grows fits g r.order r.order r.first first r.low r.low v.told on k.told;
-        owns = λ i p at. only_lane i p r.order (subst (λ l. get_elem? l i ≡ some p) now at) (k.owns 0 o (ap (λ l. get_elem? l 0) lanes));
+        owns = λ i p at. at_only (λ (z : Own M). own z.number r.order ≡ z.events) (made_abort o)
+            (k.owns 0 o (ap (λ l. get_elem? l 0) lanes)) i p (subst (λ l. get_elem? l i ≡ some p) now at);
         parts = λ q short. k.parts q short ∙ (ap length lanes ∙ sym (ap length now));
         idle = λ z. absurd (omega (arith, ap length now));
       } (ap (map (λ (p : Own M). p.number)) now ∙ sym (ap (map (λ (p : Own M). p.number)) lanes))
@@ -306,11 +309,6 @@ module _ {M W : Type 0} (fits : W → ℕ → M → Type 0) (g : Ground M W) whe
 
       made_here : (j : ℕ) → o.number ≡ j → total (made_by j) (made_abort o ∷ []) ≡ 1
       made_here j e = rw (eq-eqb o.number j e) refl
-
-      only_lane : (i : ℕ) (p : Own M) (order : List (Entry M)) → (let l : List (Own M) = made_abort o ∷ [] in get_elem? l i ≡ some p)
-          → own o.number order ≡ o.events → own p.number order ≡ p.events
-      only_lane zero p order at list = subst (λ (z : Own M). own z.number order ≡ z.events) (some-injective (made_abort o) p at) list
-      only_lane (suc i) p order at list = absurd (some-ne-none p (sym at))
 
       makers : (p : Option Abort) (b : Abort) {A : Type 0} → abort_of p a ≡ Some b → (p ≡ Some b → A) → (a ≡ b → A) → A
       makers None b e old new = new cc

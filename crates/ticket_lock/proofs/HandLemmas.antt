@@ -1,8 +1,8 @@
 -- Hands that share what one hand had, or take what another has.
-use Rattle.std.proofs.Common.{◌≡◌, ◌≢◌, ◌⊎◌, inl, inr, ℕ, suc, ◌+◌, List, [], ◌∷◌, ◌++◌, length, set}
+use Rattle.std.proofs.Common.{◌≡◌, ◌≢◌, ◌⊎◌, inl, inr, ℕ, suc, ◌+◌, List, [], ◌∷◌, ◌++◌, length, set, zero, ◌≤◌, Some}
 use Rattle.std.proofs.Common.{refl, sym, ap, ◌∙◌, subst, arith, Option, length-append}
 use mathlib.Core.Option as maybe
-use mathlib.Core.Option.{some}
+use mathlib.Core.Option.{some, some-injective, some-ne-none}
 use lib.ListN.{get_elem?}
 use Rattle.ticket_lock.specs.declared.hand.Hand.{Hand}
 use Rattle.ticket_lock.specs.Count.{times, total}
@@ -13,10 +13,32 @@ use Rattle.ticket_lock.specs.Proved.Facts.{total_set, at_set, at_snoc, set_else}
 use Rattle.ticket_lock.proofs.HistoryFacts.{total-snoc, times-append}
 use Rattle.ticket_lock.proofs.CoreSteps.{core_same}
 
+-- what holds for the only item of a list holds for each
+pub at_only : {X : Type 0} (P : X → Type 0) (x : X) → P x → (j : ℕ) (y : X) → get_elem? (x ∷ []) j ≡ some y → P y
+at_only P x holds zero y e = subst P (some-injective x y e) holds
+at_only P x holds (suc j) y e = absurd (some-ne-none y (sym e))
+
 module _ {T : Type 0} where
   -- a hand that has nothing but its shares fits any ticket
   pub fits_idle : (serving : ℕ) (log seen : List T) (parts : ℕ) → StartsWith log seen → Fits serving log (new_hand seen parts)
   fits_idle serving log seen parts begins = record { begins = begins; inside = inl refl; few = omega arith; idle = λ _. (refl, refl) }
+
+  -- a new lock has one hand, which has nothing but its shares
+  pub core_new : (seen : List T) (parts : ℕ) (x : T) (here : maybe.Option (maybe.Option (Option T))) → StartsWith (x ∷ []) seen
+      → parts ≤ 64 → here ≡ some (some (Some x)) → TicketCore 0 0 (x ∷ []) here (new_hand seen parts ∷ [])
+  core_new seen parts x here begins few is = record {
+    served = refl;
+    order = omega arith;
+    held = λ k lo hi. absurd (omega arith);
+    past = λ k lo. absurd (omega arith);
+    ahead = λ k hi. refl;
+    drawn_once = λ k hi. absurd (omega arith);
+    undrawn = λ k hi. refl;
+    drawn = refl;
+    parts = omega arith;
+    each = at_only (Fits 0 (x ∷ [])) (new_hand seen parts) (fits_idle 0 (x ∷ []) seen parts begins);
+    home = λ none. (x, ([], refl), is);
+  }
 
   -- two hands have what one had
   pub record Divides (h a b : Hand T) : Type 0 where

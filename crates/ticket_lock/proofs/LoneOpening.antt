@@ -7,16 +7,15 @@ use native.Mathlib.Decide.{ℕ_discrete}
 use lib.ListN.{get_elem?}
 use Rattle.atomic_table.specs.Table.{Me, Splits, opening}
 use Rattle.atomic_table.specs.Seated.{TableId}
-use Rattle.ticket_lock.specs.declared.hand.Hand.{Hand}
 use Rattle.ticket_lock.specs.declared.view.View.{View}
 use Rattle.ticket_lock.specs.Count.{times}
 use Rattle.ticket_lock.specs.History.{IsRising}
-use Rattle.ticket_lock.specs.Core.{Fits}
 use Rattle.ticket_lock.specs.Lone.{lanes_from, new_view, less_one, just_one, Knows, Lone}
 use Rattle.ticket_lock.specs.Lanes.{Standing, standing, fresh_lane, fresh_lanes}
 use Rattle.ticket_lock.proofs.LoneSteps.{deals_allowed}
 use Rattle.ticket_lock.specs.Proved.Facts.{times-one, EndsIn-same, StartsWith-refl}
 use Rattle.ticket_lock.proofs.HistoryFacts.{times-other}
+use Rattle.ticket_lock.proofs.HandLemmas.{at_only, core_new}
 
 module _ {T : Type 0} where
   pub length-lanes : (first count : ℕ) (x : T) → length (lanes_from first count x) ≡ count
@@ -100,30 +99,17 @@ module _ {T Part : Type 0} (before : T → T → Type 0) (part : ℕ → T → P
   opens same x lanes some_of few =
       let own : List (ℕ × T) = lanes_from 0 lanes x in
       let v : View T = new_view (x ∷ []) own in
-      let h : Hand T = v.hand in
       let count : length own ≡ lanes = length-lanes 0 lanes x in
       record {
         log = x ∷ [];
         kept = record {
           room = omega arith;
-          core = record {
-            served = refl;
-            order = omega arith;
-            held = λ n lo hi. absurd (omega arith);
-            past = λ n lo. absurd (omega arith);
-            ahead = λ n hi. refl;
-            drawn_once = λ n hi. absurd (omega arith);
-            undrawn = λ n hi. refl;
-            drawn = refl;
-            parts = omega arith;
-            each = each_hand h record { begins = StartsWith-refl (x ∷ []); inside = inl refl; few = omega arith; idle = λ _. (refl, refl) };
-            home = λ none. (x, ([], refl), refl);
-          };
+          core = core_new (x ∷ []) (length own) x (some (some (Some x))) (StartsWith-refl (x ∷ [])) (omega arith) refl;
         };
         begun = StartsWith-refl (x ∷ []);
         rising = rises_one;
         each_view =
-            each_one v record {
+            at_only (Knows before part (x ∷ [])) v record {
               shares = refl;
               told = (x ∷ [], refl);
               owns = λ k l a y e ends. let only : x ≡ y = EndsIn-same (x ∷ []) x y ([], refl) ends in
@@ -134,15 +120,6 @@ module _ {T Part : Type 0} (before : T → T → Type 0) (part : ℕ → T → P
         known = (0, v, refl, omega arith, inl refl);
       }
     where
-      each_hand : (h : Hand T) → Fits 0 (x ∷ []) h → (j : ℕ) (k : Hand T) → get_elem? (h ∷ []) j ≡ some k → Fits 0 (x ∷ []) k
-      each_hand h f zero k e = subst (λ z. Fits 0 (x ∷ []) z) (some-injective h k e) f
-      each_hand h f (suc j) k e = absurd (some-ne-none k (sym e))
-
-      each_one : (v : View T) → Knows before part (x ∷ []) v → (j : ℕ) (k : View T) → get_elem? (v ∷ []) j ≡ some k
-          → Knows before part (x ∷ []) k
-      each_one v f zero k e = subst (λ z. Knows before part (x ∷ []) z) (some-injective v k e) f
-      each_one v f (suc j) k e = absurd (some-ne-none k (sym e))
-
       rises_one : IsRising before (x ∷ [])
       rises_one zero zero a b le p q = let e : a ≡ b = sym (some-injective x a p) ∙ some-injective x b q in
           subst (λ z. before a z) e (same a)

@@ -268,7 +268,8 @@ module _ {T Part : Type 0} (before : T → T → Type 0) (part : ℕ → T → P
       let knows_w = r.each_view other w is_w in
       let sums : (f : View T → ℕ) → f b + f z ≡ f v + f w → total f (set vs other z) ≡ total f s.views =
       λ f e. omega (arith, total_set f s.views id v b is_at, total_set f vs other w z is_now) in
-      let c = core_joins (get_or s.words 0 0) (get_or s.words 1 0) r.log (get_elem? s.homes 0) hs id other v.hand w.hand b.hand is_hv apart is_hw
+      let c = core_joins (get_or s.words 0 0) (get_or s.words 1 0) r.log (get_elem? s.homes 0) hs id other v.hand w.hand b.hand is_hv
+      apart is_hw
       record { tickets = refl; inside = refl; drawn = refl; parts = refl; seen = inl refl } (inr refl) outside r.kept.core in
       let len : length b.own ≡ length v.own + length w.own = length-append v.own w.own in
       let knows_b : Knows before part r.log b = record {

@@ -1,18 +1,17 @@
 //! Numbered nodes that test one bit; no node occurs twice.
 
-ghost use Rattle.std.specs.Prelude.{◌≡◌, ℕ, ◌+◌, ◌<◌, ◌^◌, Bool, cond, IfOk, Some, slice_get};
-ghost use Rattle.std.specs.Prelude.{length, ◌≤◌};
+ghost use Rattle.std.specs.Prelude.{◌≡◌, ℕ, ◌+◌, ◌<◌, ◌^◌, Bool, cond, IfOk, ◌≤◌};
 ghost use Rattle.language.specs.Words.{word_bits};
 ghost use Rattle.path_sets.specs.Masks.{bit_of};
-ghost use Rattle.path_sets.specs.Walks.{IsGrown, IsNumber};
+ghost use Rattle.path_sets.specs.Walks.{IsNumber};
 ghost use Rattle.path_sets.specs.Diagrams.{accepts, AreOrdered, AreReduced, GoDown, KeepsNodes};
 ghost use Rattle.path_sets.specs.Diagrams.{level_of};
 ghost use Rattle.path_sets.specs.Walks.{StandOnce};
 
 use crate::counting::bit_node::BitNode;
+use crate::kept_nodes::{KeptNodes, index_of};
 use indexmap::IndexSet;
 use std::alloc::{AllocError, Allocator};
-use std::hash::{BuildHasherDefault, FoldHasher};
 
 /// The number of the empty set.
 pub(crate) const NONE: u32 = 0;
@@ -21,28 +20,15 @@ pub(crate) const ALL: u32 = 1;
 /// How many nodes there may be: their numbers, from 2 on, are below 2^32.
 pub(crate) const MOST: usize = 4_294_967_293;
 
-/// Numbered nodes, in the order of their numbers.
-type Kept<A> = IndexSet<BitNode, BuildHasherDefault<FoldHasher>, A>;
-
 /// The nodes of reduced ordered decision diagrams: number n is the node at n - 2, whose children have smaller numbers
 /// and later levels and differ. No node occurs twice, so that equal sets have equal numbers.
 #[derive(Drop)]
 pub(crate) struct BitNodes<A: Allocator> {
-    pub(crate) kept: Kept<A>,
+    pub(crate) kept: KeptNodes<BitNode, A>,
     ghost down: { GoDown kept.keys },
     ghost ordered: { AreOrdered kept.keys },
     ghost reduced: { AreReduced kept.keys },
     ghost once: { StandOnce kept.keys },
-}
-
-/// The index of a node; a node that has none is appended.
-fn index_of<A: Allocator + Copy>(kept: &mut Kept<A>, node: BitNode) -> Result<usize, AllocError>
-    ensures at { IfOk result (λ i. slice_get kept.new.keys i ≡ Some node) }
-    ensures grown { IsGrown node kept.old.keys kept.new.keys }
-    ensures within { IfOk result (λ i. i ≤ length kept.old.keys) }
-{
-    let (at, _) = kept.insert_full(node)?;
-    Ok(at)
 }
 
 impl<A: Allocator + Copy> BitNodes<A> {

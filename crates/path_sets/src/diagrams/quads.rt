@@ -1,38 +1,25 @@
 //! Numbered nodes that continue by two bits at once.
 
-ghost use Rattle.std.specs.Prelude.{◌≡◌, ℕ, ◌+◌, ◌<◌, ◌^◌, IfOk, Some, slice_get, length, ◌≤◌};
-ghost use Rattle.path_sets.specs.Walks.{IsGrown, IsNumber, StandOnce};
+ghost use Rattle.std.specs.Prelude.{◌≡◌, ℕ, ◌+◌, ◌<◌, ◌^◌, IfOk};
+ghost use Rattle.path_sets.specs.Walks.{IsNumber, StandOnce};
 ghost use Rattle.path_sets.specs.Quads.{AreInside, KeepQuads, points_of, QuadsAreReduced};
 ghost use Rattle.path_sets.specs.Quads.{QuadsGoDown, sees};
 
 use crate::counting::bit_nodes::{ALL, MOST, NONE};
 use crate::diagrams::quad::{NOTHING, Quad, child};
+use crate::kept_nodes::{KeptNodes, index_of};
 use indexmap::IndexSet;
 use language::Word;
 use std::alloc::{AllocError, Allocator};
-use std::hash::{BuildHasherDefault, FoldHasher};
-
-/// Numbered nodes, in the order of their numbers.
-type Kept<A> = IndexSet<Quad, BuildHasherDefault<FoldHasher>, A>;
 
 /// The nodes of the diagrams that are kept: number n is the node at n - 2, whose children have smaller numbers; 0 and
 /// 1 have no node and no points. At each node there is something, and no node occurs twice.
 #[derive(Drop)]
 pub(crate) struct Quads<A: Allocator> {
-    pub(crate) kept: Kept<A>,
+    pub(crate) kept: KeptNodes<Quad, A>,
     ghost down: { QuadsGoDown kept.keys },
     ghost reduced: { QuadsAreReduced kept.keys },
     ghost once: { StandOnce kept.keys },
-}
-
-/// The index of a node; a node that has none is appended.
-fn index_of<A: Allocator + Copy>(kept: &mut Kept<A>, quad: Quad) -> Result<usize, AllocError>
-    ensures at { IfOk result (λ i. slice_get kept.new.keys i ≡ Some quad) }
-    ensures grown { IsGrown quad kept.old.keys kept.new.keys }
-    ensures within { IfOk result (λ i. i ≤ length kept.old.keys) }
-{
-    let (at, _) = kept.insert_full(quad)?;
-    Ok(at)
 }
 
 impl<A: Allocator + Copy> Quads<A> {

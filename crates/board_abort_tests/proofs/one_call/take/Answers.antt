@@ -31,20 +31,14 @@ returns-in-Ok-Message g c =
 pub returns-in-Ok-Empty : goal.returns-in-Ok-Empty
 returns-in-Ok-Empty g c =
     let h = rw c.in-Ok-Empty.field-0-is at c.in-Ok-Empty.ensures in
-    let s = g.B.Board.sight c.args.pass.now in
-    let t = g.B.Board.sight c.take.new.pass in
-    leaves_none _ s t c.args.job.now h.0.0 c.requires.job
+    leaves_none _ (g.B.Board.sight c.args.pass.now) (g.B.Board.sight c.take.new.pass) c.args.job.now h.0.0 c.requires.job
 
 pub returns-in-Ok-Closed : goal.returns-in-Ok-Closed
 returns-in-Ok-Closed g c =
     let h = rw c.in-Ok-Closed.field-0-is at c.in-Ok-Closed.ensures in
-    let s = g.B.Board.sight c.args.pass.now in
-    let t = g.B.Board.sight c.take.new.pass in
-    leaves_none _ s t c.args.job.now h.0.0 c.requires.job
+    leaves_none _ (g.B.Board.sight c.args.pass.now) (g.B.Board.sight c.take.new.pass) c.args.job.now h.0.0 c.requires.job
 
 pub returns-in-Ok-Aborted : goal.returns-in-Ok-Aborted
 returns-in-Ok-Aborted g c =
     let h = rw c.in-Ok-Aborted.field-0-is at c.in-Ok-Aborted.ensures in
-    let s = g.B.Board.sight c.args.pass.now in
-    let t = g.B.Board.sight c.take.new.pass in
-    leaves_none _ s t c.args.job.now h.0.0 c.requires.job
+    leaves_none _ (g.B.Board.sight c.args.pass.now) (g.B.Board.sight c.take.new.pass) c.args.job.now h.0.0 c.requires.job

@@ -7,6 +7,22 @@ use Rattle.jobs.proofs.ResultLemmas.{come, came_alone, came_at, came_near, come_
 use Rattle.jobs.proofs.jobs.end_all.Goals as goal
 use Rattle.jobs.proofs.jobs.end_all.Goals.{in-InThread, in-Without}
 
+pub loop-one-init : goal.loop-one-init
+loop-one-init g c =
+    let none = ap length c.requires.empty in (
+      c.into_iter-one-iterator.ensures.into_iter_gives.0,
+      none,
+      λ q b d there here. let within = slice_get_within c.args.results.now.items q d here in absurd (omega (arith, within, none)),
+      c.requires.room,
+    )
+
+pub push_reserved-requires : goal.push_reserved-requires
+push_reserved-requires g c =
+    let i = c.loop-one.invariant in
+    let near = came_near c.loop-one.yielded (into_iter_items c.loop-one.one-iterator) (into_iter_items c.next.new.self) c.args.begun.items
+    c.in-Some.one _ i.0 c.in-Some.ensures.steps.0 i.1 in
+    omega (arith, near, i.3, c.loop-one.results.ok.0)
+
 pub loop-one-preserved : goal.loop-one-preserved
 loop-one-preserved g c =
     let i = c.loop-one.invariant in
@@ -41,30 +57,6 @@ loop-one-preserved g c =
       omega (arith, i.3, c.push_reserved.ensures.capacity),
     )
 
-pub returns : goal.returns
-returns g c =
-    let i = c.loop-one.invariant in
-    let all = come_all c.loop-one.yielded (into_iter_items c.loop-one.one-iterator) c.args.begun.items i.0
-    (omega (arith, c.in-None.ensures.steps.0, c.loop-one.one-iterator.rest.ok.0)) in
-    have_come g.J.Job.runs g.J.Job.declines g.L.Lineup.jobs c.args.begun.items c.loop-one.results.items c.requires.begun
-    (i.1 ∙ all) i.2
-
-pub loop-one-init : goal.loop-one-init
-loop-one-init g c =
-    let none = ap length c.requires.empty in (
-      c.into_iter-one-iterator.ensures.into_iter_gives.0,
-      none,
-      λ q b d there here. let within = slice_get_within c.args.results.now.items q d here in absurd (omega (arith, within, none)),
-      c.requires.room,
-    )
-
-pub push_reserved-requires : goal.push_reserved-requires
-push_reserved-requires g c =
-    let i = c.loop-one.invariant in
-    let near = came_near c.loop-one.yielded (into_iter_items c.loop-one.one-iterator) (into_iter_items c.next.new.self) c.args.begun.items
-    c.in-Some.one _ i.0 c.in-Some.ensures.steps.0 i.1 in
-    omega (arith, near, i.3, c.loop-one.results.ok.0)
-
 pub loop-one-smaller : goal.loop-one-smaller
 loop-one-smaller g c =
     omega (
@@ -73,3 +65,11 @@ loop-one-smaller g c =
       c.loop-one.one-iterator.rest.ok.0,
       c.next.new.self.rest.ok.0,
     )
+
+pub returns : goal.returns
+returns g c =
+    let i = c.loop-one.invariant in
+    let all = come_all c.loop-one.yielded (into_iter_items c.loop-one.one-iterator) c.args.begun.items i.0
+    (omega (arith, c.in-None.ensures.steps.0, c.loop-one.one-iterator.rest.ok.0)) in
+    have_come g.J.Job.runs g.J.Job.declines g.L.Lineup.jobs c.args.begun.items c.loop-one.results.items c.requires.begun
+    (i.1 ∙ all) i.2

@@ -55,7 +55,8 @@ returns-clause-ascend g c =
     let passes : ℕ → Bool = λ a. has_any (under nat_eq c.args.callers.now.by_key a) in
     let once = distinct_filter nat_eq passes (keys c.args.callers.now.by_key) c.keys-keys.ensures.unique in
     numbers_ascend c.sort_unstable.new.self.items c.sort_unstable.ensures.sorted
-    (IsDistinct-IsPermutation nat_eq nat_eq_flips c.loop-entry.entries.items c.sort_unstable.new.self.items c.sort_unstable.ensures.permutation
+    (IsDistinct-IsPermutation nat_eq nat_eq_flips c.loop-entry.entries.items c.sort_unstable.new.self.items
+    c.sort_unstable.ensures.permutation
     (subst (IsDistinct nat_eq) (sym (all_keys g a)) once))
 
 pub returns-clause-entries : goal.returns-clause-entries

@@ -33,7 +33,8 @@ returns-clause-ascend g c =
     let a = (goal.at.returns-clause-ascend g c).After-sort_unstable in
     let once : IsDistinct pair_eq c.args.found.now.keys = c.as_slice-kept-items.ensures.unique in
     pairs_ascend c.sort_unstable.new.self.items c.sort_unstable.ensures.sorted
-    (IsDistinct-IsPermutation pair_eq pair_eq_flips c.loop-kept.pairs.items c.sort_unstable.new.self.items c.sort_unstable.ensures.permutation
+    (IsDistinct-IsPermutation pair_eq pair_eq_flips c.loop-kept.pairs.items c.sort_unstable.new.self.items
+    c.sort_unstable.ensures.permutation
     (subst (IsDistinct pair_eq) (sym (all_kept g a)) once))
 
 pub returns-clause-pairs : goal.returns-clause-pairs

@@ -5,6 +5,10 @@ use Rattle.path_sets.specs.declared.counting.bit_node.BitNode.{BitNode}
 use Rattle.path_sets.proofs.GrowthLemmas.{level_here, still_once}
 use Rattle.path_sets.proofs.NodeLemmas.{still_down, still_ordered, still_reduced, node_keeps, node_joined}
 use Rattle.path_sets.proofs.counting.bit_nodes.BitNodes.make.Goals as goal
+use Rattle.path_sets.proofs.StoreLemmas.{same_node}
+
+pub index_of-requires : goal.index_of-requires
+index_of-requires g c = same_node
 
 pub invariant_of-self : goal.invariant_of-self
 invariant_of-self g c =

@@ -91,24 +91,6 @@ returns-else-added-clause-members g c =
     let i = (goal.at.returns-else-added-clause-members g c).In_ok-added in
     members_kept _ _ (x g i) _ (old g i) (new g i) _ (fits g i) (edge g i) (here g i) (puts g i false c.if-added.false)
 
--- whether it was there, as the result says
-is_new : (g : given.Over) (c : In_ok-added g)
-    → let s = c.args.self.now in
-    IsNewIf (x g c) (all_edges s.merged.nodes.kept.keys s.merged.roots.entries (masks_in (keys s.merged.roots) s.gathered.batches.items))
-    c.in_ok-added.added
-is_new g c = (
-  OnTrue_from c.in_ok-added.added _
-      (λ is. was_new _ _ (x g c) _ (old g c) (new g c) _ (fits g c) (edge g c) (here g c) (puts g c true is)),
-  OnFalse_from c.in_ok-added.added _
-      (λ is. was_known _ _ (x g c) _ (old g c) (new g c) _ (fits g c) (edge g c) (here g c) (puts g c false is)),
-)
-
-pub returns-then-added-clause-new : goal.returns-then-added-clause-new
-returns-then-added-clause-new g c = is_new g (goal.at.returns-then-added-clause-new g c).In_ok-added
-
-pub returns-else-added-clause-new : goal.returns-else-added-clause-new
-returns-else-added-clause-new g c = is_new g (goal.at.returns-else-added-clause-new g c).In_ok-added
-
 pub returns-then-added-clause-len : goal.returns-then-added-clause-len
 returns-then-added-clause-len g c =
     let i = (goal.at.returns-then-added-clause-len g c).In_ok-added in
@@ -130,3 +112,21 @@ gather-requires-clause-diagram g c =
 
 pub gather-requires-clause-fit : goal.gather-requires-clause-fit
 gather-requires-clause-fit g c = c.settle.new.self.fit
+
+-- whether it was there, as the result says
+is_new : (g : given.Over) (c : In_ok-added g)
+    → let s = c.args.self.now in
+    IsNewIf (x g c) (all_edges s.merged.nodes.kept.keys s.merged.roots.entries (masks_in (keys s.merged.roots) s.gathered.batches.items))
+    c.in_ok-added.added
+is_new g c = (
+  OnTrue_from c.in_ok-added.added _
+      (λ is. was_new _ _ (x g c) _ (old g c) (new g c) _ (fits g c) (edge g c) (here g c) (puts g c true is)),
+  OnFalse_from c.in_ok-added.added _
+      (λ is. was_known _ _ (x g c) _ (old g c) (new g c) _ (fits g c) (edge g c) (here g c) (puts g c false is)),
+)
+
+pub returns-then-added-clause-new : goal.returns-then-added-clause-new
+returns-then-added-clause-new g c = is_new g (goal.at.returns-then-added-clause-new g c).In_ok-added
+
+pub returns-else-added-clause-new : goal.returns-else-added-clause-new
+returns-else-added-clause-new g c = is_new g (goal.at.returns-else-added-clause-new g c).In_ok-added

@@ -8,7 +8,9 @@ use Rattle.path_sets.proofs.diagrams.diagrams.Diagrams.copy.Goals.{In_ok-clone}
 use Rattle.std.proofs.lemmas.Map.Entries.{entries_from_clone}
 
 same : (g : given.Over) (c : In_ok-clone g) → c.in_ok-clone.field-0.entries ≡ c.args.self.now.roots.entries
-same g c = entries_from_clone _ _ (λ x y is. is) (λ v w is. is) c.args.self.now.roots.entries c.in_ok-clone.field-0.entries c.in_ok-clone.ensures.cases
+same g c =
+    entries_from_clone _ _ (λ x y is. is) (λ v w is. is) c.args.self.now.roots.entries c.in_ok-clone.field-0.entries
+    c.in_ok-clone.ensures.cases
 
 pub invariant_of-result : goal.invariant_of-result
 invariant_of-result g c =

@@ -6,6 +6,9 @@ use Rattle.path_sets.proofs.GrowthLemmas.{still_once}
 use Rattle.path_sets.proofs.QuadLemmas.{is_nothing, quads_down, quads_reduced, quads_keep, quad_sees}
 use Rattle.path_sets.proofs.diagrams.quads.Quads.make.Goals as goal
 
+pub index_of-requires : goal.index_of-requires
+index_of-requires g c = same_quad
+
 pub invariant_of-self : goal.invariant_of-self
 invariant_of-self g c =
     let s = c.args.self.now in
@@ -16,7 +19,8 @@ invariant_of-self g c =
       down = quads_down ns s.down x c.requires new c.index_of.ensures.grown;
       reduced =
           quads_reduced ns x
-          (λ is. true≢false (sym (quad_self x) ∙ ap (quad_eq x) is ∙ sym c.eq.ensures ∙ c.if-eq.false)) s.reduced new c.index_of.ensures.grown;
+          (λ is. true≢false (sym (quad_self x) ∙ ap (quad_eq x) is ∙ sym c.eq.ensures ∙ c.if-eq.false)) s.reduced new
+          c.index_of.ensures.grown;
       once = still_once x ns s.once new c.index_of.ensures.grown;
     }
 
