@@ -28,7 +28,8 @@ or_row (Some row) second = Some row
 -- the first row that fits, inside of a body
 abbrev pub row_inside : Surroundings → Option Row
 row_inside seen =
-    or_row (find (fits seen) (rows table.Blocks)) (or_row (find (fits seen) (rows table.Statements)) (find (fits seen) (rows table.Expressions)))
+    or_row (find (fits seen) (rows table.Blocks))
+    (or_row (find (fits seen) (rows table.Statements)) (find (fits seen) (rows table.Expressions)))
 
 -- the first row that fits, outside of bodies or inside
 abbrev pub row_of_grammar : Surroundings → Option Row
