@@ -65,8 +65,7 @@ where
     K: Gate + Sync,
     H: Hire,
     requires drawn { (p : Program) × AreDrawnFrom p (graphs_of graphs.now) }
-    requires some { 1 ≤ length (graphs_of graphs.now) }
-    requires budget { (2 ≤ budget) × (budget ≤ 2 ^ 56) }
+    requires within { (1 ≤ length (graphs_of graphs.now)) × (2 ≤ budget) × (budget ≤ 2 ^ 56) }
     ensures found { (p : Program) → AreDrawnFrom p (graphs_of graphs.now)
         → IfOk result (λ r. IsFound p (most_of limit) r.0.histories.items r.1) }
     ensures closed { IfOk result (λ r. r.0.closed ≡ true) }

@@ -11,7 +11,7 @@ use Rattle.gather.proofs.report.analyse.Goals as goal
 use Rattle.gather.proofs.report.analyse.Goals.{After-back-2-1}
 
 pub open_with_budget-requires-clause-fits : goal.open_with_budget-requires-clause-fits
-open_with_budget-requires-clause-fits g c = opening_fits c.args.graphs.now c.requires.some
+open_with_budget-requires-clause-fits g c = opening_fits c.args.graphs.now c.requires.within.0
 
 pub work_all-requires-after_bounds : goal.work_all-requires-after_bounds
 work_all-requires-after_bounds g c κs within =
