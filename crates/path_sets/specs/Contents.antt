@@ -1,14 +1,15 @@
 -- What diagrams and the masks that are gathered for them have, said of each as a whole.
-use Rattle.std.specs.Prelude.{◌≡◌, ◌<◌, ◌⊎◌, ℕ, Bool, true, List, length}
+use Rattle.std.specs.Prelude.{◌≡◌, ◌<◌, ◌⊎◌, ℕ, Bool, true, List, length, Option, Some, slice_get}
 use Rattle.std.specs.Map.{keys_of}
 use Rattle.indexmap.specs.IndexMap.{keys}
 use Rattle.language.specs.Lists.{Member}
 use Rattle.path_sets.specs.declared.diagrams.batch.Batch.{Batch}
+use Rattle.path_sets.specs.declared.diagrams.diagram_edges.LastDiagram.{LastDiagram}
 use Rattle.path_sets.specs.declared.diagrams.diagrams.Diagrams.{Diagrams}
 use Rattle.path_sets.specs.declared.diagrams.gathered_key.GatheredKey.{GatheredKey}
 use Rattle.path_sets.specs.declared.diagrams.roots.DiagramKey.{DiagramKey}
 use Rattle.path_sets.specs.declared.points.mask_key.MaskKey.{MaskKey}
-use Rattle.path_sets.specs.Batches.{AllWithin, CoversEach, masks_in}
+use Rattle.path_sets.specs.Batches.{AllWithin, CoversEach, HasBatch, masks_in}
 use Rattle.path_sets.specs.Diagrams.{TakesGiven, merged_has}
 use Rattle.path_sets.specs.Edges.{edge_at}
 use Rattle.path_sets.specs.GatheredKeys.{AreWithin, mask_key_at, masks_of}
@@ -18,6 +19,10 @@ use Rattle.path_sets.specs.Triples.{Triple}
 -- no key is there but those that there were, and this one
 abbrev pub NoKeyBut : GatheredKey → List (GatheredKey × ℕ) → List (GatheredKey × ℕ) → Type 0
 NoKeyBut key old new = (other : GatheredKey) → Member other (keys_of new) → Member other (keys_of old) ⊎ (other ≡ key)
+
+-- the last diagram is that of this entry and this block
+abbrev pub IsLastOf : ℕ → ℕ → Option LastDiagram → Type 0
+IsLastOf entry block last = (diagram : LastDiagram) × (last ≡ Some diagram) × (diagram.entry ≡ entry) × (diagram.block ≡ block)
 
 module _ {Alloc : Type 0} where
   -- the keys of the diagrams, by their indexes
@@ -71,3 +76,9 @@ module _ {Alloc : Type 0} where
     pub diagram : key.diagram < length (diagrams_in merged)
     pub within : AreWithin (diagrams_in merged) batch.masks.entries
     pub covers : AreCovered merged (batch_masks merged batch)
+
+  -- the diagram of an entry and a block has its index and its batch
+  abbrev pub IsPlaced : Diagrams Alloc → List ℕ → List (Batch Alloc) → LastDiagram → Type 0
+  IsPlaced merged homes batches last =
+      (slice_get (diagrams_in merged) last.diagram ≡ Some (record { entry = last.entry; block = last.block }))
+      × HasBatch homes batches last.diagram last.batch

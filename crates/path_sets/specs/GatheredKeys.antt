@@ -7,6 +7,10 @@ use Rattle.path_sets.specs.declared.points.mask_key.MaskKey.{MaskKey}
 use Rattle.path_sets.specs.declared.diagrams.roots.DiagramKey.{DiagramKey}
 use Rattle.path_sets.specs.declared.diagrams.gathered_key.GatheredKey.{GatheredKey}
 
+-- the key of a diagram, by its index, and a valuation
+abbrev pub gathered_key : ℕ → ℕ → GatheredKey
+gathered_key diagram values = record { diagram = diagram; values = values }
+
 -- whether two keys are the same
 abbrev pub gathered_key_eq : GatheredKey → GatheredKey → Bool
 gathered_key_eq x y = nat_eq x.diagram y.diagram && nat_eq x.values y.values

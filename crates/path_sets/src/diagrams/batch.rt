@@ -1,18 +1,20 @@
 //! Gathered masks that go into the diagrams together.
 
-ghost use Rattle.std.specs.Prelude.{◌≡◌, [], None, IfOk, OnErr, IfSome, IsNone};
+ghost use Rattle.std.specs.Prelude.{◌≡◌, [], None, Some, slice_get, IfOk, OnErr, IfSome, IsNone};
 ghost use Rattle.std.specs.Map.{keys_of, lookup};
 ghost use Rattle.std.proofs.lemmas.Map.Keys.{IsDistinct-prop};
 ghost use Rattle.indexmap.specs.IndexMap.{IsUnique, keys};
 ghost use Rattle.language.specs.Lists.{Member};
-ghost use Rattle.path_sets.specs.GatheredKeys.{gathered_key_eq};
+ghost use Rattle.path_sets.specs.GatheredKeys.{gathered_key, gathered_key_eq};
 
 use crate::diagrams::diagrams::Diagrams;
 use crate::diagrams::gathered_key::GatheredKey;
+use crate::points::halves::Halves;
 use crate::points::mask::add_point;
 use crate::points::masks::{Masks, add_point_at};
-use crate::points::seek::{find, insert_new};
+use crate::points::seek::{find, insert_new, is_at};
 use indexmap::IndexMap;
+use language::Word;
 use std::alloc::{AllocError, Allocator};
 
 /// Masks for some diagrams that were gathered one after another.
@@ -61,8 +63,60 @@ impl<A: Allocator + Copy> Batch<A> {
         Ok(true)
     }
 
+    /// Puts a point into the mask at the index of its key. Returns whether the point is new.
+    // The diagrams and the key are read by the clauses alone.
+    #[inline(always)]
+    fn gather_at(&mut self, merged: &Diagrams<A>, key: GatheredKey, at: usize, bit: usize) -> bool
+        requires here { slice_get (keys self.old.masks) at ≡ Some key }
+        requires may { MayGather merged.now key bit self.old }
+        ensures ok { GathersEdge merged.now key bit (batch_masks merged.now self.old)
+            (batch_masks merged.now self.new) result }
+        ensures covers { AreCovered merged.now (batch_masks merged.now self.new) }
+        ensures keys { NoKeyBut key self.old.masks.entries self.new.masks.entries }
+    {
+        add_point_at(&mut self.masks, at, bit)
+    }
+
+    /// Puts a point into the mask of its key, and makes `last` the index of that. Returns whether the point is new.
+    // Apart, with the parts of the key: a key that is handed on would be stored for each path edge.
+    #[inline(never)]
+    fn gather_elsewhere(
+        &mut self,
+        last: &mut usize,
+        waiting: &mut usize,
+        merged: &Diagrams<A>,
+        diagram: usize,
+        values: Word,
+        bit: usize,
+    ) -> Result<bool, AllocError>
+        requires { MayGather merged.now (gathered_key diagram values) bit self.old }
+        ensures ok { IfOk result
+            (GathersEdge merged.now (gathered_key diagram values) bit (batch_masks merged.now self.old)
+            (batch_masks merged.now self.new)) }
+        ensures err { OnErr result (self.new.masks.entries ≡ self.old.masks.entries) }
+        ensures covers { AreCovered merged.now (batch_masks merged.now self.new) }
+        ensures keys { NoKeyBut (gathered_key diagram values) self.old.masks.entries
+            self.new.masks.entries }
+    {
+        let key = GatheredKey {
+            diagram,
+            values: Halves::new(values),
+        };
+        match find(&self.masks, *last, &key) {
+            Some(at) => {
+                *last = at;
+                Ok(self.gather_at(merged, key, at, bit))
+            }
+            None => {
+                *last = self.masks.len();
+                self.start_mask(waiting, merged, key, bit)
+            }
+        }
+    }
+
     /// Puts a point into the mask of its key; the key at the index `last` is tried first. Returns whether the
     /// point is new.
+    #[inline(always)]
     pub(crate) fn gather(
         &mut self,
         last: &mut usize,
@@ -78,16 +132,10 @@ impl<A: Allocator + Copy> Batch<A> {
         ensures covers { AreCovered merged.now (batch_masks merged.now self.new) }
         ensures keys { NoKeyBut key self.old.masks.entries self.new.masks.entries }
     {
-        match find(&self.masks, *last, &key) {
-            Some(at) => {
-                *last = at;
-                Ok(add_point_at(&mut self.masks, at, bit))
-            }
-            None => {
-                *last = self.masks.len();
-                self.start_mask(waiting, merged, key, bit)
-            }
+        if is_at(&self.masks, *last, &key) {
+            return Ok(self.gather_at(merged, key, *last, bit));
         }
+        self.gather_elsewhere(last, waiting, merged, key.diagram, key.values.word(), bit)
     }
 
     /// The mask of a key, if the batch has one; the key at the index `last` is tried first.

@@ -1,7 +1,7 @@
 //! Path edges that are gathered, in batches, before they go into the diagrams.
 
 ghost use Rattle.std.specs.Prelude.{◌≡◌, ◌<◌, ℕ, [], Some, length, slice_get, IfOk, OnErr};
-ghost use Rattle.std.specs.Prelude.{◌≤◌, ◌⊎◌, IfSome, IsNone, IsSome, OnOk};
+ghost use Rattle.std.specs.Prelude.{◌≤◌, ◌⊎◌, ◌↔◌, IfSome, IsNone, IsSome, IsTrue, OnOk};
 ghost use Rattle.std.specs.Map.{keys_of};
 ghost use Rattle.language.specs.Lists.{Member};
 ghost use Rattle.path_sets.specs.Batches.{AreHome, HasBatch, HasNoMasks, KeepMasks, gathered_at};
@@ -14,7 +14,7 @@ use crate::diagrams::newest::batch_with_room;
 use std::alloc::{AllocError, Allocator};
 
 /// How many masks may wait for each that has gone into the diagrams.
-const SHARE: usize = 8;
+const SHARE: usize = 64;
 
 /// The least limit on the number of masks that wait.
 const LEAST: usize = 16_384;
@@ -30,7 +30,7 @@ const NO_BATCH: usize = usize::MAX;
 #[derive(Drop)]
 pub(crate) struct Batches<A: Allocator> {
     /// For each diagram, by its index, the number of the batch that it got last.
-    homes: Vec<usize, A>,
+    pub(crate) homes: Vec<usize, A>,
     pub(crate) batches: Vec<Batch<A>, A>,
     /// The index of the key in its batch that was used last, which is usually that of the next path edge.
     last: usize,
@@ -106,7 +106,7 @@ impl<A: Allocator + Copy> Batches<A> {
     }
 
     /// The number of the batch that a diagram's masks go to.
-    fn batch_of(&mut self, diagram: usize) -> Result<usize, AllocError>
+    pub(crate) fn batch_of(&mut self, diagram: usize) -> Result<usize, AllocError>
         ensures batch { IfOk result (HasBatch self.new.homes.items self.new.batches.items diagram) }
         ensures keep { KeepMasks self.old.batches.items self.new.batches.items }
     {
@@ -116,14 +116,17 @@ impl<A: Allocator + Copy> Batches<A> {
         }
     }
 
-    /// Puts a point into the mask of its key. Returns whether the point is new.
+    /// Puts a point into the mask of its key in the batch of its diagram. Returns whether the point is new.
+    #[inline(always)]
     pub(crate) fn gather(
         &mut self,
         merged: &Diagrams<A>,
+        batch: usize,
         key: GatheredKey,
         bit: usize,
     ) -> Result<bool, AllocError>
         requires bit { bit < 64 }
+        requires batch { HasBatch self.old.homes.items self.old.batches.items key.diagram batch }
         requires diagram { key.diagram < length (diagrams_in merged.now) }
         requires fit { BatchesFit merged.now self.old.batches.items }
         ensures ok { IfOk result (GathersEdge merged.now key bit
@@ -133,9 +136,9 @@ impl<A: Allocator + Copy> Batches<A> {
             (all_masks merged.now self.new.batches.items
             ≡ all_masks merged.now self.old.batches.items) }
         ensures fit { BatchesFit merged.now self.new.batches.items }
+        ensures batch { HasBatch self.new.homes.items self.new.batches.items key.diagram batch }
     {
-        let at = self.batch_of(key.diagram)?;
-        self.batches[at].gather(&mut self.last, &mut self.waiting, merged, key, bit)
+        self.batches[batch].gather(&mut self.last, &mut self.waiting, merged, key, bit)
     }
 
     /// The mask of a key, if it is gathered.
@@ -151,6 +154,14 @@ impl<A: Allocator + Copy> Batches<A> {
         }
     }
 
+    /// Whether as many masks wait as may.
+    #[inline(always)]
+    pub(crate) fn are_many(&self) -> bool
+        ensures { IsTrue result ↔ (self.now.most ≤ self.now.waiting) }
+    {
+        self.waiting >= self.most
+    }
+
     /// The number of the oldest batch, if as many masks wait as may.
     pub(crate) fn full(&self) -> Option<usize>
         ensures some { IfSome result (λ k. (k ≡ self.now.oldest)
@@ -159,7 +170,7 @@ impl<A: Allocator + Copy> Batches<A> {
         ensures room { IsNone result → (self.now.waiting < self.now.most)
             ⊎ (length self.now.batches.items ≤ self.now.oldest) }
     {
-        if self.waiting >= self.most && self.oldest < self.batches.len() {
+        if self.are_many() && self.oldest < self.batches.len() {
             return Some(self.oldest);
         }
         None

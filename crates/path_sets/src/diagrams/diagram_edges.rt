@@ -1,11 +1,12 @@
 //! A set of path edges that keeps a decision diagram for each entry and block of points.
 
-ghost use Rattle.std.specs.Prelude.{◌≡◌, ◌<◌, Some, length, slice_get, IfOk};
+ghost use Rattle.std.specs.Prelude.{◌≡◌, ◌<◌, None, Some, slice_get, length, IfOk, IsTrue, OnOk};
 ghost use Rattle.language.specs.Lists.{Member, NoneTwice, NoneTwice-prop};
 ghost use Rattle.language.specs.Words.{word_bits};
+ghost use Rattle.path_sets.specs.declared.diagrams.diagram_edges.LastDiagram.{LastDiagram};
 ghost use Rattle.path_sets.specs.Suffixes.{HasNodes};
 ghost use Rattle.path_sets.specs.Triples.{triple};
-ghost use Rattle.path_sets.specs.Contents.{BatchesFit, diagrams_in, whole};
+ghost use Rattle.path_sets.specs.Contents.{BatchesFit, diagrams_in, IsLastOf, IsPlaced, whole};
 
 use crate::diagrams::batches::Batches;
 use crate::diagrams::diagrams::Diagrams;
@@ -19,6 +20,17 @@ use crate::points::mask_key::key_and_bit;
 use language::{Point, Word};
 use std::alloc::{AllocError, Allocator};
 
+/// The diagram of the last path edge, which is usually that of the next one.
+#[derive(Clone, Copy)]
+pub(crate) struct LastDiagram {
+    pub(crate) entry: Word,
+    pub(crate) block: usize,
+    /// Its index.
+    pub(crate) diagram: usize,
+    /// The number of its batch.
+    pub(crate) batch: usize,
+}
+
 /// Path edges as decision diagrams over the bits of a valuation, one for each entry and block of 64 points, whose nodes
 /// are shared (Bryant 1986). A diagram gives a valuation the mask of its points, two bits of it at each node, the least
 /// first, and no further than its highest bit that is 1. The masks of new path edges are gathered, and put into the
@@ -28,8 +40,11 @@ pub struct DiagramEdges<A: Allocator> {
     /// The masks that are gathered, with the points that the diagrams have at their keys.
     gathered: Batches<A>,
     merged: Diagrams<A>,
+    last: Option<LastDiagram>,
     count: u64,
     ghost fit: { BatchesFit merged gathered.batches.items },
+    ghost placed: { (l : LastDiagram) → last ≡ Some l
+        → IsPlaced merged gathered.homes.items gathered.batches.items l },
     ghost counted: { count ≡ length (whole merged gathered.batches.items) },
     ghost once: { NoneTwice (whole merged gathered.batches.items) } by { NoneTwice-prop
         (whole merged gathered.batches.items) },
@@ -42,6 +57,7 @@ impl<A: Allocator + Copy> DiagramEdges<A> {
         ensures { whole self.new.merged self.new.gathered.batches.items
             ≡ whole self.old.merged self.old.gathered.batches.items }
     {
+        self.last = None;
         put_all(&mut self.merged, &self.gathered.batches[at].masks)?;
         self.gathered.clear(at);
         Ok(())
@@ -59,13 +75,63 @@ impl<A: Allocator + Copy> DiagramEdges<A> {
         }
     }
 
-    /// The index of a diagram; if it is not there yet, it is empty.
+    /// The index of a diagram; if it is not there yet, it is empty. No diagram is the last one then.
     fn settle(&mut self, diagram: DiagramKey) -> Result<usize, AllocError>
         ensures at { IfOk result (λ at. slice_get (diagrams_in self.new.merged) at ≡ Some diagram) }
         ensures members { whole self.new.merged self.new.gathered.batches.items
             ≡ whole self.old.merged self.old.gathered.batches.items }
+        ensures last { self.new.last ≡ None }
     {
+        self.last = None;
         self.merged.settle(diagram)
+    }
+
+    /// Whether the last path edge is of the diagram of an entry and a block.
+    #[inline(always)]
+    fn is_last(&self, entry: Word, block: usize) -> bool
+        ensures { IsTrue result → IsLastOf entry block self.now.last }
+    {
+        match &self.last {
+            Some(last) => last.entry == entry && last.block == block,
+            None => false,
+        }
+    }
+
+    /// Looks the diagram of an entry and a block up, and makes it the last one; if it is not there yet, it is empty.
+    /// Before that the oldest of the masks that are gathered go into the diagrams, if there are many.
+    // Apart, since mostly the next path edge is of the last diagram.
+    #[inline(never)]
+    fn look_up(&mut self, entry: Word, block: usize) -> Result<(), AllocError>
+        ensures last { OnOk result (IsLastOf entry block self.new.last) }
+        ensures members { whole self.new.merged self.new.gathered.batches.items
+            ≡ whole self.old.merged self.old.gathered.batches.items }
+    {
+        self.make_room()?;
+        let diagram = self.settle(DiagramKey {
+            entry: Halves::new(entry),
+            block,
+        })?;
+        let batch = self.gathered.batch_of(diagram)?;
+        self.last = Some(LastDiagram {
+            entry,
+            block,
+            diagram,
+            batch,
+        });
+        Ok(())
+    }
+
+    /// Makes the diagram of an entry and a block the last one, with room for what is gathered.
+    #[inline(always)]
+    fn turn_to(&mut self, entry: Word, block: usize) -> Result<(), AllocError>
+        ensures last { OnOk result (IsLastOf entry block self.new.last) }
+        ensures members { whole self.new.merged self.new.gathered.batches.items
+            ≡ whole self.old.merged self.old.gathered.batches.items }
+    {
+        if self.gathered.are_many() || !self.is_last(entry, block) {
+            return self.look_up(entry, block);
+        }
+        Ok(())
     }
 
     /// How many inner nodes the diagram of an entry and a point has whose nodes test one bit each, bit 0 first: one
@@ -93,19 +159,23 @@ impl<A: Allocator + Copy> PathSet<A> for DiagramEdges<A> {
         DiagramEdges {
             gathered: Batches::new(alloc),
             merged: Diagrams::new(alloc),
+            last: None,
             count: 0,
         }
     }
 
+    #[inline(always)]
     fn insert(&mut self, entry: Word, point: Point, values: Word) -> Result<bool, AllocError> {
-        self.make_room()?;
         let (mask_key, bit) = key_and_bit(entry, point, values);
-        let diagram = self.settle(diagram_of(&mask_key))?;
+        self.turn_to(entry, mask_key.block)?;
+        let Some(last) = self.last else {
+            unreachable!()
+        };
         let key = GatheredKey {
-            diagram,
+            diagram: last.diagram,
             values: mask_key.values,
         };
-        let added = self.gathered.gather(&self.merged, key, bit)?;
+        let added = self.gathered.gather(&self.merged, last.batch, key, bit)?;
         if added {
             self.count += 1;
         }

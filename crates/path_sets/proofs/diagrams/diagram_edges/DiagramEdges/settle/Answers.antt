@@ -1,4 +1,4 @@
-use Rattle.std.proofs.Common.{◌≡◌, length, ap, sym, ◌∙◌, subst}
+use Rattle.std.proofs.Common.{◌≡◌, length, ap, sym, ◌∙◌, subst, rules}
 use Rattle.indexmap.specs.IndexMap.{keys}
 use Rattle.path_sets.specs.Batches.{CoversEach, masks_in}
 use Rattle.path_sets.specs.Members.{all_edges}
@@ -40,6 +40,7 @@ invariant_of-self g c =
         covers = covers g i;
       };
       counted = s.counted ∙ sym (ap length (same g i));
+      placed = search rules;
       once = all_none_twice m.nodes.kept.keys m.roots.entries (masks_in (keys m.roots) bs);
     }
 

@@ -1,4 +1,4 @@
-use Rattle.std.proofs.Common.{ap, sym, subst, length}
+use Rattle.std.proofs.Common.{ap, sym, subst, length, rules}
 use Rattle.indexmap.specs.IndexMap.{keys}
 use Rattle.path_sets.specs.Batches.{masks_in, gathered_at}
 use Rattle.path_sets.specs.Edges.{mask_edges}
@@ -21,6 +21,7 @@ invariant_of-result g c =
             (λ p bit small key has. elim key [ ]);
       };
       counted = sym (ap length (no_members ns rs ps c.new-2.ensures (ap (λ bs. mask_edges (masks_in diagrams bs)) c.new.ensures)));
+      placed = search rules;
       once = all_none_twice ns rs ps;
     }
 

@@ -1,9 +1,11 @@
-use Rattle.std.proofs.Common.{◌≡◌, ◌+◌, Bool, true, false, Some, length, refl, ap, sym, ◌∙◌, subst, arith}
+use Rattle.std.proofs.Common.{◌≡◌, ◌+◌, Bool, true, false, Some, slice_get, length, refl, ap, sym, ◌∙◌, subst, arith}
 use Rattle.std.proofs.lemmas.Bool.{OnFalse_from, OnTrue_from}
-use Rattle.std.proofs.lemmas.Option.{slice_get_within}
+use Rattle.std.proofs.lemmas.Option.{same_Some, slice_get_within}
 use Rattle.indexmap.specs.IndexMap.{keys}
+use Rattle.path_sets.specs.declared.diagrams.diagram_edges.LastDiagram.{LastDiagram}
 use Rattle.path_sets.specs.declared.diagrams.gathered_key.GatheredKey.{GatheredKey}
 use Rattle.path_sets.specs.Batches.{masks_in}
+use Rattle.path_sets.specs.Contents.{IsPlaced}
 use Rattle.path_sets.specs.Diagrams.{diagram_of}
 use Rattle.path_sets.specs.Edges.{edge_at}
 use Rattle.path_sets.specs.Inserts.{IsNewIf}
@@ -25,47 +27,67 @@ module _ (g : given.Over) (c : In_ok-added g) where
 
   -- what is gathered before and after it
   abbrev old : Groups
-  old = masks_in (keys c.settle.new.self.merged.roots) c.settle.new.self.gathered.batches.items
+  old = masks_in (keys c.turn_to.new.self.merged.roots) c.turn_to.new.self.gathered.batches.items
 
   abbrev new : Groups
-  new = masks_in (keys c.settle.new.self.merged.roots) c.gather.new.self.batches.items
+  new = masks_in (keys c.turn_to.new.self.merged.roots) c.gather.new.self.batches.items
 
   fits : Fits x
   fits = record { entry = omega arith; point = omega arith; values = omega arith }
 
   abbrev key : GatheredKey
-  key = record { diagram = c.in_ok-diagram.diagram; values = c.key_and_bit-mask_key.result.0.values }
+  key = record { diagram = c.in-Some.last.diagram; values = c.key_and_bit-mask_key.result.0.values }
+
+  -- the last diagram is that of the path edge
+  diagram : slice_get (keys c.turn_to.new.self.merged.roots) c.in-Some.last.diagram ≡ Some (diagram_of c.key_and_bit-mask_key.result.0)
+  diagram =
+      let (last, is, entry, block) = c.in_ok-turn_to.ensures.last in
+      let same = same_Some c.in-Some.last last (sym c.in-Some.is ∙ is) in
+      let own = ap (λ (t : Triple). t.entry) c.key_and_bit-mask_key.ensures.edge in
+      (c.turn_to.new.self.placed c.in-Some.last c.in-Some.is).0
+      ∙ λ i. Some (record {
+        entry = (ap (λ (l : LastDiagram). l.entry) same ∙ entry ∙ sym own) i;
+        block = (ap (λ (l : LastDiagram). l.block) same ∙ block) i;
+      })
 
   -- the key at the diagram's index stands for its key
-  edge : edge_at (mask_key_at (keys c.settle.new.self.merged.roots) key) c.key_and_bit-mask_key.result.1 ≡ x
+  edge : edge_at (mask_key_at (keys c.turn_to.new.self.merged.roots) key) c.key_and_bit-mask_key.result.1 ≡ x
   edge =
       ap (λ q. edge_at q c.key_and_bit-mask_key.result.1)
-      (mask_key_is (keys c.settle.new.self.merged.roots) key (diagram_of c.key_and_bit-mask_key.result.0)
-      (c.in_ok-diagram.ensures.at ∙ ap Some c.diagram_of.ensures))
+      (mask_key_is (keys c.turn_to.new.self.merged.roots) key (diagram_of c.key_and_bit-mask_key.result.0) diagram)
       ∙ c.key_and_bit-mask_key.ensures.edge
 
   -- the members before are those that there were
-  here : all_edges c.settle.new.self.merged.nodes.kept.keys c.settle.new.self.merged.roots.entries old
+  here : all_edges c.turn_to.new.self.merged.nodes.kept.keys c.turn_to.new.self.merged.roots.entries old
       ≡ all_edges c.args.self.now.merged.nodes.kept.keys c.args.self.now.merged.roots.entries
       (masks_in (keys c.args.self.now.merged.roots) c.args.self.now.gathered.batches.items)
-  here = c.in_ok-diagram.ensures.members ∙ c.in_ok-make_room.ensures
+  here = c.turn_to.ensures.members
 
   -- what is put in, or is there, as the result says
   puts : (b : Bool) → c.in_ok-added.added ≡ b
-      → PutsEdge c.settle.new.self.merged.nodes.kept.keys c.settle.new.self.merged.roots.entries
-      (edge_at (mask_key_at (keys c.settle.new.self.merged.roots) key) c.key_and_bit-mask_key.result.1) old new b
-  puts b is = subst (PutsEdge c.settle.new.self.merged.nodes.kept.keys c.settle.new.self.merged.roots.entries
-      (edge_at (mask_key_at (keys c.settle.new.self.merged.roots) key) c.key_and_bit-mask_key.result.1) old new) is c.in_ok-added.ensures.ok
+      → PutsEdge c.turn_to.new.self.merged.nodes.kept.keys c.turn_to.new.self.merged.roots.entries
+      (edge_at (mask_key_at (keys c.turn_to.new.self.merged.roots) key) c.key_and_bit-mask_key.result.1) old new b
+  puts b is = subst (PutsEdge c.turn_to.new.self.merged.nodes.kept.keys c.turn_to.new.self.merged.roots.entries
+      (edge_at (mask_key_at (keys c.turn_to.new.self.merged.roots) key) c.key_and_bit-mask_key.result.1) old new) is c.in_ok-added.ensures.ok
+
+-- the last diagram has its batch still
+placed : (g : given.Over) (c : In_ok-added g) → (l : LastDiagram) → c.turn_to.new.self.last ≡ Some l
+    → IsPlaced c.turn_to.new.self.merged c.gather.new.self.homes.items c.gather.new.self.batches.items l
+placed g c l is =
+    subst (IsPlaced c.turn_to.new.self.merged c.gather.new.self.homes.items c.gather.new.self.batches.items)
+    (same_Some c.in-Some.last l (sym c.in-Some.is ∙ is))
+    ((c.turn_to.new.self.placed c.in-Some.last c.in-Some.is).0, c.gather.ensures.batch)
 
 pub invariant_of-self-then-added : goal.invariant_of-self-then-added
 invariant_of-self-then-added g c =
     let i = (goal.at.invariant_of-self-then-added g c).In_ok-added in
-    let s = c.settle.new.self in
+    let s = c.turn_to.new.self in
     let more =
     longer s.merged.nodes.kept.keys s.merged.roots.entries (x g i) _ (old g i) (new g i) _ (fits g i) (edge g i) refl
     (puts g i true c.if-added.true) in
     record {
       fit = c.gather.ensures.fit;
+      placed = placed g i;
       counted = ap (λ n. n + 1) s.counted ∙ sym more;
       once = all_none_twice s.merged.nodes.kept.keys s.merged.roots.entries (new g i);
     }
@@ -73,9 +95,10 @@ invariant_of-self-then-added g c =
 pub invariant_of-self-else-added : goal.invariant_of-self-else-added
 invariant_of-self-else-added g c =
     let i = (goal.at.invariant_of-self-else-added g c).In_ok-added in
-    let s = c.settle.new.self in
+    let s = c.turn_to.new.self in
     record {
       fit = c.gather.ensures.fit;
+      placed = placed g i;
       counted = s.counted ∙ sym (ap length (members_same s.merged.nodes.kept.keys s.merged.roots.entries (x g i) _ (old g i) (new g i) _
           (fits g i) (edge g i) refl (puts g i false c.if-added.false)));
       once = all_none_twice s.merged.nodes.kept.keys s.merged.roots.entries (new g i);
@@ -106,12 +129,16 @@ returns-else-added-clause-len g c =
 pub gather-requires-clause-bit : goal.gather-requires-clause-bit
 gather-requires-clause-bit g c = c.key_and_bit-mask_key.ensures.bit
 
+pub gather-requires-clause-batch : goal.gather-requires-clause-batch
+gather-requires-clause-batch g c = (c.turn_to.new.self.placed c.in-Some.last c.in-Some.is).1
+
 pub gather-requires-clause-diagram : goal.gather-requires-clause-diagram
 gather-requires-clause-diagram g c =
-    slice_get_within (keys c.settle.new.self.merged.roots) c.in_ok-diagram.diagram c.diagram_of.result c.in_ok-diagram.ensures.at
+    slice_get_within (keys c.turn_to.new.self.merged.roots) c.in-Some.last.diagram _
+    (c.turn_to.new.self.placed c.in-Some.last c.in-Some.is).0
 
 pub gather-requires-clause-fit : goal.gather-requires-clause-fit
-gather-requires-clause-fit g c = c.settle.new.self.fit
+gather-requires-clause-fit g c = c.turn_to.new.self.fit
 
 -- whether it was there, as the result says
 is_new : (g : given.Over) (c : In_ok-added g)
