@@ -37,6 +37,15 @@ impl<A: Allocator + Copy> Batch<A> {
         }
     }
 
+    /// No masks, with room for so many.
+    pub(crate) fn with_capacity(alloc: A, masks: usize) -> Result<Self, AllocError>
+        ensures { IfOk result (λ batch. batch.masks.entries ≡ []) }
+    {
+        Ok(Batch {
+            masks: IndexMap::with_capacity(alloc, masks)?,
+        })
+    }
+
     /// Gathers a mask with the points that the diagrams have at a key without one, and a point. Returns whether the
     /// point is new; if it is not, no mask is gathered.
     fn start_mask(

@@ -10,6 +10,9 @@ use std::alloc::{AllocError, Allocator};
 /// and with the masks that its own diagrams still get, a batch mostly has room for no more than 4,096.
 const MANY: usize = 3_840;
 
+/// How many masks each batch but the first has room for from its start, so that it does not grow step by step.
+const ROOM: usize = 4_096;
+
 /// The number of the batch that diagrams without one go to; a new batch is made if the last one has many masks.
 pub(crate) fn batch_with_room<A: Allocator + Copy>(
     alloc: A,
@@ -23,6 +26,8 @@ pub(crate) fn batch_with_room<A: Allocator + Copy>(
             return Ok(batches.len() - 1);
         }
     }
-    batches.push(Batch::new(alloc))?;
+    let room = if batches.is_empty() { 0 } else { ROOM };
+    let batch = Batch::with_capacity(alloc, room)?;
+    batches.push(batch)?;
     Ok(batches.len() - 1)
 }
