@@ -1,11 +1,13 @@
 -- How path edges and those pending grow, step by step.
-use Rattle.std.specs.Bool.{OnFalse}
+use Rattle.std.specs.Bool.{IsTrue, OnFalse}
 use Rattle.std.specs.Result.{IsErrAnd, OnOk}
 use Rattle.std.proofs.Common.{Option, Some, ◌≤◌, eq-or-lt_of_le, ◌≡◌, Bool, true, false, true≢false, List, [], ◌∷◌}
-use Rattle.std.proofs.Common.{◌++◌, ◌⊎◌, inl, inr, sym, ap, subst, ◌∙◌, ℕ, ◌+◌, Result, Ok, Err, length}
-use Rattle.std.proofs.Common.{if◌then◌else◌, arith, length-append, ◌<◌, take, get_or}
+use Rattle.std.proofs.Common.{◌++◌, ◌⊎◌, inl, inr, sym, ap, subst, ◌∙◌, ℕ, zero, suc, ◌+◌, Result, Ok, Err, length}
+use Rattle.std.proofs.Common.{if◌then◌else◌, arith, length-append, ◌<◌, ◌↔◌, nat_lt, refl, take, get_or}
 use Rattle.std.proofs.Math.Seq.{take-length}
 use Rattle.summaries.proofs.Eaches.{each_left, each_last, each_or_last, each_at, each_until}
+use Rattle.std.proofs.lemmas.Bool.{ltb-true, ltb-false}
+use Rattle.std.proofs.lemmas.Result.{IfOk-weaker}
 use Rattle.std.proofs.lemmas.Option.{same_Some}
 use Rattle.std.proofs.lemmas.List.{take_more}
 use Rattle.language.specs.Lists.{Member}
@@ -16,7 +18,7 @@ use Rattle.flow_graph.specs.Flows.{last_of, next_of}
 use Rattle.flow_graph.specs.declared.flow.Flow.{Flow}
 use Rattle.summaries.specs.declared.table_fault.TableFault.{TableFault}
 use Rattle.summaries.specs.declared.table_fault.TableFault.TheVariants.{Memory, EdgeLimit}
-use Rattle.summaries.specs.Grows.{Grows, Adds, OfSome, IsAt, IsNextBefore, IsNext, triple_of, edge_of}
+use Rattle.summaries.specs.Grows.{Grows, Adds, OfSome, IsAt, IsOtherBefore, IsOther, IsNext, triple_of, edge_of}
 use Rattle.path_sets.proofs.PlaceLemmas.{last_or}
 
 -- an edge that was there adds nothing
@@ -78,6 +80,20 @@ both V W U old mid new before between after first second from to = record {
   longer = let e = first.longer in let f = second.longer in omega (arith, e, f);
 }
 
+-- what is added in one step after another
+pub adds_both : (V W U : Triple → Type 0) {T : Type 0} (answer : Result T TableFault) (most : ℕ) (old mid new : List Triple)
+    (before between after : List PathEdge) → Grows V old mid before between → Adds W answer most mid new between after →
+    ((t : Triple) → U t → V t ⊎ W t) → ((t : Triple) → V t ⊎ W t → U t) → Adds U answer most old new before after
+adds_both V W U answer most old mid new before between after first second from to = record {
+  ok = IfOk-weaker answer _ _ (λ _ grown. both V W U old mid new before between after first grown from to) second.ok;
+  only = λ t m. elim (second.only t m) [
+    | inl w ↦ inl (to t (inr w))
+    | inr n ↦ elim (first.only t n) [ inl v ↦ inl (to t (inl v)) | inr was ↦ inr was ]
+  ];
+  within = second.within;
+  limit = λ is. let (t, w, fresh, full) = second.limit is in (t, to t (inr w), fresh, full);
+}
+
 -- one more item
 pub each_more : {X : Type 0} (W : X → Triple → Type 0) (xs : List X) (x : X) (old mid new : List Triple)
     (before between after : List PathEdge) →
@@ -117,42 +133,78 @@ is_at e next n v is t at = (n, v, is, at)
 pub at_is : (e : PathEdge) (next : Option (ℕ × ℕ)) (n v : ℕ) → next ≡ Some (n, v) → (t : Triple) → IsAt e next t → t ≡ triple e.entry n v
 at_is e next n v is t (n', v', is', at) = at ∙ ap (λ x. triple e.entry x.0 x.1) (same_Some (n', v') (n, v) (sym is' ∙ is))
 
+-- a choice with none after it is the last
+pub is_last : (k last : ℕ) (more : Bool) → (IsTrue more ↔ (k < last)) → more ≡ false → last ≤ k
+is_last k last more tells none = go (nat_lt k last) refl
+  where
+    go : (b : Bool) → nat_lt k last ≡ b → last ≤ k
+    go true e = absurd (true≢false (sym (tells.1 (ltb-true k last e)) ∙ none))
+    go false e = ltb-false k last e
+
 module _ {G : Type 0} (flow : Flow G) (e : PathEdge) where
-  -- one more choice
-  pub next_more : (k : ℕ) (t : Triple) → IsNextBefore (k + 1) flow e t → IsNextBefore k flow e t ⊎ IsAt e (next_of flow e.values k) t
-  next_more k t (i, less, at) =
-      elim (eq-or-lt_of_le {n = i} {m = k} (omega (arith, less))) [
-        | inl same ↦ inr (subst (λ j. IsAt e (next_of flow e.values j) t) same at)
-        | inr before ↦ inl (i, before, at)
-      ]
+  module _ (k : ℕ) (behind : 1 ≤ k) where
+    -- one more choice
+    next_more : (t : Triple) → IsOtherBefore (k + 1) flow e t
+        → IsOtherBefore k flow e t ⊎ IsAt e (next_of flow e.values k) t
+    next_more t (i, from, less, at) =
+        elim (eq-or-lt_of_le {n = i} {m = k} (omega (arith, less))) [
+          | inl same ↦ inr (subst (λ j. IsAt e (next_of flow e.values j) t) same at)
+          | inr before ↦ inl (i, from, before, at)
+        ]
 
-  pub next_so_far : (k : ℕ) (t : Triple) → IsNextBefore k flow e t ⊎ IsAt e (next_of flow e.values k) t → IsNextBefore (k + 1) flow e t
-  next_so_far k t (inl (i, less, at)) = (i, omega (arith, less), at)
-  next_so_far k t (inr at) = (k, omega arith, at)
+    next_so_far : (t : Triple) → IsOtherBefore k flow e t ⊎ IsAt e (next_of flow e.values k) t
+        → IsOtherBefore (k + 1) flow e t
+    next_so_far t (inl (i, from, less, at)) = (i, from, omega (arith, less), at)
+    next_so_far t (inr at) = (k, behind, omega arith, at)
 
-  -- what one more choice leads to grows on what those before it lead to
-  pub one_choice_more : (k : ℕ) (next : Option (ℕ × ℕ)) (old mid new : List Triple) (before between after : List PathEdge) →
-      Grows (IsNextBefore k flow e) old mid before between → next ≡ next_of flow e.values k
-      → Grows (IsAt e next) mid new between after →
-      Grows (IsNextBefore (k + 1) flow e) old new before after
-  one_choice_more k next old mid new before between after first is second =
-      both (IsNextBefore k flow e) (IsAt e (next_of flow e.values k)) (IsNextBefore (k + 1) flow e) old mid new before between after first
-      (subst (λ n. Grows (IsAt e n) mid new between after) is second) (next_more k) (next_so_far k)
+    -- what one more choice leads to grows on what those before it lead to
+    pub one_choice_more : (next : Option (ℕ × ℕ)) (old mid new : List Triple) (before between after : List PathEdge) →
+        Grows (IsOtherBefore k flow e) old mid before between → next ≡ next_of flow e.values k
+        → Grows (IsAt e next) mid new between after →
+        Grows (IsOtherBefore (k + 1) flow e) old new before after
+    one_choice_more next old mid new before between after first is second =
+        both (IsOtherBefore k flow e) (IsAt e (next_of flow e.values k)) (IsOtherBefore (k + 1) flow e)
+        old mid new before between after first (subst (λ n. Grows (IsAt e n) mid new between after) is second) next_more next_so_far
 
   -- the choices to the last are all
-  pub next_all : (k : ℕ) → last_of flow ≤ k → k ≤ last_of flow → (t : Triple) → IsNextBefore (k + 1) flow e t → IsNext flow e t
-  next_all k least most t (i, less, at) = (i, omega (arith, less, most), at)
-
-  pub all_next : (k : ℕ) → last_of flow ≤ k → k ≤ last_of flow → (t : Triple) → IsNext flow e t → IsNextBefore (k + 1) flow e t
-  all_next k least most t (i, less, at) = (i, omega (arith, less, least), at)
+  pub others_all : (k : ℕ) → last_of flow ≤ k → (t : Triple) → IsOther flow e t → IsOtherBefore (k + 1) flow e t
+  others_all k least t (i, from, most, at) = (i, from, omega (arith, most, least), at)
 
   -- what results from some choice so far results from one
-  pub some_next : (k : ℕ) → k ≤ last_of flow → (t : Triple) → IsNextBefore k flow e t → IsNext flow e t
-  some_next k most t (i, less, at) = (i, omega (arith, less, most), at)
+  pub some_other : (k : ℕ) → k ≤ last_of flow + 1 → (t : Triple) → IsOtherBefore k flow e t → IsOther flow e t
+  some_other k most t (i, from, less, at) = (i, from, omega (arith, less, most), at)
+
+  -- where a choice leads is where the first does, or one of the others
+  pub first_or_other : (t : Triple) → IsNext flow e t → IsAt e (next_of flow e.values 0) t ⊎ IsOther flow e t
+  first_or_other t (zero, most, at) = inl at
+  first_or_other t (suc i, most, at) = inr (suc i, omega arith, most, at)
+
+  pub is_some_next : (t : Triple) → IsAt e (next_of flow e.values 0) t ⊎ IsOther flow e t → IsNext flow e t
+  is_some_next t (inl at) = (0, omega arith, at)
+  is_some_next t (inr (i, from, most, at)) = (i, most, at)
 
 -- Ok is not a fault
 pub ok_err : {T : Type 0} {x : T} {e : TableFault} → Ok x ≡ Err e → ⊥
 ok_err is = cc
+
+-- nothing is added where there is nowhere to go
+pub adds_none : (W : Triple → Type 0) (most : ℕ) (old : List Triple) (before : List PathEdge) → ((t : Triple) → W t → ⊥)
+    → length old ≤ most → Adds W (Ok (tt {0})) most old old before before
+adds_none W most old before none within = record {
+  ok = record {
+    all = λ t w. absurd (none t w);
+    kept = λ t m. m;
+    only = λ t m. inr m;
+    stays = λ x m. m;
+    pending = λ t m. inl m;
+    edges = λ x m. inl m;
+    more = refl;
+    longer = omega arith;
+  };
+  only = λ t m. inr m;
+  within = within;
+  limit = λ is. absurd (ok_err is);
+}
 
 -- the two faults are not the same
 two_faults : EdgeLimit ≡ Memory → ⊥

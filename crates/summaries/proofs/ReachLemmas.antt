@@ -1,12 +1,12 @@
 -- What is reached from a frontier, step by step.
-use Rattle.std.proofs.Common.{◌≤◌, List, Result, Ok, inl, inr, refl, length, sym, subst, ◌∙◌, arith}
+use Rattle.std.proofs.Common.{◌≤◌, List, Result, Ok, refl, length, sym, subst, ◌∙◌}
 use Rattle.path_sets.specs.Triples.{Triple}
 use Rattle.path_sets.specs.EdgeLimits.{most_of}
 use Rattle.summaries.specs.declared.frontier.Frontier.{Frontier}
 use Rattle.summaries.specs.declared.table_fault.TableFault.{TableFault}
 use Rattle.summaries.specs.Frontiers.{Extends, IsWithin, StaysFrontier}
 use Rattle.summaries.specs.Grows.{Adds}
-use Rattle.summaries.proofs.FrontierLemmas.{ok_err}
+use Rattle.summaries.proofs.FrontierLemmas.{adds_none}
 
 -- what stays the same in two steps does in both
 pub stays_on : {A S : Type 0} {old mid new : Frontier A S} → StaysFrontier old mid → StaysFrontier mid new → StaysFrontier old new
@@ -34,21 +34,5 @@ module _ {A S : Type 0} (members : S → List Triple) {W : Triple → Type 0} {T
 -- nothing is reached where there is nowhere to go
 pub nowhere : {A S : Type 0} (members : S → List Triple) (W : Triple → Type 0) (f : Frontier A S) → ((t : Triple) → W t → ⊥)
     → IsWithin members f → Extends members W (Ok (tt {0})) f f
-nowhere members W f none within = record {
-  adds = record {
-    ok = record {
-      all = λ t w. absurd (none t w);
-      kept = λ t m. m;
-      only = λ t m. inr m;
-      stays = λ x m. m;
-      pending = λ t m. inl m;
-      edges = λ x m. inl m;
-      more = refl;
-      longer = omega arith;
-    };
-    only = λ t m. inr m;
-    within = within;
-    limit = λ is. absurd (ok_err is);
-  };
-  stays = record { edges = refl; pending = refl; limit = refl };
-}
+nowhere members W f none within =
+    record { adds = adds_none W _ _ _ none within; stays = record { edges = refl; pending = refl; limit = refl } }

@@ -59,9 +59,15 @@ pub record Adds (W : Triple → Type 0) {Returned : Type 0} (answer : Result Ret
 abbrev pub IsAt : PathEdge → Option (ℕ × ℕ) → Triple → Type 0
 IsAt edge next reached = (point : ℕ) × (values : ℕ) × (next ≡ Some (point, values)) × (reached ≡ triple edge.entry point values)
 
--- A triple is where one of the first choices leads from an edge.
-abbrev pub IsNextBefore : {GraphAlloc : Type 0} → ℕ → Flow GraphAlloc → PathEdge → Triple → Type 0
-IsNextBefore k flow edge reached = (choice : ℕ) × (choice < k) × IsAt edge (next_of flow edge.values choice) reached
+-- A triple is where a choice after the first, and before the k-th, leads from an edge.
+abbrev pub IsOtherBefore : {GraphAlloc : Type 0} → ℕ → Flow GraphAlloc → PathEdge → Triple → Type 0
+IsOtherBefore k flow edge reached =
+    (choice : ℕ) × (1 ≤ choice) × (choice < k) × IsAt edge (next_of flow edge.values choice) reached
+
+-- A triple is where a choice after the first leads from an edge.
+abbrev pub IsOther : {GraphAlloc : Type 0} → Flow GraphAlloc → PathEdge → Triple → Type 0
+IsOther flow edge reached =
+    (choice : ℕ) × (1 ≤ choice) × (choice ≤ last_of flow) × IsAt edge (next_of flow edge.values choice) reached
 
 -- A triple is where a choice leads from an edge.
 abbrev pub IsNext : {GraphAlloc : Type 0} → Flow GraphAlloc → PathEdge → Triple → Type 0

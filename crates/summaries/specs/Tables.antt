@@ -16,7 +16,7 @@ use Rattle.summaries.specs.declared.found.Found.{Found}
 use Rattle.summaries.specs.declared.table.Table.{Table}
 use Rattle.summaries.specs.declared.table_fault.TableFault.{TableFault}
 use Rattle.summaries.specs.declared.table_fault.TableFault.TheVariants.{EdgeLimit}
-use Rattle.summaries.specs.Grows.{IsNext}
+use Rattle.summaries.specs.Grows.{Adds, IsNext}
 use Rattle.summaries.specs.Mails.{AddressedMail, mail}
 use Rattle.summaries.specs.Dues.{due_of}
 use Rattle.summaries.specs.Found.{pair, answers_in, TookMessage, HasSite, HasExit, IsGrounded, IsSaturated}
@@ -133,6 +133,12 @@ module _ {GraphAlloc Alloc Edges : Type 0} (members : Edges → List Triple) whe
     pub nothing : (message : NumberedMessage) → TookMessage fresh.found message → ⊥
     pub answered : answers_of fresh ≡ []
     pub fault : fresh.fault ≡ None
+
+  -- Triples were to be added to the edges kept, with this result; nothing else of the table changes, except what is pending.
+  pub record AddsEdges (W : Triple → Type 0) {Returned : Type 0} (answer : Result Returned TableFault)
+      (old new : Table GraphAlloc Alloc Edges) : Type 0 where
+    pub adds : Adds W answer (limit_of old) (members old.edges) (members new.edges) old.found.pending.items new.found.pending.items
+    pub rest : new ≡ record old { edges = new.edges; found = record old.found { pending = new.found.pending } }
 
   -- The table has worked, with this result. It is that of the same procedure; the edges kept are reached by the
   -- messages taken, and no more than the limit. On Ok nothing is missing, except what pending edges and the edges

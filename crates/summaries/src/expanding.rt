@@ -1,6 +1,7 @@
 //! The choices at a point, expanded: where they lead.
 
-ghost use Rattle.std.specs.Prelude.{IfSome};
+ghost use Rattle.std.specs.Prelude.{◌≤◌, IfSome, IsTrue};
+ghost use Rattle.flow_graph.specs.Flows.{last_of};
 ghost use Rattle.summaries.specs.Grows.{IsExpansionKey};
 
 use crate::edge::PathEdge;
@@ -16,14 +17,21 @@ use std::alloc::Allocator;
 /// remembering an edge takes more than expanding it again.
 const MANY: Word = 8;
 
-/// What an edge is remembered by when its choices are expanded, if there are many.
+/// Whether a flow has so many choices that it is expanded once for all valuations that it leads alike.
+#[inline(always)]
+pub(crate) fn has_many_choices<G: Allocator>(flow: &Flow<G>) -> bool
+    ensures { IsTrue result → 2 ≤ last_of flow.now }
+{
+    flow.last() >= MANY - 1
+}
+
+/// What an edge is remembered by when its choices, of which there are many, are expanded; nothing if choice 0 does not
+/// lead on.
 #[inline(always)]
 pub(crate) fn expansion_key<G: Allocator>(flow: &Flow<G>, edge: PathEdge) -> Option<KeptEdge>
+    requires { 2 ≤ last_of flow.now }
     ensures { IfSome result (λ led. IsExpansionKey flow.now edge led) }
 {
-    if flow.last() < MANY - 1 {
-        return None;
-    }
     let (_, values) = flow.next(edge.values, 0)?;
     let first = PathEdge {
         entry: edge.entry,
@@ -34,12 +42,16 @@ pub(crate) fn expansion_key<G: Allocator>(flow: &Flow<G>, edge: PathEdge) -> Opt
 }
 
 impl<'e, 'p, A: Allocator, S: PathSet<A>> Frontier<'e, 'p, A, S> {
-    ghost use Rattle.summaries.specs.Grows.{IsAt, IsNext};
+    ghost use Rattle.summaries.specs.Grows.{IsAt, IsOther};
     ghost use Rattle.summaries.specs.Frontiers.{Extends, IsWithin};
 
     /// Reaches where the run continues from an edge, if it does.
     #[inline(always)]
-    fn reach_next(&mut self, from: PathEdge, next: Option<(Point, Word)>) -> Result<(), TableFault>
+    pub(crate) fn reach_next(
+        &mut self,
+        from: PathEdge,
+        next: Option<(Point, Word)>,
+    ) -> Result<(), TableFault>
         requires { IsWithin S.members self.old }
         ensures { Extends S.members (IsAt from next) result self.old self.new }
     {
@@ -54,18 +66,19 @@ impl<'e, 'p, A: Allocator, S: PathSet<A>> Frontier<'e, 'p, A, S> {
         self.reach(edge)
     }
 
-    /// Reaches what each choice of a flow leads to from an edge. After an error some of the edges have been
-    /// added.
+    /// Reaches what each choice of a flow after the first leads to from an edge. After an error some of the edges have
+    /// been added.
     #[inline(always)]
-    pub(crate) fn expand<G: Allocator>(
+    pub(crate) fn reach_others<G: Allocator>(
         &mut self,
         flow: &Flow<G>,
         from: PathEdge,
     ) -> Result<(), TableFault>
-        requires { IsWithin S.members self.old }
-        ensures { Extends S.members (IsNext flow.now from) result self.old self.new }
+        requires others { 1 ≤ last_of flow.now }
+        requires within { IsWithin S.members self.old }
+        ensures { Extends S.members (IsOther flow.now from) result self.old self.new }
     {
-        let mut choice = 0;
+        let mut choice = 1;
         'choices: loop {
             let (next, more) = flow.choose(from.values, choice);
             self.reach_next(from, next)?;

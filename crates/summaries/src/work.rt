@@ -2,19 +2,23 @@
 
 ghost use Rattle.std.specs.Prelude.{◌≡◌, ◌≤◌, length, OnOk, slice_get, Some};
 ghost use Rattle.language.specs.Lists.{Member};
+ghost use Rattle.path_sets.specs.Triples.{triple};
 ghost use Rattle.flow_graph.specs.Drawn.{flows_of};
+ghost use Rattle.flow_graph.specs.Flows.{last_of};
+ghost use Rattle.flow_graph.specs.Returns.{left_by};
 ghost use Rattle.flow_graph.specs.declared.flow.Flow.TheVariants as flow;
 ghost use Rattle.summaries.specs.declared.due.Due.TheVariants.{Entry};
 ghost use Rattle.summaries.specs.Mails.{summary_due};
-ghost use Rattle.summaries.specs.Grows.{triple_of, IsNoCall, IsExpansionKey};
+ghost use Rattle.summaries.specs.Found.{path_edge, HasExit};
+ghost use Rattle.summaries.specs.Grows.{triple_of, IsNoCall, IsOther};
 ghost use Rattle.summaries.specs.Tables.{answers_of, graph_of, limit_of, HasItsExit, HasAsked};
 ghost use Rattle.summaries.specs.Tables.{Holds};
-ghost use Rattle.summaries.specs.Tables.{HasAllNext, Worked, StaysAs, IsLess, TookAlso};
+ghost use Rattle.summaries.specs.Tables.{AddsEdges, HasAllNext, Worked, StaysAs, IsLess, TookAlso};
 ghost use Rattle.summaries.specs.Tables.{TookOnly, TookSame};
 
 use crate::due::Caller;
 use crate::edge::{CallKey, PathEdge};
-use crate::expanding::expansion_key;
+use crate::expanding::{expansion_key, has_many_choices};
 use crate::frontier::Frontier;
 use crate::kept_call::KeptCall;
 use crate::kept_edge::KeptEdge;
@@ -26,13 +30,44 @@ use crate::sending::{send_summaries, send_summary_to_all};
 use crate::table::Table;
 use crate::table_fault::TableFault;
 use flow_graph::{Exit, Flow};
-use language::{EXIT, Word};
+use language::{EXIT, Point, Word};
 use path_sets::PathSet;
 use std::alloc::{AllocError, Allocator};
 
 impl<'g, G: Allocator, A: Allocator + Copy, S: PathSet<A>> Table<'g, G, A, S> {
     /// Keeps what an edge at the exit leaves, and tells it to the callers.
-    fn record_exit(&mut self, edge: PathEdge) -> Result<(), AllocError>
+    #[inline(never)]
+    fn record_exit(&mut self, entry: Word, values: Word) -> Result<(), AllocError>
+        requires edge { Member (triple entry EXIT values) (S.members self.old.edges) }
+        requires holds { Holds S.members (λ t. t ≡ triple entry EXIT values) self.old }
+        ensures ok { OnOk result (Holds S.members (λ t. t ≡ triple entry EXIT values) self.new) }
+        ensures left { OnOk result (HasExit self.new.found entry (left_by (graph_of self.new) values)) }
+        ensures answers { OnOk result (answers_of self.new ≡ answers_of self.old) }
+        ensures taken { TookSame self.old.found self.new.found }
+        ensures edges { self.new.edges ≡ self.old.edges }
+        ensures pending { self.new.found.pending ≡ self.old.found.pending }
+        ensures stays { StaysAs self.old self.new }
+        ensures fault { self.new.fault ≡ self.old.fault }
+    {
+        let left = self.graph.left(values);
+        let pair = Pair {
+            a: entry,
+            b: left.globals,
+            r: left.result,
+        };
+        let (at, new) = self.found.pairs.insert_full(KeptPair::new(pair))?;
+        if new {
+            let exit = index_in_32_bits(at)?;
+            self.found.exits.add(entry, exit)?;
+            let callers = self.found.entries.of(entry);
+            send_summary_to_all(&mut self.found.outbox, exit, callers)?;
+        }
+        Ok(())
+    }
+
+    /// Records what an edge leaves, if it is at the exit.
+    #[inline(always)]
+    fn record_if_exit(&mut self, edge: PathEdge) -> Result<(), AllocError>
         requires edge { Member (triple_of edge) (S.members self.old.edges) }
         requires holds { Holds S.members (λ t. t ≡ triple_of edge) self.old }
         ensures ok { OnOk result (Holds S.members (λ t. t ≡ triple_of edge) self.new) }
@@ -47,36 +82,34 @@ impl<'g, G: Allocator, A: Allocator + Copy, S: PathSet<A>> Table<'g, G, A, S> {
         if edge.point != EXIT {
             return Ok(());
         }
-        let left = self.graph.left(edge.values);
-        let pair = Pair {
-            a: edge.entry,
-            b: left.globals,
-            r: left.result,
-        };
-        let (at, new) = self.found.pairs.insert_full(KeptPair::new(pair))?;
-        if new {
-            let exit = index_in_32_bits(at)?;
-            self.found.exits.add(edge.entry, exit)?;
-            let callers = self.found.entries.of(edge.entry);
-            send_summary_to_all(&mut self.found.outbox, exit, callers)?;
-        }
-        Ok(())
+        self.record_exit(edge.entry, edge.values)
     }
 
     /// Requests the procedure that is called from an edge, and continues after the call with what is known of
     /// it.
-    fn record_call(&mut self, edge: PathEdge, call: &flow_graph::Call<G>) -> Result<(), TableFault>
-        requires call { slice_get (flows_of (graph_of self.old)) edge.point
-            ≡ Some (flow.Call call.now) }
-        requires edge { Member (triple_of edge) (S.members self.old.edges) }
-        requires holds { Holds S.members (λ t. t ≡ triple_of edge) self.old }
+    #[inline(never)]
+    fn record_call(
+        &mut self,
+        entry: Word,
+        point: Point,
+        values: Word,
+        call: &flow_graph::Call<G>,
+    ) -> Result<(), TableFault>
+        requires call { slice_get (flows_of (graph_of self.old)) point ≡ Some (flow.Call call.now) }
+        requires edge { Member (triple entry point values) (S.members self.old.edges) }
+        requires holds { Holds S.members (λ t. t ≡ triple entry point values) self.old }
         requires within { length (S.members self.old.edges) ≤ limit_of self.old }
-        ensures worked { Worked S.members (λ t. t ≡ triple_of edge) result self.old self.new }
-        ensures asked { OnOk result (HasAsked self.new edge call.now) }
+        ensures worked { Worked S.members (λ t. t ≡ triple entry point values) result self.old self.new }
+        ensures asked { OnOk result (HasAsked self.new (path_edge entry point values) call.now) }
         ensures taken { TookSame self.old.found self.new.found }
         ensures pairs { self.new.found.pairs ≡ self.old.found.pairs }
         ensures less { OnOk result (IsLess S.members self.old self.new) }
     {
+        let edge = PathEdge {
+            entry,
+            point,
+            values,
+        };
         let key = KeptCall::new(CallKey {
             callee: call.callee(),
             entered: call.entry(edge.values),
@@ -93,6 +126,8 @@ impl<'g, G: Allocator, A: Allocator + Copy, S: PathSet<A>> Table<'g, G, A, S> {
 
     /// Works on an edge that is no longer pending: adds the edges that it leads to, and gives the messages that it
     /// makes due.
+    // What few edges need is not inlined, and takes the parts of an edge: a struct that is passed to such a function has a
+    // place on the stack that is filled for every edge.
     pub(crate) fn work(&mut self, edge: PathEdge) -> Result<(), TableFault>
         requires edge { Member (triple_of edge) (S.members self.old.edges) }
         requires holds { Holds S.members (λ t. t ≡ triple_of edge) self.old }
@@ -101,20 +136,24 @@ impl<'g, G: Allocator, A: Allocator + Copy, S: PathSet<A>> Table<'g, G, A, S> {
         ensures taken { TookSame self.old.found self.new.found }
         ensures less { OnOk result (IsLess S.members self.old self.new) }
     {
-        self.record_exit(edge)?;
-        if edge.point >= self.graph.points() {
+        self.record_if_exit(edge)?;
+        let PathEdge {
+            entry,
+            point,
+            values,
+        } = edge;
+        if point >= self.graph.points() {
             return Ok(());
         }
-        match self.graph.flow(edge.point) {
-            Flow::Call(call) => self.record_call(edge, call),
-            flow => match expansion_key(flow, edge) {
-                Some(led) => self.expand_once(flow, edge, led),
-                None => self.expand(flow, edge),
-            },
+        match self.graph.flow(point) {
+            Flow::Call(call) => self.record_call(entry, point, values, call),
+            flow if has_many_choices(flow) => self.expand_once(flow, entry, point, values),
+            flow => self.expand(flow, edge),
         }
     }
 
     /// Adds the edges that each choice leads to from an edge.
+    // The first choice is followed apart: that its number is known makes it short, and most edges have no other.
     #[inline(always)]
     fn expand(&mut self, flow: &Flow<G>, edge: PathEdge) -> Result<(), TableFault>
         requires flow { slice_get (flows_of (graph_of self.old)) edge.point ≡ Some flow.now }
@@ -133,29 +172,58 @@ impl<'g, G: Allocator, A: Allocator + Copy, S: PathSet<A>> Table<'g, G, A, S> {
             pending: &mut self.found.pending,
             limit: self.limit,
         };
-        frontier.expand(flow, edge)
+        let (next, more) = flow.choose(edge.values, 0);
+        frontier.reach_next(edge, next)?;
+        if !more {
+            return Ok(());
+        }
+        self.expand_others(flow, edge)
     }
 
-    /// Adds the edges that each choice leads to from an edge, unless this was done for an edge that choice 0 leads to
-    /// the same: then each choice does.
+    /// Adds the edges that each choice after the first leads to from an edge.
+    #[inline(always)]
+    fn expand_others(&mut self, flow: &Flow<G>, edge: PathEdge) -> Result<(), TableFault>
+        requires others { 1 ≤ last_of flow.now }
+        requires within { length (S.members self.old.edges) ≤ limit_of self.old }
+        ensures { AddsEdges S.members (IsOther flow.now edge) result self.old self.new }
+    {
+        let mut frontier = Frontier {
+            edges: &mut self.edges,
+            pending: &mut self.found.pending,
+            limit: self.limit,
+        };
+        frontier.reach_others(flow, edge)
+    }
+
+    /// Adds the edges that each choice of many leads to from an edge, unless this was done for an edge that choice 0 leads
+    /// to the same: then each choice does.
     #[inline(never)]
     fn expand_once(
         &mut self,
         flow: &Flow<G>,
-        edge: PathEdge,
-        led: KeptEdge,
+        entry: Word,
+        point: Point,
+        values: Word,
     ) -> Result<(), TableFault>
-        requires flow { slice_get (flows_of (graph_of self.old)) edge.point ≡ Some flow.now }
+        requires flow { slice_get (flows_of (graph_of self.old)) point ≡ Some flow.now }
         requires no_call { IsNoCall flow.now }
-        requires led { IsExpansionKey flow.now edge led }
-        requires left { HasItsExit self.old edge }
-        requires edge { Member (triple_of edge) (S.members self.old.edges) }
-        requires holds { Holds S.members (λ t. t ≡ triple_of edge) self.old }
+        requires many { 2 ≤ last_of flow.now }
+        requires left { HasItsExit self.old (path_edge entry point values) }
+        requires edge { Member (triple entry point values) (S.members self.old.edges) }
+        requires holds { Holds S.members (λ t. t ≡ triple entry point values) self.old }
         requires within { length (S.members self.old.edges) ≤ limit_of self.old }
         ensures worked { Worked S.members (λ t. ⊥) result self.old self.new }
         ensures taken { TookSame self.old.found self.new.found }
         ensures less { OnOk result (IsLess S.members self.old self.new) }
     {
+        let edge = PathEdge {
+            entry,
+            point,
+            values,
+        };
+        let Some(led) = expansion_key(flow, edge) else {
+            return self.expand(flow, edge);
+        };
         if self.found.expanded.contains(&led) {
             return Ok(());
         }

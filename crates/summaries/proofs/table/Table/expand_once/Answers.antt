@@ -1,6 +1,6 @@
 use Rattle.std.proofs.Common.{◌≡◌, Some, slice_get, inl, inr, refl, sym, subst}
 use Rattle.language.specs.Lists.{Member}
-use Rattle.summaries.specs.Found.{IsExpanded}
+use Rattle.summaries.specs.Found.{path_edge, IsExpanded}
 use Rattle.summaries.proofs.FrontierLemmas.{ok_err}
 use Rattle.path_sets.proofs.KeyLemmas.{found_is_in}
 use Rattle.summaries.proofs.ExpandedLemmas.{led_eq, same_led, all_led, led_now, remembered_step, inserted_or}
@@ -11,14 +11,14 @@ use Rattle.summaries.proofs.table.Table.expand_once.Goals as goal
 pub returns-then-contains-clause-worked : goal.returns-then-contains-clause-worked
 returns-then-contains-clause-worked g c =
     let self = c.args.self.now in
-    let e = c.args.edge in
+    let e = path_edge c.args.entry c.args.point c.args.values in
     let es = g.S.PathSet.members self.edges in
     let held = c.requires.holds in
-    let there : Member c.args.led self.found.expanded.keys =
-    found_is_in led_eq same_led c.args.led self.found.expanded.keys (sym c.if-contains.ensures) in
+    let there : Member c.in-Some.led self.found.expanded.keys =
+    found_is_in led_eq same_led c.in-Some.led self.found.expanded.keys (sym c.if-contains.ensures) in
     let flow = c.args.flow.now in
     let here = c.requires.flow in
-    let all = all_led self.graph.now es e c.args.led flow here c.requires.led (held.1.led c.args.led there) in record {
+    let all = all_led self.graph.now es e c.in-Some.led flow here c.in-Some.ensures (held.1.led c.in-Some.led there) in record {
       holds = (
         held.0,
         worked_off self.graph.now self.procedure self.found es e.entry e.point e.values
@@ -35,16 +35,17 @@ returns-then-contains-clause-worked g c =
 
 pub returns-clause-worked : goal.returns-clause-worked
 returns-clause-worked g c =
-    let mid = c.expand.new.self in
+    let mid = c.expand-2.new.self in
     let f = mid.found in
+    let e = path_edge c.args.entry c.args.point c.args.values in
     let h = record f { expanded = c.insert.new.self } in
     let es = g.S.PathSet.members mid.edges in
     let work = c.in_ok-expand.ensures.worked in
     let flow = c.args.flow.now in
-    let here = subst (λ graph. slice_get graph.flows.items c.args.edge.point ≡ Some flow) (sym work.stays.graph) c.requires.flow in
-    let led = led_now mid.graph.now es c.args.edge c.args.led flow here c.requires.led c.in_ok-expand.ensures.all in
+    let here = subst (λ graph. slice_get graph.flows.items c.args.point ≡ Some flow) (sym work.stays.graph) c.requires.flow in
+    let led = led_now mid.graph.now es e c.in-Some.led flow here c.in-Some.ensures c.in_ok-expand.ensures.all in
     let step = remembered_step mid.graph.now mid.procedure f h es (λ x m.
-    elim (inserted_or led_eq f.expanded.keys c.insert.new.self.keys c.args.led x c.in_ok-insert.ensures.keys m) [
+    elim (inserted_or led_eq f.expanded.keys c.insert.new.self.keys c.in-Some.led x c.in_ok-insert.ensures.keys m) [
       | inl was ↦ inl was
       | inr is ↦ inr (subst (IsExpanded mid.graph.now es) (sym is) led)
     ]) in

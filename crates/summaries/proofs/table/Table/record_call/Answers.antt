@@ -10,7 +10,7 @@ use Rattle.flow_graph.specs.Numbers.{numbered_entry}
 use Rattle.summaries.specs.declared.edge.CallKey.{CallKey}
 use Rattle.summaries.specs.Under.{under}
 use Rattle.indexmap.specs.IndexMap.{keys}
-use Rattle.summaries.specs.Found.{HasSite, IsIndexed, call_eq, entry_mail, mails_in}
+use Rattle.summaries.specs.Found.{path_edge, HasSite, IsIndexed, call_eq, entry_mail, mails_in}
 use Rattle.summaries.specs.Grows.{AddsTo, Grows, OfSome, IsBehind, triple_of}
 use Rattle.summaries.proofs.CallLemmas.{asked_to, ask_step, ask_only, behind_reached, asked_site, taken_there}
 use Rattle.summaries.proofs.CallLemmas.{stands_there, was_given, asked_indexed, asked_gave}
@@ -24,7 +24,7 @@ use Rattle.summaries.proofs.table.Table.record_call.Goals as goal
 -- the key is the call
 asked : (g : given.Over) (c : goal.After-resume_site g) →
     (c.new-key.result.callee ≡ called_procedure c.args.call.now)
-    × (c.new-key.result.entered ≡ entered_from c.args.call.now c.args.edge.values)
+    × (c.new-key.result.entered ≡ entered_from c.args.call.now c.args.values)
 asked g c = (
   ap (λ (k : CallKey). k.callee) c.new-key.ensures ∙ c.callee.ensures,
   ap (λ (k : CallKey). k.entered) c.new-key.ensures ∙ c.entry.ensures,
@@ -32,14 +32,14 @@ asked g c = (
 
 -- the flow is a call of this procedure
 enters : (g : given.Over) (c : goal.After-resume_site g) →
-    entered_by (flow.Call c.args.call.now) c.args.edge.values ≡ Some
+    entered_by (flow.Call c.args.call.now) c.args.values ≡ Some
     (c.new-key.result.callee, c.new-key.result.entered, c.args.call.now.back)
 enters g c = λ i. Some (sym (asked g c).0 i, sym (asked g c).1 i, c.args.call.now.back)
 
 -- it is kept that the call stands at the site
 added : (g : given.Over) (c : goal.After-resume_site g) →
     under call_eq c.add.new.self.by_key c.new-key.result ≡ under call_eq c.args.self.now.found.sites.by_key c.new-key.result
-    ++ c.args.edge ∷ []
+    ++ (path_edge c.args.entry c.args.point c.args.values) ∷ []
 added g c =
     c.in_ok-added.ensures.added
     ∙ ap (λ x. under call_eq c.args.self.now.found.sites.by_key c.new-key.result ++ x ∷ []) c.new.ensures
@@ -47,7 +47,7 @@ added g c =
 -- the summaries of the call are those that are found by it
 known : (g : given.Over) (c : goal.After-resume_site g) →
     let self = c.args.self.now in
-    let site = c.args.edge in
+    let site = path_edge c.args.entry c.args.point c.args.values in
     let es = g.S.PathSet.members self.edges in
     let ds = g.S.PathSet.members c.resume_site.new.self.edges.now in
     let known = under call_eq self.found.summaries.by_key (c.new-key.result) in
@@ -55,7 +55,7 @@ known : (g : given.Over) (c : goal.After-resume_site g) →
     Grows (OfSome (IsBehind self.graph.now site) known) es ds self.found.pending.items c.resume_site.new.self.pending.now.items
 known g c =
     let self = c.args.self.now in
-    subst (λ bs. Grows (OfSome (IsBehind self.graph.now c.args.edge) bs)
+    subst (λ bs. Grows (OfSome (IsBehind self.graph.now (path_edge c.args.entry c.args.point c.args.values)) bs)
     (g.S.PathSet.members self.edges) (g.S.PathSet.members c.resume_site.new.self.edges.now) self.found.pending.items
     c.resume_site.new.self.pending.now.items) c.of.ensures
 
@@ -103,7 +103,7 @@ gave g c =
 pub returns-in_err-added-clause-worked : goal.returns-in_err-added-clause-worked
 returns-in_err-added-clause-worked g c =
     let self = c.args.self.now in
-    refused_worked g.S.PathSet.members (λ t. t ≡ triple_of c.args.edge) _ self _
+    refused_worked g.S.PathSet.members (λ t. t ≡ triple_of (path_edge c.args.entry c.args.point c.args.values)) _ self _
     (all_reached self.graph.now self.procedure self.found
     (asked_to self.graph.now self.procedure self.found self.found.outbox c.add.new.self self.found.pending)
     (g.S.PathSet.members self.edges) c.requires.holds.0
@@ -113,7 +113,7 @@ returns-in_err-added-clause-worked g c =
 pub returns-in_err-send_entry-clause-worked : goal.returns-in_err-send_entry-clause-worked
 returns-in_err-send_entry-clause-worked g c =
     let self = c.args.self.now in
-    refused_worked g.S.PathSet.members (λ t. t ≡ triple_of c.args.edge) _ self _
+    refused_worked g.S.PathSet.members (λ t. t ≡ triple_of (path_edge c.args.entry c.args.point c.args.values)) _ self _
     (all_reached self.graph.now self.procedure self.found
     (asked_to self.graph.now self.procedure self.found c.send_entry.new.self c.add.new.self self.found.pending)
     (g.S.PathSet.members self.edges) c.requires.holds.0
@@ -124,7 +124,7 @@ pub returns-clause-worked : goal.returns-clause-worked
 returns-clause-worked g c =
     let self = c.args.self.now in
     let f = self.found in
-    let e = c.args.edge in
+    let e = path_edge c.args.entry c.args.point c.args.values in
     let es = g.S.PathSet.members self.edges in
     let ds = g.S.PathSet.members c.resume_site.new.self.edges.now in
     let edges = ask_only self.graph.now self.procedure f c.send_entry.new.self c.add.new.self c.resume_site.new.self.pending.now es ds e
@@ -157,7 +157,7 @@ returns-clause-worked g c =
 pub returns-clause-asked : goal.returns-clause-asked
 returns-clause-asked g c =
     let self = c.args.self.now in
-    let e = c.args.edge in
+    let e = path_edge c.args.entry c.args.point c.args.values in
     let found = asked_to self.graph.now self.procedure self.found c.send_entry.new.self c.add.new.self c.resume_site.new.self.pending.now in
     let es = g.S.PathSet.members self.edges in
     let ds = g.S.PathSet.members c.resume_site.new.self.edges.now in

@@ -11,7 +11,7 @@ use Rattle.summaries.specs.declared.table_fault.TableFault.{TableFault}
 use Rattle.summaries.specs.Tables.{IsLess, TookSame, Worked}
 use Rattle.summaries.proofs.FrontierLemmas.{ok_err}
 use Rattle.summaries.proofs.table.Table.work.Given.{Over}
-use Rattle.summaries.proofs.table.Table.work.Goals.{In_ok-record_exit}
+use Rattle.summaries.proofs.table.Table.work.Goals.{In_ok-record_if_exit}
 use Rattle.summaries.proofs.PendingLemmas.{beyond_worked, called_worked}
 use Rattle.summaries.proofs.StepLemmas.{worked_off, both_ok, all_reached, taken_as}
 use Rattle.summaries.proofs.WorkLemmas.{refused_worked, then_worked, still_less}
@@ -19,11 +19,11 @@ use Rattle.summaries.proofs.table.Table.work.Goals as goal
 use Rattle.path_sets.specs.EdgeLimits.{most_of}
 use Rattle.std.specs.Result.{OnOk}
 
-pub returns-in_err-record_exit-clause-worked : goal.returns-in_err-record_exit-clause-worked
-returns-in_err-record_exit-clause-worked g c =
+pub returns-in_err-record_if_exit-clause-worked : goal.returns-in_err-record_if_exit-clause-worked
+returns-in_err-record_if_exit-clause-worked g c =
     let old = c.args.self.now in
-    let new = c.record_exit.new.self in
-    let left = c.in_err-record_exit.ensures in
+    let new = c.record_if_exit.new.self in
+    let left = c.in_err-record_if_exit.ensures in
     let edges = ap (λ s. length (g.S.PathSet.members s)) left.edges in
     let limit = ap most_of left.stays.limit in
     refused_worked g.S.PathSet.members (λ t. ⊥) _ old new
@@ -34,14 +34,14 @@ returns-in_err-record_exit-clause-worked g c =
     t (subst (λ s. Member t (g.S.PathSet.members s)) left.edges m)))
     (omega (arith, edges, limit, c.requires.within)) left.stays left.fault c.from_residual.ensures.1
 
-pub returns-then-edge-points-clause-worked : goal.returns-then-edge-points-clause-worked
-returns-then-edge-points-clause-worked g c =
+pub returns-then-point-points-clause-worked : goal.returns-then-point-points-clause-worked
+returns-then-point-points-clause-worked g c =
     let old = c.args.self.now in
-    let new = c.record_exit.new.self in
-    let left = c.in_ok-record_exit.ensures in
+    let new = c.record_if_exit.new.self in
+    let left = c.in_ok-record_if_exit.ensures in
     let e = c.args.edge in
     let es = g.S.PathSet.members new.edges in
-    let past : length new.graph.now.flows.items ≤ e.point = omega (arith, c.if-edge-points.true, c.points.ensures) in
+    let past : length new.graph.now.flows.items ≤ e.point = omega (arith, c.if-point-points.true, c.points.ensures) in
     let edges = ap (λ s. length (g.S.PathSet.members s)) left.edges in
     let limit = ap most_of left.stays.limit in record {
       holds = (
@@ -60,11 +60,11 @@ returns-then-edge-points-clause-worked g c =
 pub returns-in-Call-clause-worked : goal.returns-in-Call-clause-worked
 returns-in-Call-clause-worked g c =
     let old = c.args.self.now in
-    let new = c.record_exit.new.self in
+    let new = c.record_if_exit.new.self in
     let last = c.record_call.new.self in
     let e = c.args.edge in
     let call = c.in-Call.call in
-    let was = c.in_ok-record_exit.ensures in
+    let was = c.in_ok-record_if_exit.ensures in
     let asked = c.record_call.ensures.worked in
     let same = sym asked.stays.graph in
     let here = subst (λ graph. slice_get graph.flows.items e.point ≡ Some (Call call)) same (c.flow.ensures ∙ ap Some c.in-Call.is) in
@@ -82,28 +82,28 @@ returns-in-Call-clause-worked g c =
     asked
 
 -- the rest of the work goes on from the exit that is recorded
-rest : (g : Over) (c : In_ok-record_exit g) (r : Result Unit TableFault) (new : Table _ _ _)
-    → Worked g.S.PathSet.members (λ t. ⊥) r c.record_exit.new.self new → TookSame c.record_exit.new.self.found new.found
-    → OnOk r (IsLess g.S.PathSet.members c.record_exit.new.self new)
+rest : (g : Over) (c : In_ok-record_if_exit g) (r : Result Unit TableFault) (new : Table _ _ _)
+    → Worked g.S.PathSet.members (λ t. ⊥) r c.record_if_exit.new.self new → TookSame c.record_if_exit.new.self.found new.found
+    → OnOk r (IsLess g.S.PathSet.members c.record_if_exit.new.self new)
     → Worked g.S.PathSet.members (λ t. ⊥) r c.args.self.now new × TookSame c.args.self.now.found new.found
     × OnOk r (IsLess g.S.PathSet.members c.args.self.now new)
 rest g c r new worked taken less =
     let old = c.args.self.now in
-    let mid = c.record_exit.new.self in
-    let left = c.in_ok-record_exit.ensures in (
+    let mid = c.record_if_exit.new.self in
+    let left = c.in_ok-record_if_exit.ensures in (
       then_worked g.S.PathSet.members (λ t. ⊥) (λ t. ⊥) r old mid new left.stays left.fault left.answers worked.holds worked,
       (taken.0 ∙ left.taken.0, taken.1 ∙ left.taken.1),
       still_less g.S.PathSet.members r old mid new left.pending left.edges less,
     )
 
-pub returns-in-Some : goal.returns-in-Some
-returns-in-Some g c =
+pub returns-in_default : goal.returns-in_default
+returns-in_default g c =
     let last = c.expand_once.ensures in
-    let all = rest g (goal.at.returns-in-Some g c).In_ok-record_exit _ _ last.worked last.taken last.less in
+    let all = rest g (goal.at.returns-in_default g c).In_ok-record_if_exit _ _ last.worked last.taken last.less in
     record { worked = all.0; taken = all.1; less = all.2 }
 
-pub returns-in-None : goal.returns-in-None
-returns-in-None g c =
+pub returns-in_default-2 : goal.returns-in_default-2
+returns-in_default-2 g c =
     let last = c.expand.ensures in
-    let all = rest g (goal.at.returns-in-None g c).In_ok-record_exit _ _ last.worked last.taken last.less in
+    let all = rest g (goal.at.returns-in_default-2 g c).In_ok-record_if_exit _ _ last.worked last.taken last.less in
     record { worked = all.0; taken = all.1; less = all.2 }
