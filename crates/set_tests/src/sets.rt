@@ -33,7 +33,7 @@ pub fn insert<A: Allocator, S: PathSet<A>>(
     set: &mut S,
     edge: (Word, usize, Word),
 ) -> Result<bool, AllocError> {
-    if set.len() > 1_000_000 {
+    if set.len() > 4_000_000 {
         return Err(AllocError);
     }
     set.insert(edge.0, edge.1, edge.2)
