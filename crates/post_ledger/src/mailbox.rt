@@ -4,28 +4,52 @@ ghost use Rattle.std.specs.Prelude.{Contains};
 ghost use Rattle.std.specs.Prelude.{OnOk, IfErr, IfSome, IfNone, IsNone};
 ghost use Rattle.std.specs.Iterator.{YieldsFirst, item_count};
 ghost use Rattle.post_ledger.specs.History.{posts, takes, dones, IsLegal, TakesOldest};
+ghost use Rattle.post_ledger.specs.Kept.{numbered_of};
 
 use crate::event::Event;
 use std::alloc::Allocator;
 use std::marker::Model;
 
-/// An event without its message: the number of a Post if it is one or took one, and of a Take if it completed one, both
-/// counted from 0.
+/// What an event is.
 #[derive(Clone, Copy)]
-pub(crate) enum NumberedEvent {
-    Post(u32),
-    Take(u32),
-    Done(u32),
+pub(crate) enum Kind {
+    Post,
+    Take,
+    Done,
+}
+
+/// An event without its message, and beside it a sender in a byte that padding would take otherwise: step n has the event
+/// of number n and the sender of the message of number n. There are never fewer steps than messages, since each Post is an
+/// event. So senders need no vector of their own, which would have to be given an allocator.
+#[derive(Clone, Copy)]
+pub(crate) struct Step {
+    /// The number of a Post if the event is one or took one, and of a Take if it completed one, both counted from 0.
+    number: u32,
+    kind: Kind,
+    /// 0 until there is a message of the step's number.
+    sender: u8,
+}
+
+impl Step {
+    fn new(kind: Kind, number: u32) -> Step
+        ensures { numbered_of result ≡ (kind, number) }
+    {
+        Step {
+            number,
+            kind,
+            sender: 0,
+        }
+    }
 }
 
 /// A mailbox: messages are taken in the order in which they were posted, and nothing is ever forgotten. It keeps each
 /// message once. In clauses it is its history.
 #[derive(Drop)]
 pub struct Mailbox<M, A: Allocator> {
-    /// The senders and messages of the Posts so far.
-    posted: Vec<(u8, M), A>,
+    /// The messages of the Posts so far. Their senders are in the steps.
+    messages: Vec<M, A>,
     /// The events so far, with spare room for a Take and a Done of each Post that lacks them.
-    events: Vec<NumberedEvent, A>,
+    steps: Vec<Step, A>,
     /// How many Takes there are: the next one takes the Post with this number.
     taken: usize,
     /// How many Takes are not completed.
@@ -38,9 +62,9 @@ impl<M, A: Allocator> Model for Mailbox<M, A> {
 
     ghost Value = { List (Event M) };
 
-    ghost use Rattle.post_ledger.specs.Kept.{IsKept, events_of};
+    ghost use Rattle.post_ledger.specs.Kept.{IsKept, history_of};
 
-    ghost view = { λ m. events_of m.posted.items m.events.items };
+    ghost view = { λ m. history_of m.messages.items m.steps.items };
 
     ghost invariant = { IsKept };
 }
@@ -51,8 +75,8 @@ impl<M: Copy, A: Allocator> Mailbox<M, A> {
         ensures { result ≡ [] }
     {
         Mailbox {
-            posted: Vec::new(messages),
-            events: Vec::new(events),
+            messages: Vec::new(messages),
+            steps: Vec::new(events),
             taken: 0,
             open: 0,
         }
@@ -60,23 +84,26 @@ impl<M: Copy, A: Allocator> Mailbox<M, A> {
 
     /// Posts a message of a sender, and reserves the places of its Take and its Done. If memory for that is
     /// refused, or 2^32 messages were posted, the message comes back.
+    #[tactic(auto, using(crate::proofs::Keeping::enough_steps))]
     pub fn post(&mut self, sender: u8, message: M) -> Result<(), M>
         ensures ok { OnOk result (self.new ≡ self.old ++ Event.Post sender message ∷ []) }
         ensures err { IfErr result (λ back. (back ≡ message) × (self.new ≡ self.old)) }
     {
-        let Ok(number) = u32::try_from(self.posted.len()) else {
+        let post = self.messages.len();
+        let Ok(number) = u32::try_from(post) else {
             return Err(message);
         };
-        let untaken = self.posted.len() - self.taken;
+        let untaken = post - self.taken;
         let owed = untaken + untaken + self.open;
-        if let Err(_) = self.posted.reserve(1) {
+        if let Err(_) = self.messages.reserve(1) {
             return Err(message);
         }
-        if let Err(_) = self.events.reserve(owed + 3) {
+        if let Err(_) = self.steps.reserve(owed + 3) {
             return Err(message);
         }
-        self.posted.push_reserved((sender, message));
-        self.events.push_reserved(NumberedEvent::Post(number));
+        self.messages.push_reserved(message);
+        self.steps.push_reserved(Step::new(Kind::Post, number));
+        self.steps[post].sender = sender;
         Ok(())
     }
 
@@ -102,16 +129,15 @@ impl<M: Copy, A: Allocator> Mailbox<M, A> {
             × (slice_get (posts self.old) (length (takes self.old)) ≡ Some (t.1, t.2))
             × (self.new ≡ self.old ++ Event.Take t.1 t.2 ∷ [])) }
     {
-        let number = self.taken;
-        if number >= self.posted.len() {
+        if self.taken >= self.messages.len() {
             return None;
         }
-        let (sender, message) = self.posted[number];
-        self.events
-            .push_reserved(NumberedEvent::Take(number as u32));
+        let number = self.taken as u32;
+        let (sender, message) = self.posted(number);
+        self.steps.push_reserved(Step::new(Kind::Take, number));
         self.taken += 1;
         self.open += 1;
-        Some((number as u64, sender, message))
+        Some((u64::from(number), sender, message))
     }
 
     /// Records that the take of this number is completed. Takes no memory.
@@ -120,8 +146,18 @@ impl<M: Copy, A: Allocator> Mailbox<M, A> {
         requires open { Contains (dones self.old) take → ⊥ }
         ensures { self.new ≡ self.old ++ Event.Done take ∷ [] }
     {
-        self.events.push_reserved(NumberedEvent::Done(take as u32));
+        self.steps.push_reserved(Step::new(Kind::Done, take as u32));
         self.open -= 1;
+    }
+
+    /// The sender and the message of the Post with this number.
+    #[tactic(auto, using(crate::proofs::Keeping::enough_steps))]
+    fn posted(&self, number: u32) -> (u8, M)
+        requires { number < length (posts self.now) }
+        ensures { slice_get (posts self.now) number ≡ Some result }
+    {
+        let number = number as usize;
+        (self.steps[number].sender, self.messages[number])
     }
 
     /// How many messages were taken.
@@ -135,24 +171,25 @@ impl<M: Copy, A: Allocator> Mailbox<M, A> {
     pub fn len(&self) -> usize
         ensures { result ≡ length self.now }
     {
-        self.events.len()
+        self.steps.len()
     }
 
     /// The event with this number, counted from 0, the oldest first.
     pub fn event(&self, number: usize) -> Option<Event<M>>
         ensures { result ≡ slice_get self.now number }
     {
-        let event = match *self.events.get(number)? {
-            NumberedEvent::Post(post) => {
-                let (sender, message) = self.posted[post as usize];
+        let step = *self.steps.get(number)?;
+        let event = match step.kind {
+            Kind::Post => {
+                let (sender, message) = self.posted(step.number);
                 Event::Post { sender, message }
             }
-            NumberedEvent::Take(post) => {
-                let (sender, message) = self.posted[post as usize];
+            Kind::Take => {
+                let (sender, message) = self.posted(step.number);
                 Event::Take { sender, message }
             }
-            NumberedEvent::Done(take) => Event::Done {
-                take: u64::from(take),
+            Kind::Done => Event::Done {
+                take: u64::from(step.number),
             },
         };
         Some(event)
@@ -164,7 +201,7 @@ impl<M: Copy, A: Allocator> Mailbox<M, A> {
         ensures legal { IsLegal self.now }
     {
         // What the mailbox keeps of its fields is known where one of them is used.
-        let _ = &self.events;
+        let _ = &self.steps;
         History {
             mailbox: self,
             read: 0,

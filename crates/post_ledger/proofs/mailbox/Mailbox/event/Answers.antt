@@ -1,70 +1,71 @@
 -- The step with a number is the event with that number.
-use Rattle.std.proofs.Common.{◌≡◌, ◌<◌, ◌≤◌, Some, length, refl, sym, ap, ◌∙◌, arith, slice_get, ◌∷◌, []}
-use Rattle.std.proofs.lemmas.Option.{slice_get_past, slice_get_read}
+use Rattle.std.proofs.Common.{◌≡◌, ◌≤◌, Some, length, map, refl, sym, ap, ◌∙◌, arith, slice_get, ◌∷◌, []}
+use Rattle.std.proofs.lemmas.List.{length-map}
+use Rattle.std.proofs.lemmas.Option.{slice_get_past}
+use Rattle.post_ledger.specs.declared.event.Event.{Event}
 use Rattle.post_ledger.specs.declared.event.Event.TheVariants.{Post, Take, Done}
-use Rattle.post_ledger.specs.declared.mailbox.NumberedEvent.TheVariants as by_number
-use Rattle.post_ledger.specs.Kept.{post_of, take_of, IsNumbered, event_of}
-use Rattle.post_ledger.proofs.Keeping.{as_many, number_there, event_there, read_there}
+use Rattle.post_ledger.specs.declared.mailbox.Kind.{Kind}
+use Rattle.post_ledger.specs.declared.mailbox.Kind.TheVariants as kind
+use Rattle.post_ledger.specs.Kept.{IsNumbered, event_of, numbered_of, post_of, posted_of, take_of}
+use Rattle.post_ledger.specs.History.{posts}
+use Rattle.post_ledger.proofs.Keeping.{as_many, event_there, number_there, read_there}
 use Rattle.post_ledger.proofs.mailbox.Mailbox.event.Given.{Over}
 use Rattle.post_ledger.proofs.mailbox.Mailbox.event.Goals as goal
-use Rattle.post_ledger.proofs.mailbox.Mailbox.event.Goals.{In_ok-post, in-Post, in-Take, in-Done}
-use Rattle.post_ledger.specs.declared.event.Event.{Event}
-use Rattle.post_ledger.specs.declared.mailbox.NumberedEvent.{NumberedEvent}
+use Rattle.post_ledger.proofs.mailbox.Mailbox.event.Goals.{In_ok-step, in-Post, in-Take, in-Done}
 
-pub returns-in_err-post : goal.returns-in_err-post
-returns-in_err-post g c =
+pub returns-in_err-step : goal.returns-in_err-step
+returns-in_err-step g c =
     let i = c.self.inside in
-    let many = as_many i.posted.items i.events.items c.self.invariant.numbered in
-    let now : length c.deref.result.now ≡ length i.events.items = ap length c.deref.ensures.value in
-    let past : length c.deref.result.now ≤ c.args.number = c.in_err-post.ensures.lookup.3 in
-    c.from_residual.ensures ∙ sym (slice_get_past c.args.self.now c.args.number (omega (arith, many, ap length c.self.view_is)))
+    let many = as_many _ _ c.self.invariant.counts.numbered in
+    let now : length c.deref.result.now ≡ length i.steps.items = ap length c.deref.ensures.value in
+    let past : length c.deref.result.now ≤ c.args.number = c.in_err-step.ensures.lookup.3 in
+    c.from_residual.ensures
+    ∙ sym (slice_get_past c.args.self.now c.args.number
+    (omega (arith, many, length-map i.steps.items numbered_of, ap length c.self.view_is)))
 
 -- the step that was read is that of the number, and its own number is below the count
-module _ (g : Over) (c : In_ok-post g) (s : NumberedEvent) (is : c.in_ok-post.field-0.now ≡ s) where
-  there : slice_get c.self.inside.events.items c.args.number ≡ Some s
-  there = read_there c.self.inside.events.items c.deref.result.now c.args.number c.in_ok-post.field-0.now s c.deref.ensures.value
-      c.in_ok-post.ensures.lookup.0 c.in_ok-post.ensures.lookup.1 is
+module _ (g : Over) (c : In_ok-step g) (k : Kind) (is : c.in_ok-step.field-0.now.kind ≡ k) where
+  there : slice_get (map numbered_of c.self.inside.steps.items) c.args.number ≡ Some (k, c.in_ok-step.field-0.now.number)
+  there = read_there c.self.inside.steps.items c.deref.result.now c.args.number c.in_ok-step.field-0.now _ c.deref.ensures.value
+      c.in_ok-step.ensures.lookup.0 c.in_ok-step.ensures.lookup.1 (ap (λ x. (x, c.in_ok-step.field-0.now.number)) is)
 
-  numbered : IsNumbered (length c.self.inside.posted.items) s
-  numbered = number_there (length c.self.inside.posted.items) c.self.inside.events.items c.args.number s c.self.invariant.numbered there
+  numbered : IsNumbered (length (posted_of c.self.inside.messages.items c.self.inside.steps.items)) (k, c.in_ok-step.field-0.now.number)
+  numbered = number_there _ _ c.args.number _ c.self.invariant.counts.numbered there
 
   -- the event of the step is the one with the number
-  event : (e : Event g.row.M.Denot) → event_of c.self.inside.posted.items s ≡ e ∷ []
+  event : (e : Event g.row.M.Denot)
+      → event_of (posted_of c.self.inside.messages.items c.self.inside.steps.items) (k, c.in_ok-step.field-0.now.number) ≡ e ∷ []
       → slice_get c.args.self.now c.args.number ≡ Some e
   event e one =
       ap (λ l. slice_get l c.args.number) (sym c.self.view_is)
-      ∙ event_there c.self.inside.posted.items c.self.inside.events.items c.args.number s e c.self.invariant.numbered there one
+      ∙ event_there _ _ c.args.number _ e c.self.invariant.counts.numbered there one
 
-pub index-requires : goal.index-requires
-index-requires g c =
-    let below : c.in-Post.post < length c.self.inside.posted.items =
-    numbered g (goal.at.index-requires g c).In_ok-post (by_number.Post c.in-Post.post) c.in-Post.is in
-    omega arith
+  -- a number below the count is that of a Post
+  posted : posted_of c.self.inside.messages.items c.self.inside.steps.items ≡ posts c.args.self.now
+  posted = sym c.self.invariant.counts.history.all_posted ∙ ap posts c.self.view_is
 
-pub index-requires-in-Take : goal.index-requires-in-Take
-index-requires-in-Take g c =
-    let below : c.in-Take.post < length c.self.inside.posted.items =
-    numbered g (goal.at.index-requires-in-Take g c).In_ok-post (by_number.Take c.in-Take.post) c.in-Take.is in
-    omega arith
+pub posted-sender-requires : goal.posted-sender-requires
+posted-sender-requires g c =
+    let at = (goal.at.posted-sender-requires g c).In_ok-step in
+    omega (arith, numbered g at kind.Post c.in-Post.is, ap length (posted g at kind.Post c.in-Post.is))
+
+pub posted-sender-requires-in-Take : goal.posted-sender-requires-in-Take
+posted-sender-requires-in-Take g c =
+    let at = (goal.at.posted-sender-requires-in-Take g c).In_ok-step in
+    omega (arith, numbered g at kind.Take c.in-Take.is, ap length (posted g at kind.Take c.in-Take.is))
 
 pub returns : goal.returns
 returns g c =
-    let i = c.self.inside in
-    let at = (goal.at.returns g c).In_ok-post in
-    elim c.match-branch-2.branch [
+    let at = (goal.at.returns g c).In_ok-step in
+    let n = c.in_ok-step.field-0.now.number in
+    elim c.match-step.branch [
       | in-Post w ↦
-          let s = by_number.Post w.in-Post.post in
-          let p = w.index.result.now in
-          let posted = slice_get_read i.posted.items (length i.posted.items) w.in-Post.post p refl (numbered g at s w.in-Post.is)
-          w.index.ensures in
-          ap Some w.event-is ∙ sym (event g at s w.in-Post.is (Post p.0 p.1) (ap post_of posted))
+          let p = w.posted-sender.result in
+          let read = ap (λ l. slice_get l n) (posted g at kind.Post w.in-Post.is) ∙ w.posted-sender.ensures in
+          ap Some w.event-is ∙ sym (event g at kind.Post w.in-Post.is (Post p.0 p.1) (ap post_of read))
       | in-Take w ↦
-          let s = by_number.Take w.in-Take.post in
-          let p = w.index-in-Take.result.now in
-          let posted = slice_get_read i.posted.items (length i.posted.items) w.in-Take.post p refl (numbered g at s w.in-Take.is)
-          w.index-in-Take.ensures in
-          ap Some w.event-is ∙ sym (event g at s w.in-Take.is (Take p.0 p.1) (ap take_of posted))
-      | in-Done w ↦
-          ap Some (w.event-is ∙ ap Done w.from.ensures)
-          ∙ sym (event g at (by_number.Done w.in-Done.take) w.in-Done.is (Done w.in-Done.take) refl)
+          let p = w.posted-sender-in-Take.result in
+          let read = ap (λ l. slice_get l n) (posted g at kind.Take w.in-Take.is) ∙ w.posted-sender-in-Take.ensures in
+          ap Some w.event-is ∙ sym (event g at kind.Take w.in-Take.is (Take p.0 p.1) (ap take_of read))
+      | in-Done w ↦ ap Some (w.event-is ∙ ap Done w.from.ensures) ∙ sym (event g at kind.Done w.in-Done.is (Done n) refl)
     ]
