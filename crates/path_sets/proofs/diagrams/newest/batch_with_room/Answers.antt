@@ -7,6 +7,8 @@ pub returns-clause-keep : goal.returns-clause-keep
 returns-clause-keep g c =
     let old = c.args.batches.now.items in
     record {
-      gathered = λ k. ap (λ bs. gathered_at bs k) c.in_ok-push.ensures.items ∙ one_more_gathered old c.in_ok-batch.batch k c.in_ok-batch.ensures;
-      masks = λ diagrams. ap (masks_in diagrams) c.in_ok-push.ensures.items ∙ one_more_masks diagrams old c.in_ok-batch.batch c.in_ok-batch.ensures;
+      gathered = λ k.
+          ap (λ bs. gathered_at bs k) c.in_ok-push.ensures.items ∙ one_more_gathered old c.in_ok-batch.batch k c.in_ok-batch.ensures;
+      masks = λ diagrams.
+          ap (masks_in diagrams) c.in_ok-push.ensures.items ∙ one_more_masks diagrams old c.in_ok-batch.batch c.in_ok-batch.ensures;
     }

@@ -20,7 +20,8 @@ module _ (g : given.Over) (c : After-batch_of g) where
       }
 
   counted : let s = c.settle.new.self in
-      s.count ≡ length (all_edges s.merged.nodes.kept.keys s.merged.roots.entries (masks_in (keys s.merged.roots) c.batch_of.new.self.batches.items))
+      s.count ≡ length (all_edges s.merged.nodes.kept.keys s.merged.roots.entries
+      (masks_in (keys s.merged.roots) c.batch_of.new.self.batches.items))
   counted =
       let s = c.settle.new.self in
       s.counted ∙ sym (ap (λ masks. length (all_edges s.merged.nodes.kept.keys s.merged.roots.entries masks))
@@ -33,7 +34,8 @@ invariant_of-self g c =
       fit = fit g i;
       placed = search rules;
       counted = counted g i;
-      once = all_none_twice s.merged.nodes.kept.keys s.merged.roots.entries (masks_in (keys s.merged.roots) c.batch_of.new.self.batches.items);
+      once = all_none_twice s.merged.nodes.kept.keys s.merged.roots.entries
+          (masks_in (keys s.merged.roots) c.batch_of.new.self.batches.items);
     }
 
 pub invariant_of-self-2 : goal.invariant_of-self-2
@@ -43,5 +45,6 @@ invariant_of-self-2 g c =
       fit = fit g i;
       placed = search rules;
       counted = counted g i;
-      once = all_none_twice s.merged.nodes.kept.keys s.merged.roots.entries (masks_in (keys s.merged.roots) c.batch_of.new.self.batches.items);
+      once = all_none_twice s.merged.nodes.kept.keys s.merged.roots.entries
+          (masks_in (keys s.merged.roots) c.batch_of.new.self.batches.items);
     }
