@@ -37,8 +37,9 @@ module _ {A G : Type 0} (graph : Graph G) (q : ℕ) (f : Found A) (pending : Vec
         GraphReaches graph (TookMessage led_to) t.entry t.point t.values
     lead_only = grown_reached graph q f f.entries f.summaries f.outbox pending es ds (IsNext flow e) taken_led next_reached sound
 
-    pub lead_step : Grows (IsNext flow e) es ds f.pending.items pending.items → Step graph q f led_to es ds
-    lead_step grown =
-        grown_step graph q f f.entries f.summaries f.outbox pending es ds (IsNext flow e) taken_led next_reached grown
+    pub lead_step : (W : Triple → Type 0) → ((t : Triple) → W t → IsNext flow e t) → Grows W es ds f.pending.items pending.items →
+        Step graph q f led_to es ds
+    lead_step W some grown =
+        grown_step graph q f f.entries f.summaries f.outbox pending es ds W taken_led (λ t w. next_reached t (some t w)) grown
         (λ s k m. m) (λ s k m. inl m) (λ from a h. inl h) (λ s x b a n v back at enters h. inl h)
         (λ a b c m h. inl h) (λ old. old) (λ x old m. old.placed x m)

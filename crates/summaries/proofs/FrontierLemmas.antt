@@ -1,7 +1,7 @@
 -- How path edges and those pending grow, step by step.
 use Rattle.std.specs.Bool.{IsTrue, OnFalse}
 use Rattle.std.specs.Result.{IsErrAnd, OnOk}
-use Rattle.std.proofs.Common.{Option, Some, ◌≤◌, eq-or-lt_of_le, ◌≡◌, Bool, true, false, true≢false, List, [], ◌∷◌}
+use Rattle.std.proofs.Common.{Option, Some, None, ◌≤◌, eq-or-lt_of_le, ◌≡◌, Bool, true, false, true≢false, List, [], ◌∷◌}
 use Rattle.std.proofs.Common.{◌++◌, ◌⊎◌, inl, inr, sym, ap, subst, ◌∙◌, ℕ, zero, suc, ◌+◌, Result, Ok, Err, length}
 use Rattle.std.proofs.Common.{if◌then◌else◌, arith, length-append, ◌<◌, ◌↔◌, nat_lt, refl, take, get_or}
 use Rattle.std.proofs.Math.Seq.{take-length}
@@ -186,6 +186,15 @@ module _ {G : Type 0} (flow : Flow G) (e : PathEdge) where
 -- Ok is not a fault
 pub ok_err : {T : Type 0} {x : T} {e : TableFault} → Ok x ≡ Err e → ⊥
 ok_err is = cc
+
+abbrev found_or : PathEdge → Result (Option PathEdge) TableFault → PathEdge
+found_or other (Ok (Some found)) = found
+found_or other (Ok None) = other
+found_or other (Err fault) = other
+
+-- one edge was found
+pub same_found : (e found : PathEdge) → ◌≡◌ {A = Result (Option PathEdge) TableFault} (Ok (Some e)) (Ok (Some found)) → found ≡ e
+same_found e found is = sym (ap (found_or e) is)
 
 -- nothing is added where there is nowhere to go
 pub adds_none : (W : Triple → Type 0) (most : ℕ) (old : List Triple) (before : List PathEdge) → ((t : Triple) → W t → ⊥)

@@ -10,6 +10,7 @@ pub mod AddLemmas
 pub mod StepLemmas
 pub mod CallLemmas
 pub mod PendingLemmas
+pub mod AsideLemmas
 pub mod FlowLemmas
 pub mod ExitLemmas
 pub mod EntryLemmas

@@ -1,5 +1,5 @@
 -- What a table's work comes to, by its answer.
-use Rattle.std.proofs.Common.{◌≡◌, ◌≤◌, List, Result, Err, length, ◌∙◌, ap, arith}
+use Rattle.std.proofs.Common.{◌≡◌, ◌≤◌, List, Result, Err, length, ◌∙◌}
 use Rattle.std.specs.Result.{IsErrAnd, OnOk}
 use Rattle.std.proofs.lemmas.Result.{IfOk-weaker}
 use Rattle.language.specs.Lists.{Member, NoneTwice}
@@ -11,7 +11,7 @@ use Rattle.summaries.specs.declared.table_fault.TableFault.TheVariants.{Memory, 
 use Rattle.summaries.specs.Grows.{Adds}
 use Rattle.summaries.proofs.FrontierLemmas.{no_limit, failed_ok}
 use Rattle.summaries.proofs.StepLemmas.{has_more}
-use Rattle.summaries.specs.Tables.{answers_of, HasMore, Holds, IsReached, StaysAs, Worked, IsLess}
+use Rattle.summaries.specs.Tables.{answers_of, HasMore, Holds, IsReached, StaysAs, Worked}
 use Rattle.path_sets.specs.EdgeLimits.{most_of}
 
 module _ {G A S : Type 0} (members : S → List Triple) where
@@ -71,11 +71,3 @@ module _ {G A S : Type 0} (members : S → List Triple) where
     };
     fault = worked.fault ∙ fault;
   }
-
-  -- work that continues from other work, which leaves as many edges found and pending
-  pub still_less : {T : Type 0} (r : Result T TableFault) (old mid new : Table G A S) → mid.found.pending ≡ old.found.pending
-      → mid.edges ≡ old.edges → OnOk r (IsLess members mid new) → OnOk r (IsLess members old new)
-  still_less r old mid new pending edges = IfOk-weaker r _ _ (λ _ less.
-      let waits = ap (λ v. length v.items) pending in
-      let found = ap (λ s. length (members s)) edges in
-      let (more, longer) = less in (omega (arith, waits, found, more), omega (arith, found, longer)))

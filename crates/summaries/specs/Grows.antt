@@ -1,6 +1,6 @@
 -- Path edges that are added, and become pending.
-use Rattle.std.specs.Prelude.{◌≡◌, ◌≤◌, ◌<◌, ℕ, Option, Some, Result, Err, OnOk, List, ◌⊎◌}
-use Rattle.std.specs.Prelude.{◌++◌, length, ◌+◌, slice_get}
+use Rattle.std.specs.Prelude.{◌≡◌, ◌≤◌, ◌<◌, ℕ, Option, Some, None, Result, Ok, Err, OnOk, List, [], ◌∷◌}
+use Rattle.std.specs.Prelude.{◌⊎◌, ◌++◌, length, ◌+◌, slice_get}
 use Rattle.language.specs.Lists.{Member}
 use Rattle.path_sets.specs.Triples.{Triple, triple}
 use Rattle.flow_graph.specs.Drawn.{flows_of}
@@ -54,6 +54,16 @@ pub record Adds (W : Triple → Type 0) {Returned : Type 0} (answer : Result Ret
   pub only : AddsOnly W old new
   pub within : length new ≤ most
   pub limit : answer ≡ Err EdgeLimit → (reached : Triple) × W reached × (Member reached new → ⊥) × (most ≤ length new)
+
+-- the edges that are pending and, behind them, the one that was found, if one was
+abbrev pub beside : {Fault : Type 0} → Result (Option PathEdge) Fault → List PathEdge → List PathEdge
+beside (Ok (Some found)) pending = pending ++ found ∷ []
+beside (Ok None) pending = pending
+beside (Err fault) pending = pending
+
+-- A triple is the edge that was found.
+abbrev pub IsFoundBy : {Fault : Type 0} → Result (Option PathEdge) Fault → Triple → Type 0
+IsFoundBy answer reached = (found : PathEdge) × (answer ≡ Ok (Some found)) × (reached ≡ triple_of found)
 
 -- A triple is where the run continues from an edge, if it does.
 abbrev pub IsAt : PathEdge → Option (ℕ × ℕ) → Triple → Type 0

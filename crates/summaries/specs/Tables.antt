@@ -16,7 +16,7 @@ use Rattle.summaries.specs.declared.found.Found.{Found}
 use Rattle.summaries.specs.declared.table.Table.{Table}
 use Rattle.summaries.specs.declared.table_fault.TableFault.{TableFault}
 use Rattle.summaries.specs.declared.table_fault.TableFault.TheVariants.{EdgeLimit}
-use Rattle.summaries.specs.Grows.{Adds, IsNext}
+use Rattle.summaries.specs.Grows.{Adds, AddsOnly, IsFoundBy, IsNext, beside}
 use Rattle.summaries.specs.Mails.{AddressedMail, mail}
 use Rattle.summaries.specs.Dues.{due_of}
 use Rattle.summaries.specs.Found.{pair, answers_in, TookMessage, HasSite, HasExit, IsGrounded, IsSaturated}
@@ -140,6 +140,20 @@ module _ {GraphAlloc Alloc Edges : Type 0} (members : Edges → List Triple) whe
     pub adds : Adds W answer (limit_of old) (members old.edges) (members new.edges) old.found.pending.items new.found.pending.items
     pub rest : new ≡ record old { edges = new.edges; found = record old.found { pending = new.found.pending } }
 
+  -- the table keeps the edge that was found
+  abbrev pub IsThere : Result (Option PathEdge) TableFault → Table GraphAlloc Alloc Edges → Type 0
+  IsThere answer table = (reached : Triple) → IsFoundBy answer reached → Member reached (members table.edges)
+
+  -- Triples, at most one of them new, were to be added to the edges kept, with this result: the one that is new is found, and
+  -- not pending. Nothing else of the table changes.
+  pub record FindsEdge (W : Triple → Type 0) (answer : Result (Option PathEdge) TableFault) (old new : Table GraphAlloc Alloc Edges)
+      : Type 0 where
+    pub adds : Adds W answer (limit_of old) (members old.edges) (members new.edges) old.found.pending.items
+        (beside answer old.found.pending.items)
+    pub found : OnOk answer (AddsOnly (IsFoundBy answer) (members old.edges) (members new.edges))
+    pub there : IsThere answer new
+    pub rest : new ≡ record old { edges = new.edges }
+
   -- The table has worked, with this result. It is that of the same procedure; the edges kept are reached by the
   -- messages taken, and no more than the limit. On Ok nothing is missing, except what pending edges and the edges
   -- left aside still lead to, and no message was answered; if the answer is that the limit is passed, more edges
@@ -178,6 +192,19 @@ module _ {GraphAlloc Alloc Edges : Type 0} (members : Edges → List Triple) whe
   abbrev pub IsLess : Table GraphAlloc Alloc Edges → Table GraphAlloc Alloc Edges → Type 0
   IsLess old new =
       (length new.found.pending.items + length (members old.edges) ≡ length old.found.pending.items + length (members new.edges))
+      × (length (members old.edges) ≤ length (members new.edges))
+
+  -- as many more edges became pending, counting the one found last, as were found
+  abbrev pub IsLessBeside : Result (Option PathEdge) TableFault → Table GraphAlloc Alloc Edges → Table GraphAlloc Alloc Edges → Type 0
+  IsLessBeside answer old new =
+      (length (beside answer new.found.pending.items) + length (members old.edges)
+      ≡ length old.found.pending.items + length (members new.edges))
+      × (length (members old.edges) ≤ length (members new.edges))
+
+  -- no more edges became pending than were found
+  abbrev pub IsNoMore : Table GraphAlloc Alloc Edges → Table GraphAlloc Alloc Edges → Type 0
+  IsNoMore old new =
+      (length new.found.pending.items + length (members old.edges) ≤ length old.found.pending.items + length (members new.edges))
       × (length (members old.edges) ≤ length (members new.edges))
 
   -- twice as many edges as there may still be, and those pending

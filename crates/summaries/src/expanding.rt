@@ -1,7 +1,7 @@
 //! The choices at a point, expanded: where they lead.
 
-ghost use Rattle.std.specs.Prelude.{◌≤◌, IfSome, IsTrue};
-ghost use Rattle.flow_graph.specs.Flows.{last_of};
+ghost use Rattle.std.specs.Prelude.{◌≡◌, ◌≤◌, ◌↔◌, None, IfSome, IfNone, IsTrue};
+ghost use Rattle.flow_graph.specs.Flows.{last_of, next_of};
 ghost use Rattle.summaries.specs.Grows.{IsExpansionKey};
 
 use crate::edge::PathEdge;
@@ -20,7 +20,7 @@ const MANY: Word = 8;
 /// Whether a flow has so many choices that it is expanded once for all valuations that it leads alike.
 #[inline(always)]
 pub(crate) fn has_many_choices<G: Allocator>(flow: &Flow<G>) -> bool
-    ensures { IsTrue result → 2 ≤ last_of flow.now }
+    ensures { IsTrue result ↔ (7 ≤ last_of flow.now) }
 {
     flow.last() >= MANY - 1
 }
@@ -30,7 +30,8 @@ pub(crate) fn has_many_choices<G: Allocator>(flow: &Flow<G>) -> bool
 #[inline(always)]
 pub(crate) fn expansion_key<G: Allocator>(flow: &Flow<G>, edge: PathEdge) -> Option<KeptEdge>
     requires { 2 ≤ last_of flow.now }
-    ensures { IfSome result (λ led. IsExpansionKey flow.now edge led) }
+    ensures some { IfSome result (λ led. IsExpansionKey flow.now edge led) }
+    ensures none { IfNone result (next_of flow.now edge.values 0 ≡ None) }
 {
     let (_, values) = flow.next(edge.values, 0)?;
     let first = PathEdge {

@@ -130,7 +130,7 @@ impl<'g, G: Allocator, A: Allocator + Copy, S: PathSet<A>> Table<'g, G, A, S> {
         Some(self.found.mail(self.procedure, message))
     }
 
-    /// Works on one edge. Returns whether there was one.
+    /// Works on one pending edge, and on those that it leads to one after another. Returns whether there was one.
     fn step(&mut self) -> Result<bool, TableFault>
         requires table { IsTable S.members self.old }
         requires fault { self.old.fault ≡ None }
@@ -152,7 +152,7 @@ impl<'g, G: Allocator, A: Allocator + Copy, S: PathSet<A>> Table<'g, G, A, S> {
             point,
             values,
         } = edge;
-        let worked = self.work(PathEdge {
+        let worked = self.follow(PathEdge {
             entry,
             point,
             values,

@@ -1,6 +1,6 @@
 //! The work of a table: on an edge, and on a message that comes.
 
-ghost use Rattle.std.specs.Prelude.{◌≡◌, ◌≤◌, length, OnOk, slice_get, Some};
+ghost use Rattle.std.specs.Prelude.{◌≡◌, ◌≤◌, ◌<◌, ◌↔◌, length, IsTrue, OnOk, slice_get, Some};
 ghost use Rattle.language.specs.Lists.{Member};
 ghost use Rattle.path_sets.specs.Triples.{triple};
 ghost use Rattle.flow_graph.specs.Drawn.{flows_of};
@@ -10,10 +10,11 @@ ghost use Rattle.flow_graph.specs.declared.flow.Flow.TheVariants as flow;
 ghost use Rattle.summaries.specs.declared.due.Due.TheVariants.{Entry};
 ghost use Rattle.summaries.specs.Mails.{summary_due};
 ghost use Rattle.summaries.specs.Found.{path_edge, HasExit};
-ghost use Rattle.summaries.specs.Grows.{triple_of, IsNoCall, IsOther};
+ghost use Rattle.summaries.specs.Grows.{triple_of, IsAt, IsFoundBy, IsNoCall, IsOther};
 ghost use Rattle.summaries.specs.Tables.{answers_of, graph_of, limit_of, HasItsExit, HasAsked};
 ghost use Rattle.summaries.specs.Tables.{Holds};
-ghost use Rattle.summaries.specs.Tables.{AddsEdges, HasAllNext, Worked, StaysAs, IsLess, TookAlso};
+ghost use Rattle.summaries.specs.Tables.{AddsEdges, FindsEdge, HasAllNext, Worked, StaysAs, IsLess};
+ghost use Rattle.summaries.specs.Tables.{IsLessBeside, IsNoMore, IsThere, TookAlso};
 ghost use Rattle.summaries.specs.Tables.{TookOnly, TookSame};
 
 use crate::due::Caller;
@@ -124,17 +125,19 @@ impl<'g, G: Allocator, A: Allocator + Copy, S: PathSet<A>> Table<'g, G, A, S> {
         frontier.resume_site(self.graph, edge, self.found.summaries.of(key))
     }
 
-    /// Works on an edge that is no longer pending: adds the edges that it leads to, and gives the messages that it
-    /// makes due.
+    /// Works on an edge that is not pending: adds the edges that it leads to, and gives the messages that it makes due. The
+    /// edge that the first choice leads to is returned, if it is new; the others that are new become pending.
     // What few edges need is not inlined, and takes the parts of an edge: a struct that is passed to such a function has a
     // place on the stack that is filled for every edge.
-    pub(crate) fn work(&mut self, edge: PathEdge) -> Result<(), TableFault>
+    #[inline(always)]
+    fn work(&mut self, edge: PathEdge) -> Result<Option<PathEdge>, TableFault>
         requires edge { Member (triple_of edge) (S.members self.old.edges) }
         requires holds { Holds S.members (λ t. t ≡ triple_of edge) self.old }
         requires within { length (S.members self.old.edges) ≤ limit_of self.old }
-        ensures worked { Worked S.members (λ t. ⊥) result self.old self.new }
+        ensures worked { Worked S.members (IsFoundBy result) result self.old self.new }
+        ensures there { IsThere S.members result self.new }
         ensures taken { TookSame self.old.found self.new.found }
-        ensures less { OnOk result (IsLess S.members self.old self.new) }
+        ensures less { OnOk result (IsLessBeside S.members result self.old self.new) }
     {
         self.record_if_exit(edge)?;
         let PathEdge {
@@ -143,50 +146,91 @@ impl<'g, G: Allocator, A: Allocator + Copy, S: PathSet<A>> Table<'g, G, A, S> {
             values,
         } = edge;
         if point >= self.graph.points() {
-            return Ok(());
+            return Ok(None);
         }
         match self.graph.flow(point) {
-            Flow::Call(call) => self.record_call(entry, point, values, call),
+            Flow::Call(call) => {
+                self.record_call(entry, point, values, call)?;
+                Ok(None)
+            }
             flow if has_many_choices(flow) => self.expand_once(flow, entry, point, values),
             flow => self.expand(flow, edge),
         }
     }
 
-    /// Adds the edges that each choice leads to from an edge.
+    /// Works on an edge that is not pending, and then on the edge that it leads to first, as long as that is new.
+    pub(crate) fn follow(&mut self, edge: PathEdge) -> Result<(), TableFault>
+        requires edge { Member (triple_of edge) (S.members self.old.edges) }
+        requires holds { Holds S.members (λ t. t ≡ triple_of edge) self.old }
+        requires within { length (S.members self.old.edges) ≤ limit_of self.old }
+        ensures worked { Worked S.members (λ t. ⊥) result self.old self.new }
+        ensures taken { TookSame self.old.found self.new.found }
+        ensures less { OnOk result (IsNoMore S.members self.old self.new) }
+    {
+        let mut edge = edge;
+        'edges: loop {
+            match self.work(edge)? {
+                Some(next) => edge = next,
+                None => return Ok(()),
+            }
+        }
+    }
+
+    /// Adds the edges that each choice leads to from an edge. That of the first choice is returned, if it is new; the
+    /// others that are new become pending.
     // The first choice is followed apart: that its number is known makes it short, and most edges have no other.
     #[inline(always)]
-    fn expand(&mut self, flow: &Flow<G>, edge: PathEdge) -> Result<(), TableFault>
+    fn expand(&mut self, flow: &Flow<G>, edge: PathEdge) -> Result<Option<PathEdge>, TableFault>
         requires flow { slice_get (flows_of (graph_of self.old)) edge.point ≡ Some flow.now }
         requires no_call { IsNoCall flow.now }
         requires left { HasItsExit self.old edge }
         requires edge { Member (triple_of edge) (S.members self.old.edges) }
         requires holds { Holds S.members (λ t. t ≡ triple_of edge) self.old }
         requires within { length (S.members self.old.edges) ≤ limit_of self.old }
-        ensures worked { Worked S.members (λ t. ⊥) result self.old self.new }
+        ensures worked { Worked S.members (IsFoundBy result) result self.old self.new }
+        ensures there { IsThere S.members result self.new }
         ensures all { OnOk result (HasAllNext S.members flow.now edge self.new) }
         ensures taken { TookSame self.old.found self.new.found }
-        ensures less { OnOk result (IsLess S.members self.old self.new) }
+        ensures less { OnOk result (IsLessBeside S.members result self.old self.new) }
+    {
+        let (next, more) = flow.choose(edge.values, 0);
+        self.expand_others(flow, edge, more)?;
+        self.find_next(edge, next)
+    }
+
+    /// Adds where the run continues from an edge, if it does. If that is new, it is returned.
+    #[inline(always)]
+    fn find_next(
+        &mut self,
+        edge: PathEdge,
+        next: Option<(Point, Word)>,
+    ) -> Result<Option<PathEdge>, TableFault>
+        requires within { length (S.members self.old.edges) ≤ limit_of self.old }
+        ensures { FindsEdge S.members (IsAt edge next) result self.old self.new }
     {
         let mut frontier = Frontier {
             edges: &mut self.edges,
             pending: &mut self.found.pending,
             limit: self.limit,
         };
-        let (next, more) = flow.choose(edge.values, 0);
-        frontier.reach_next(edge, next)?;
-        if !more {
-            return Ok(());
-        }
-        self.expand_others(flow, edge)
+        frontier.find_next(edge, next)
     }
 
-    /// Adds the edges that each choice after the first leads to from an edge.
+    /// Adds the edges that each choice after the first leads to from an edge, if there are more choices.
     #[inline(always)]
-    fn expand_others(&mut self, flow: &Flow<G>, edge: PathEdge) -> Result<(), TableFault>
-        requires others { 1 ≤ last_of flow.now }
+    fn expand_others(
+        &mut self,
+        flow: &Flow<G>,
+        edge: PathEdge,
+        more: bool,
+    ) -> Result<(), TableFault>
+        requires others { IsTrue more ↔ (0 < last_of flow.now) }
         requires within { length (S.members self.old.edges) ≤ limit_of self.old }
         ensures { AddsEdges S.members (IsOther flow.now edge) result self.old self.new }
     {
+        if !more {
+            return Ok(());
+        }
         let mut frontier = Frontier {
             edges: &mut self.edges,
             pending: &mut self.found.pending,
@@ -204,7 +248,7 @@ impl<'g, G: Allocator, A: Allocator + Copy, S: PathSet<A>> Table<'g, G, A, S> {
         entry: Word,
         point: Point,
         values: Word,
-    ) -> Result<(), TableFault>
+    ) -> Result<Option<PathEdge>, TableFault>
         requires flow { slice_get (flows_of (graph_of self.old)) point ≡ Some flow.now }
         requires no_call { IsNoCall flow.now }
         requires many { 2 ≤ last_of flow.now }
@@ -212,9 +256,10 @@ impl<'g, G: Allocator, A: Allocator + Copy, S: PathSet<A>> Table<'g, G, A, S> {
         requires edge { Member (triple entry point values) (S.members self.old.edges) }
         requires holds { Holds S.members (λ t. t ≡ triple entry point values) self.old }
         requires within { length (S.members self.old.edges) ≤ limit_of self.old }
-        ensures worked { Worked S.members (λ t. ⊥) result self.old self.new }
+        ensures worked { Worked S.members (IsFoundBy result) result self.old self.new }
+        ensures there { IsThere S.members result self.new }
         ensures taken { TookSame self.old.found self.new.found }
-        ensures less { OnOk result (IsLess S.members self.old self.new) }
+        ensures less { OnOk result (IsLessBeside S.members result self.old self.new) }
     {
         let edge = PathEdge {
             entry,
@@ -225,11 +270,11 @@ impl<'g, G: Allocator, A: Allocator + Copy, S: PathSet<A>> Table<'g, G, A, S> {
             return self.expand(flow, edge);
         };
         if self.found.expanded.contains(&led) {
-            return Ok(());
+            return Ok(None);
         }
-        self.expand(flow, edge)?;
+        let found = self.expand(flow, edge)?;
         self.found.expanded.insert(led)?;
-        Ok(())
+        Ok(found)
     }
 
     /// Lets a caller enter the procedure, unless it has: its start is reached, and the caller gets the summaries known.

@@ -12,15 +12,15 @@ returns-in_default-clause-keeps g c =
     same_keeps g.S.PathSet.members self h refl refl (sym (c.in_default.ensures.items ∙ append-nil c.pop.new.self.items))
     c.requires.table c.requires.fault
 
-pub work-worked-requires-clause-edge : goal.work-worked-requires-clause-edge
-work-worked-requires-clause-edge g c =
+pub follow-worked-requires-clause-edge : goal.follow-worked-requires-clause-edge
+follow-worked-requires-clause-edge g c =
     let self = c.args.self.now in
     let es = g.S.PathSet.members self.edges in
     let popped : self.found.pending.items ≡ c.pop.new.self.items ++ c.in-Some.edge ∷ [] = c.in-Some.ensures.items in
     popped_edge self.graph.now self.procedure self.found es c.pop.new.self c.in-Some.edge popped (c.requires.table.holds c.requires.fault).0
 
-pub work-worked-requires-clause-holds : goal.work-worked-requires-clause-holds
-work-worked-requires-clause-holds g c =
+pub follow-worked-requires-clause-holds : goal.follow-worked-requires-clause-holds
+follow-worked-requires-clause-holds g c =
     let self = c.args.self.now in
     let es = g.S.PathSet.members self.edges in
     let held = c.requires.table.holds c.requires.fault in

@@ -1,20 +1,23 @@
-use Rattle.std.proofs.Common.{◌≡◌, ◌≤◌, length, nat_eq, Some, slice_get, sym, ap, ◌∙◌, subst, arith, Result}
+use Rattle.std.proofs.Common.{◌≡◌, ◌≤◌, length, nat_eq, Some, slice_get, sym, ap, ◌∙◌, subst, arith, Option, Result, Err}
 use Rattle.language.specs.Lists.{Member}
 use Rattle.flow_graph.specs.Numbers.{GraphReaches}
 use Rattle.flow_graph.specs.Returns.{left_by}
 use Rattle.flow_graph.specs.declared.flow.Flow.TheVariants.{Call}
 use Rattle.summaries.specs.Under.{under}
 use Rattle.summaries.specs.Found.{call_eq, pair, TookMessage, HasExit}
-use Rattle.summaries.specs.Grows.{triple_of}
+use Rattle.summaries.specs.Grows.{triple_of, IsFoundBy}
+use Rattle.summaries.specs.declared.edge.PathEdge.{PathEdge}
 use Rattle.summaries.specs.declared.table.Table.{Table}
 use Rattle.summaries.specs.declared.table_fault.TableFault.{TableFault}
-use Rattle.summaries.specs.Tables.{IsLess, TookSame, Worked}
-use Rattle.summaries.proofs.FrontierLemmas.{ok_err}
+use Rattle.summaries.specs.Tables.{IsLessBeside, TookSame, Worked}
+use Rattle.summaries.proofs.FrontierLemmas.{ok_err, fault_of}
 use Rattle.summaries.proofs.table.Table.work.Given.{Over}
-use Rattle.summaries.proofs.table.Table.work.Goals.{In_ok-record_if_exit}
+use Rattle.summaries.proofs.table.Table.work.Goals.{In_ok-record_if_exit, After-record_call}
 use Rattle.summaries.proofs.PendingLemmas.{beyond_worked, called_worked}
 use Rattle.summaries.proofs.StepLemmas.{worked_off, both_ok, all_reached, taken_as}
-use Rattle.summaries.proofs.WorkLemmas.{refused_worked, then_worked, still_less}
+use Rattle.summaries.proofs.WorkLemmas.{failed_worked, refused_worked, then_worked}
+use Rattle.summaries.proofs.AsideLemmas.{none_aside, none_found, nothing}
+use Rattle.std.proofs.lemmas.Result.{IfOk-weaker}
 use Rattle.summaries.proofs.table.Table.work.Goals as goal
 use Rattle.path_sets.specs.EdgeLimits.{most_of}
 use Rattle.std.specs.Result.{OnOk}
@@ -26,7 +29,7 @@ returns-in_err-record_if_exit-clause-worked g c =
     let left = c.in_err-record_if_exit.ensures in
     let edges = ap (λ s. length (g.S.PathSet.members s)) left.edges in
     let limit = ap most_of left.stays.limit in
-    refused_worked g.S.PathSet.members (λ t. ⊥) _ old new
+    refused_worked g.S.PathSet.members (IsFoundBy c.from_residual.result) _ old new
     (λ t m. subst (λ graph. GraphReaches graph (TookMessage new.found) t.entry t.point t.values) (sym left.stays.graph)
     (all_reached old.graph.now old.procedure old.found new.found (g.S.PathSet.members old.edges) c.requires.holds.0
     (taken_as old.found new.found (λ a. ap (λ e. under nat_eq e.by_key a) left.taken.0)
@@ -46,8 +49,9 @@ returns-then-point-points-clause-worked g c =
     let limit = ap most_of left.stays.limit in record {
       holds = (
         left.ok.0,
-        worked_off new.graph.now new.procedure new.found es e.entry e.point e.values
-            (beyond_worked new.graph.now new.procedure new.found es e left.left past) left.ok.1,
+        none_aside new.graph.now new.procedure new.found es (IsFoundBy nothing)
+            (worked_off new.graph.now new.procedure new.found es e.entry e.point e.values
+            (beyond_worked new.graph.now new.procedure new.found es e left.left past) left.ok.1),
       );
       edges = λ t m. left.ok.0.edge t.entry t.point t.values m;
       within = omega (arith, edges, limit, c.requires.within);
@@ -57,8 +61,9 @@ returns-then-point-points-clause-worked g c =
       fault = left.fault;
     }
 
-pub returns-in-Call-clause-worked : goal.returns-in-Call-clause-worked
-returns-in-Call-clause-worked g c =
+-- the work on a call, whatever is answered of it
+called : (g : Over) (c : After-record_call g) → Worked g.S.PathSet.members (λ t. ⊥) c.record_call.result c.args.self.now c.record_call.new.self
+called g c =
     let old = c.args.self.now in
     let new = c.record_if_exit.new.self in
     let last = c.record_call.new.self in
@@ -81,29 +86,46 @@ returns-in-Call-clause-worked g c =
     asked.holds c.record_call.ensures.asked)
     asked
 
+pub returns-in_ok-record_call-in-Call-clause-worked : goal.returns-in_ok-record_call-in-Call-clause-worked
+returns-in_ok-record_call-in-Call-clause-worked g c =
+    let after = (goal.at.returns-in_ok-record_call-in-Call-clause-worked g c).After-record_call in
+    none_found g.S.PathSet.members _ _ _
+    (subst (λ r. Worked g.S.PathSet.members (λ t. ⊥) r c.args.self.now c.record_call.new.self) c.in_ok-record_call-in-Call.was (called g after))
+
+pub returns-in_err-record_call-in-Call-clause-worked : goal.returns-in_err-record_call-in-Call-clause-worked
+returns-in_err-record_call-in-Call-clause-worked g c =
+    let after = (goal.at.returns-in_err-record_call-in-Call-clause-worked g c).After-record_call in
+    let told = c.from_residual-in_err-record_call-in-Call.ensures.1 in
+    let failed = called g after in
+    failed_worked g.S.PathSet.members _ _ _ _ failed.edges failed.within failed.stays failed.fault _ told
+    (λ is. failed.many (c.in_err-record_call-in-Call.was ∙ ap Err (sym (fault_of _ _ _ told is))))
+
 -- the rest of the work goes on from the exit that is recorded
-rest : (g : Over) (c : In_ok-record_if_exit g) (r : Result Unit TableFault) (new : Table _ _ _)
-    → Worked g.S.PathSet.members (λ t. ⊥) r c.record_if_exit.new.self new → TookSame c.record_if_exit.new.self.found new.found
-    → OnOk r (IsLess g.S.PathSet.members c.record_if_exit.new.self new)
-    → Worked g.S.PathSet.members (λ t. ⊥) r c.args.self.now new × TookSame c.args.self.now.found new.found
-    × OnOk r (IsLess g.S.PathSet.members c.args.self.now new)
+rest : (g : Over) (c : In_ok-record_if_exit g) (r : Result (Option PathEdge) TableFault) (new : Table _ _ _)
+    → Worked g.S.PathSet.members (IsFoundBy r) r c.record_if_exit.new.self new → TookSame c.record_if_exit.new.self.found new.found
+    → OnOk r (IsLessBeside g.S.PathSet.members r c.record_if_exit.new.self new)
+    → Worked g.S.PathSet.members (IsFoundBy r) r c.args.self.now new × TookSame c.args.self.now.found new.found
+    × OnOk r (IsLessBeside g.S.PathSet.members r c.args.self.now new)
 rest g c r new worked taken less =
     let old = c.args.self.now in
     let mid = c.record_if_exit.new.self in
-    let left = c.in_ok-record_if_exit.ensures in (
-      then_worked g.S.PathSet.members (λ t. ⊥) (λ t. ⊥) r old mid new left.stays left.fault left.answers worked.holds worked,
+    let left = c.in_ok-record_if_exit.ensures in
+    let waits = ap (λ v. length v.items) left.pending in
+    let kept = ap (λ s. length (g.S.PathSet.members s)) left.edges in (
+      then_worked g.S.PathSet.members (IsFoundBy r) (IsFoundBy r) r old mid new left.stays left.fault left.answers worked.holds worked,
       (taken.0 ∙ left.taken.0, taken.1 ∙ left.taken.1),
-      still_less g.S.PathSet.members r old mid new left.pending left.edges less,
+      IfOk-weaker r _ _
+          (λ _ less. let (more, longer) = less in (omega (arith, waits, kept, more), omega (arith, kept, longer))) less,
     )
 
 pub returns-in_default : goal.returns-in_default
 returns-in_default g c =
     let last = c.expand_once.ensures in
     let all = rest g (goal.at.returns-in_default g c).In_ok-record_if_exit _ _ last.worked last.taken last.less in
-    record { worked = all.0; taken = all.1; less = all.2 }
+    record { worked = all.0; there = last.there; taken = all.1; less = all.2 }
 
 pub returns-in_default-2 : goal.returns-in_default-2
 returns-in_default-2 g c =
     let last = c.expand.ensures in
     let all = rest g (goal.at.returns-in_default-2 g c).In_ok-record_if_exit _ _ last.worked last.taken last.less in
-    record { worked = all.0; taken = all.1; less = all.2 }
+    record { worked = all.0; there = last.there; taken = all.1; less = all.2 }
