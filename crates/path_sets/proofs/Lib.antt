@@ -29,4 +29,5 @@ pub mod ChainLemmas
 pub mod InsertionLemmas
 pub mod CoverLemmas
 pub mod GatheredKeyLemmas
+pub mod GatherLemmas
 pub mod BatchLemmas

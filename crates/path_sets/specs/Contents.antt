@@ -13,6 +13,7 @@ use Rattle.path_sets.specs.Batches.{AllWithin, CoversEach, HasBatch, masks_in}
 use Rattle.path_sets.specs.Diagrams.{TakesGiven, merged_has}
 use Rattle.path_sets.specs.Edges.{edge_at}
 use Rattle.path_sets.specs.GatheredKeys.{AreWithin, mask_key_at, masks_of}
+use Rattle.path_sets.specs.Masks.{AddsPoint, bit_of}
 use Rattle.path_sets.specs.Members.{all_edges, Covers, PutsEdge}
 use Rattle.path_sets.specs.Triples.{Triple}
 
@@ -63,11 +64,16 @@ module _ {Alloc : Type 0} where
     pub within : AllWithin (diagrams_in merged) batches
     pub covers : CoversEach merged.nodes.kept.keys merged.roots.entries batches
 
-  -- the path edge of a key and a bit was nowhere, and now is in the masks; or it was somewhere, and the masks are the
-  -- same; the result says which
-  abbrev pub GathersEdge : Diagrams Alloc → GatheredKey → ℕ → List (MaskKey × ℕ) → List (MaskKey × ℕ) → Bool → Type 0
-  GathersEdge merged key bit old new added =
-      PutsEdge merged.nodes.kept.keys merged.roots.entries (edge_at (mask_key_at (diagrams_in merged) key) bit) old new added
+  -- The path edge of a key and a bit was nowhere, and now is in the masks; or it was somewhere, and the masks are the
+  -- same. The flag says which.
+  pub record GathersEdge (merged : Diagrams Alloc) (key : GatheredKey) (bit : ℕ) (old new : List (MaskKey × ℕ)) (added : Bool) : Type 0 where
+    pub puts : PutsEdge merged.nodes.kept.keys merged.roots.entries (edge_at (mask_key_at (diagrams_in merged) key) bit) old new added
+
+  -- the mask has the points that the diagrams have at the key, and one point more
+  abbrev pub IsFirstMask : Diagrams Alloc → GatheredKey → ℕ → ℕ → Type 0
+  IsFirstMask merged key bit mask =
+      (known : ℕ) × ((b : ℕ) → b < 64 → bit_of known b ≡ is_merged merged (edge_at (mask_key_at (diagrams_in merged) key) b))
+      × AddsPoint bit known mask true
 
   -- A point may be put into a mask of the batch: it is one of 64, the diagrams of its key and of all others are there,
   -- and what the diagrams have at the keys of the batch is in its masks.

@@ -1,19 +1,22 @@
 //! Gathered masks that go into the diagrams together.
 
-ghost use Rattle.std.specs.Prelude.{◌≡◌, [], None, Some, slice_get, IfOk, OnErr, IfSome, IsNone};
-ghost use Rattle.std.specs.Map.{keys_of, lookup};
+ghost use Rattle.std.specs.Prelude.{◌≡◌, ◌<◌, [], true, Some, slice_get, length, IfOk, OnErr};
+ghost use Rattle.std.specs.Prelude.{IfSome, IsNone};
+ghost use Rattle.std.specs.Map.{keys_of};
 ghost use Rattle.std.proofs.lemmas.Map.Keys.{IsDistinct-prop};
 ghost use Rattle.indexmap.specs.IndexMap.{IsUnique, keys};
 ghost use Rattle.language.specs.Lists.{Member};
-ghost use Rattle.path_sets.specs.GatheredKeys.{gathered_key, gathered_key_eq};
+ghost use Rattle.path_sets.specs.Edges.{edge_at};
+ghost use Rattle.path_sets.specs.GatheredKeys.{gathered_key, gathered_key_eq, mask_key_at};
 
 use crate::diagrams::diagrams::Diagrams;
 use crate::diagrams::gathered_key::GatheredKey;
 use crate::points::halves::Halves;
 use crate::points::mask::add_point;
 use crate::points::masks::{Masks, add_point_at};
-use crate::points::seek::{find, insert_new, is_at};
+use crate::points::seek::{find, is_at};
 use indexmap::IndexMap;
+use indexmap::map::Entry;
 use language::Word;
 use std::alloc::{AllocError, Allocator};
 
@@ -26,7 +29,7 @@ pub(crate) struct Batch<A: Allocator> {
 
 impl<A: Allocator + Copy> Batch<A> {
     ghost use Rattle.path_sets.specs.Contents.{AreCovered, batch_masks, GathersEdge, MayGather};
-    ghost use Rattle.path_sets.specs.Contents.{NoKeyBut};
+    ghost use Rattle.path_sets.specs.Contents.{diagrams_in, is_merged, IsFirstMask, NoKeyBut};
 
     /// No masks; this takes no memory yet.
     pub(crate) fn new(alloc: A) -> Self
@@ -46,30 +49,21 @@ impl<A: Allocator + Copy> Batch<A> {
         })
     }
 
-    /// Gathers a mask with the points that the diagrams have at a key without one, and a point. Returns whether the
-    /// point is new; if it is not, no mask is gathered.
-    fn start_mask(
-        &mut self,
-        waiting: &mut usize,
-        merged: &Diagrams<A>,
-        key: GatheredKey,
-        bit: usize,
-    ) -> Result<bool, AllocError>
-        requires none { lookup (gathered_key_eq key) self.old.masks.entries ≡ None }
-        requires may { MayGather merged.now key bit self.old }
-        ensures ok { IfOk result (GathersEdge merged.now key bit (batch_masks merged.now self.old)
-            (batch_masks merged.now self.new)) }
-        ensures err { OnErr result (self.new.masks.entries ≡ self.old.masks.entries) }
-        ensures covers { AreCovered merged.now (batch_masks merged.now self.new) }
-        ensures keys { NoKeyBut key self.old.masks.entries self.new.masks.entries }
+    /// The points that a valuation is at by a diagram, with one more; `None` if it is at that point already.
+    fn first_mask(merged: &Diagrams<A>, diagram: usize, values: Word, bit: usize) -> Option<u64>
+        requires diagram { diagram < length (diagrams_in merged.now) }
+        requires bit { bit < 64 }
+        ensures some { IfSome result (IsFirstMask merged.now (gathered_key diagram values) bit) }
+        ensures none { IsNone result → is_merged merged.now
+            (edge_at (mask_key_at (diagrams_in merged.now) (gathered_key diagram values)) bit)
+            ≡ true }
     {
-        let mut mask = merged.points_at(key.diagram, key.values.word());
-        if !add_point(&mut mask, bit) {
-            return Ok(false);
+        let mut mask = merged.points_at(diagram, values);
+        if add_point(&mut mask, bit) {
+            Some(mask)
+        } else {
+            None
         }
-        insert_new(&mut self.masks, key, mask)?;
-        *waiting = waiting.saturating_add(1);
-        Ok(true)
     }
 
     /// Puts a point into the mask at the index of its key. Returns whether the point is new.
@@ -111,14 +105,17 @@ impl<A: Allocator + Copy> Batch<A> {
             diagram,
             values: Halves::new(values),
         };
-        match find(&self.masks, *last, &key) {
-            Some(at) => {
-                *last = at;
-                Ok(self.gather_at(merged, key, at, bit))
-            }
-            None => {
-                *last = self.masks.len();
-                self.start_mask(waiting, merged, key, bit)
+        let entry = self.masks.entry(key)?;
+        *last = entry.index();
+        match entry {
+            Entry::Occupied(known) => Ok(add_point(known.into_mut(), bit)),
+            Entry::Vacant(new) => {
+                let Some(mask) = Batch::first_mask(merged, diagram, values, bit) else {
+                    return Ok(false);
+                };
+                new.insert(mask);
+                *waiting = waiting.saturating_add(1);
+                Ok(true)
             }
         }
     }

@@ -1,6 +1,6 @@
 //! A set of path edges that keeps a decision diagram for each entry and block of points.
 
-ghost use Rattle.std.specs.Prelude.{◌≡◌, ◌<◌, None, Some, slice_get, length, IfOk, IsTrue, OnOk};
+ghost use Rattle.std.specs.Prelude.{◌≡◌, ◌<◌, ◌↔◌, None, Some, slice_get, length, IfOk, IsTrue, OnOk};
 ghost use Rattle.language.specs.Lists.{Member, NoneTwice, NoneTwice-prop};
 ghost use Rattle.language.specs.Words.{word_bits};
 ghost use Rattle.path_sets.specs.declared.diagrams.diagram_edges.LastDiagram.{LastDiagram};
@@ -89,7 +89,7 @@ impl<A: Allocator + Copy> DiagramEdges<A> {
     /// Whether the last path edge is of the diagram of an entry and a block.
     #[inline(always)]
     fn is_last(&self, entry: Word, block: usize) -> bool
-        ensures { IsTrue result → IsLastOf entry block self.now.last }
+        ensures { IsTrue result ↔ IsLastOf entry block self.now.last }
     {
         match &self.last {
             Some(last) => last.entry == entry && last.block == block,

@@ -24,13 +24,24 @@ use indexmap::IndexMap;
 use language::Word;
 use std::alloc::{AllocError, Allocator};
 
+/// In how many slots the blocks are.
+const SLOTS: usize = 4;
+
+/// The slot of a diagram's block; blocks that follow one another are in different slots.
+fn slot_of(diagram: &DiagramKey) -> usize
+    ensures { result ≡ diagram.now.block % 4 }
+{
+    diagram.block % SLOTS
+}
+
 /// Diagrams, which share their nodes. Each gives each valuation the mask of its points.
 #[derive(Drop)]
 pub(crate) struct Diagrams<A: Allocator> {
     pub(crate) nodes: Quads<A>,
     pub(crate) roots: Roots<A>,
-    /// The index of the diagram that was used last, which is usually that of the next path edge.
-    last: usize,
+    /// For each slot the index of the diagram that was used last of its blocks. The next path edge of such a block is
+    /// usually of the same diagram.
+    last: [usize; SLOTS],
     ghost unique: { IsUnique diagram_eq roots } by { IsDistinct-prop diagram_eq (keys roots) },
     ghost numbers: { HaveNumbers nodes.kept.keys roots.entries },
 }
@@ -45,7 +56,7 @@ impl<A: Allocator + Copy> Diagrams<A> {
         Diagrams {
             nodes: Quads::new(alloc),
             roots: IndexMap::new(alloc),
-            last: 0,
+            last: [0; SLOTS],
         }
     }
 
@@ -58,7 +69,7 @@ impl<A: Allocator + Copy> Diagrams<A> {
         Ok(Diagrams {
             nodes,
             roots: self.roots.clone()?,
-            last: 0,
+            last: [0; SLOTS],
         })
     }
 
@@ -68,7 +79,7 @@ impl<A: Allocator + Copy> Diagrams<A> {
         ensures none { IsNone result
             → lookup (diagram_eq diagram.now) self.now.roots.entries ≡ None }
     {
-        find(&self.roots, self.last, diagram)
+        find(&self.roots, self.last[slot_of(diagram)], diagram)
     }
 
     /// The points that a valuation is at by the diagram at an index.
@@ -89,8 +100,9 @@ impl<A: Allocator + Copy> Diagrams<A> {
         ensures at { IfOk result (λ at. slice_get (keys self.new.roots) at ≡ Some diagram) }
         ensures stay { RootsStay self.old.roots.entries self.new.roots.entries }
     {
-        let at = index_of(&mut self.roots, self.last, diagram)?;
-        self.last = at;
+        let slot = slot_of(&diagram);
+        let at = index_of(&mut self.roots, self.last[slot], diagram)?;
+        self.last[slot] = at;
         Ok(at)
     }
 
@@ -120,7 +132,7 @@ impl<A: Allocator + Copy> Diagrams<A> {
     {
         let (nodes, number) = one_bit_diagram(
             &self.nodes,
-            root(&self.roots, self.last, diagram),
+            root(&self.roots, self.last[slot_of(diagram)], diagram),
             bit,
         )?;
         inner_nodes(&nodes, number)

@@ -1,7 +1,7 @@
 //! Maps in which the key that was used last is tried first.
 
 ghost use Rattle.std.specs.Prelude.{◌≡◌, ◌<◌, ◌∷◌, ◌++◌, [], None, Some, slice_get, IfSome, IsNone};
-ghost use Rattle.std.specs.Prelude.{OnOk, OnErr, IsTrue};
+ghost use Rattle.std.specs.Prelude.{◌↔◌, OnOk, OnErr, IsTrue};
 ghost use Rattle.std.specs.Map.{lookup};
 ghost use Rattle.indexmap.specs.IndexMap.{IsUnique, index_map_len, keys};
 ghost use Rattle.path_sets.specs.Keys.{IsExact};
@@ -21,7 +21,7 @@ pub(crate) fn is_at<K: Eq + Hash, V, A: Allocator + Copy>(
     key: &K,
 ) -> bool
     requires { IsExact K.eq }
-    ensures { IsTrue result → slice_get (keys map.now) at ≡ Some key.now }
+    ensures { IsTrue result ↔ (slice_get (keys map.now) at ≡ Some key.now) }
 {
     match map.get_index(at) {
         Some((used, _)) => used == key,

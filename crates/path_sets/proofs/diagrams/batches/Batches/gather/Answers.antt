@@ -1,12 +1,12 @@
-use Rattle.std.proofs.Common.{◌≡◌, Some, slice_get, slice_set, refl, ◌∙◌, subst}
+use Rattle.std.proofs.Common.{◌≡◌, Some, slice_get, slice_set, refl, subst}
 use Rattle.std.proofs.lemmas.Option.{slice_get_read}
 use Rattle.std.proofs.lemmas.Result.{IfOk-weaker, on_err_weaker}
 use Rattle.indexmap.specs.IndexMap.{keys}
-use Rattle.path_sets.specs.Batches.{AllWithin, CoversEach, masks_in}
-use Rattle.path_sets.specs.Edges.{edge_at}
-use Rattle.path_sets.specs.Members.{Covers, PutsEdge}
-use Rattle.path_sets.specs.GatheredKeys.{AreWithin, mask_key_at, masks_of}
-use Rattle.path_sets.proofs.BatchLemmas.{covers_as, covers_put, home_put, puts_in, same_masks, gathered_is, within_as, within_put}
+use Rattle.path_sets.specs.Batches.{masks_in}
+use Rattle.path_sets.specs.Contents.{GathersEdge}
+use Rattle.path_sets.specs.Members.{Covers}
+use Rattle.path_sets.specs.GatheredKeys.{AreWithin, masks_of}
+use Rattle.path_sets.proofs.BatchLemmas.{covers_put, home_put, puts_in, same_masks, gathered_is, within_put}
 use Rattle.path_sets.proofs.diagrams.batches.Batches.gather.Given as given
 use Rattle.path_sets.proofs.diagrams.batches.Batches.gather.Goals as goal
 use Rattle.path_sets.proofs.diagrams.batches.Batches.gather.Goals.{After-index_mut}
@@ -47,14 +47,14 @@ returns-clause-ok g c =
     let ns = m.nodes.kept.keys in
     let rs = m.roots.entries in
     let diagrams = keys m.roots in
-    let x = edge_at (mask_key_at diagrams c.args.key) c.args.bit in
     let b = c.index_mut.result.now in
     let w = c.gather.new.self in
-    let new = masks_in diagrams (slice_set bs k w) in
-    IfOk-weaker c.gather.result (PutsEdge ns rs x (masks_of diagrams b.masks.entries) (masks_of diagrams w.masks.entries))
-    (PutsEdge ns rs x (masks_in diagrams c.args.self.now.batches.items) new)
-    (puts_in bs k b w (at g i) c.args.key c.gather.ensures.keys s.homes.items ns rs c.args.bit s.home c.requires.batch.0
-    c.requires.fit.within m.unique c.requires.diagram c.requires.bit) c.gather.ensures.ok
+    IfOk-weaker c.gather.result (GathersEdge m c.args.key c.args.bit (masks_of diagrams b.masks.entries) (masks_of diagrams w.masks.entries))
+    (GathersEdge m c.args.key c.args.bit (masks_in diagrams bs) (masks_in diagrams (slice_set bs k w)))
+    (λ added gathers. record {
+      puts = puts_in bs k b w (at g i) c.args.key c.gather.ensures.keys s.homes.items ns rs c.args.bit s.home c.requires.batch.0
+          c.requires.fit.within m.unique c.requires.diagram c.requires.bit added gathers.puts;
+    }) c.gather.ensures.ok
 
 pub returns-clause-err : goal.returns-clause-err
 returns-clause-err g c =

@@ -69,7 +69,7 @@ module _ (g : given.Over) (c : In_ok-added g) where
       (edge_at (mask_key_at (keys c.turn_to.new.self.merged.roots) key) c.key_and_bit-mask_key.result.1) old new b
   puts b is = subst (PutsEdge c.turn_to.new.self.merged.nodes.kept.keys c.turn_to.new.self.merged.roots.entries
       (edge_at (mask_key_at (keys c.turn_to.new.self.merged.roots) key) c.key_and_bit-mask_key.result.1) old new)
-      is c.in_ok-added.ensures.ok
+      is c.in_ok-added.ensures.ok.puts
 
 -- the last diagram has its batch still
 placed : (g : given.Over) (c : In_ok-added g) → (l : LastDiagram) → c.turn_to.new.self.last ≡ Some l

@@ -1,0 +1,106 @@
+-- A point is gathered at a key that has a mask, or at one without.
+use Rattle.std.proofs.Common.{◌≡◌, ℕ, suc, zero, Bool, true, false, cond, List, [], ◌∷◌, ◌++◌, Some, None, slice_get, if◌then◌else◌}
+use Rattle.std.proofs.Common.{inl, refl, sym, ap, ◌∙◌, subst}
+use Rattle.std.specs.Map.{keys_of, lookup, values_of}
+use Rattle.std.proofs.lemmas.Option.{none-some}
+use Rattle.indexmap.specs.IndexMap.{insert_entry, set_value_at}
+use Rattle.indexmap.proofs.CallerLemmas.{insert_entry-new, keys-with_value_at}
+use Rattle.language.specs.Lists.{Member}
+use Rattle.path_sets.specs.declared.diagrams.batch.Batch.{Batch}
+use Rattle.path_sets.specs.declared.diagrams.diagrams.Diagrams.{Diagrams}
+use Rattle.path_sets.specs.declared.diagrams.gathered_key.GatheredKey.{GatheredKey}
+use Rattle.path_sets.specs.declared.points.mask_key.MaskKey.{MaskKey}
+use Rattle.path_sets.specs.Contents.{AreCovered, batch_masks, diagrams_in, GathersEdge, IsFirstMask, MayGather, NoKeyBut}
+use Rattle.path_sets.specs.Edges.{edge_at, mask_edges, mask_key_eq}
+use Rattle.path_sets.specs.GatheredKeys.{gathered_key_eq, mask_key_at, masks_of}
+use Rattle.path_sets.specs.Inserts.{PutsIn}
+use Rattle.path_sets.specs.Masks.{AddsPoint, AddsPointAt}
+use Rattle.path_sets.proofs.CoverLemmas.{covers_begun, covers_marked, one_more_key, puts_begun, puts_marked}
+use Rattle.path_sets.proofs.GatheredKeyLemmas.{key_masks, keys_masks, marked_masks, none_there, push_masks, same_gathered_key}
+use Rattle.path_sets.proofs.PlaceLemmas.{at_index}
+
+module _ {K V : Type 0} (eq : K → K → Bool) (same : (x y : K) → eq x y ≡ true → x ≡ y) (k : K) (was now : V) where
+  -- the value of the key is at an index, and there it is set
+  abbrev IsSetIn : List (K × V) → List (K × V) → Type 0
+  IsSetIn old new =
+      (i : ℕ) × (slice_get (keys_of old) i ≡ Some k) × (slice_get (values_of old) i ≡ Some was) × (new ≡ set_value_at old i now)
+
+  -- a value that is put at a key that has one is set at the key's index
+  pub set_at_key : (es : List (K × V)) → lookup (eq k) es ≡ Some was → IsSetIn es (insert_entry eq es k now)
+  set_at_key [] had = absurd (none-some was had)
+  set_at_key (e ∷ es) had = by (eq k e.0) refl had (set_at_key es)
+    where
+      by : (b : Bool) → eq k e.0 ≡ b → cond b (Some e.1) (lookup (eq k) es) ≡ Some was
+          → (lookup (eq k) es ≡ Some was → IsSetIn es (insert_entry eq es k now))
+          → IsSetIn (e ∷ es) (insert_entry eq (e ∷ es) k now)
+      by true is here rest =
+          (zero, ap Some (sym (same k e.0 is)), here, ap (λ b. if b then (e.0, now) ∷ es else e ∷ insert_entry eq es k now) is)
+      by false is here rest =
+          let (i, at, value, set) = rest here in
+          (suc i, at, value, ap (λ b. if b then (e.0, now) ∷ es else e ∷ insert_entry eq es k now) is ∙ ap (λ l. e ∷ l) set)
+
+module _ {A : Type 0} {merged : Diagrams A} {key : GatheredKey} {bit : ℕ} {batch : Batch A} (may : MayGather merged key bit batch)
+    (new : List (GatheredKey × ℕ)) where
+  abbrev old : List (GatheredKey × ℕ)
+  old = batch.masks.entries
+
+  abbrev mask_key : MaskKey
+  mask_key = mask_key_at (diagrams_in merged) key
+
+  -- the point is put into the mask at an index, which is that of the key
+  module _ (at : ℕ) (here : slice_get (keys_of old) at ≡ Some key) (added : Bool) (adds : AddsPointAt at bit old new added) where
+    same_keys : keys_of new ≡ keys_of old
+    same_keys = ap keys_of adds.is ∙ keys-with_value_at batch.masks at adds.marked
+
+    puts : PutsIn (edge_at mask_key bit) (mask_edges (batch_masks merged batch)) (mask_edges (masks_of (diagrams_in merged) new)) added
+    puts = marked_masks (diagrams_in merged) merged.unique old new at key bit may.small may.within batch.unique here added adds
+
+    pub gathers_at : GathersEdge merged key bit (batch_masks merged batch) (masks_of (diagrams_in merged) new) added
+    gathers_at = record {
+      puts = puts_marked _ _ mask_key bit may.small _ (masks_of (diagrams_in merged) new) may.covers
+          (key_masks (diagrams_in merged) old key (at_index (keys_of old) key at here)) added puts;
+    }
+
+    pub covers_at : AreCovered merged (masks_of (diagrams_in merged) new)
+    covers_at = covers_marked _ _ mask_key bit may.small _ _ may.covers added puts (keys_masks (diagrams_in merged) old new same_keys)
+
+    pub keys_at : NoKeyBut key old new
+    keys_at other m = inl (subst (Member other) same_keys m)
+
+  -- the key has a mask, to which the point is added
+  module _ (added : Bool) (mask : ℕ) (put : new ≡ insert_entry gathered_key_eq old key mask) (was : ℕ)
+      (had : lookup (gathered_key_eq key) old ≡ Some was) (adds : AddsPoint bit was mask added) where
+    place : (i : ℕ) × (slice_get (keys_of old) i ≡ Some key) × AddsPointAt i bit old new added
+    place =
+        let (i, at, value, set) = set_at_key gathered_key_eq same_gathered_key key was mask old had in
+        (i, at, record { mask = was; marked = mask; was = value; is = put ∙ set; marks = adds })
+
+    pub gathers_more : GathersEdge merged key bit (batch_masks merged batch) (masks_of (diagrams_in merged) new) added
+    gathers_more = gathers_at place.0 place.1 added place.2
+
+    pub covers_more : AreCovered merged (masks_of (diagrams_in merged) new)
+    covers_more = covers_at place.0 place.1 added place.2
+
+    pub keys_more : NoKeyBut key old new
+    keys_more = keys_at place.0 place.1 added place.2
+
+  -- the key has none, and gets its first
+  module _ (mask : ℕ) (put : new ≡ insert_entry gathered_key_eq old key mask) (without : lookup (gathered_key_eq key) old ≡ None) where
+    appended : new ≡ old ++ (key, mask) ∷ []
+    appended = put ∙ insert_entry-new gathered_key_eq batch.masks key mask without
+
+    made : masks_of (diagrams_in merged) new ≡ batch_masks merged batch ++ (mask_key, mask) ∷ []
+    made = ap (masks_of (diagrams_in merged)) appended ∙ push_masks (diagrams_in merged) old ((key, mask) ∷ [])
+
+    none : lookup (mask_key_eq mask_key) (batch_masks merged batch) ≡ None
+    none = none_there (diagrams_in merged) merged.unique old key may.diagram may.within without
+
+    pub keys_first : NoKeyBut key old new
+    keys_first other m = one_more_key old key other mask (subst (λ es. Member other (keys_of es)) appended m)
+
+    module _ (first : IsFirstMask merged key bit mask) where
+      pub gathers_first : GathersEdge merged key bit (batch_masks merged batch) (masks_of (diagrams_in merged) new) true
+      gathers_first = record { puts = puts_begun _ _ mask_key bit may.small _ _ may.covers first.0 mask none first.1 first.2 made }
+
+      pub covers_first : AreCovered merged (masks_of (diagrams_in merged) new)
+      covers_first = covers_begun _ _ mask_key bit may.small _ _ may.covers first.0 mask none first.1 first.2 made
