@@ -25,3 +25,4 @@ pub mod Steps
 pub mod Once
 pub mod TabulationLemmas
 pub mod SortedLemmas
+pub mod ReadingLemmas

@@ -15,11 +15,25 @@ module _ {A : Type 0} where
         λ z n. elim n [ inl f ↦ inr (inl f) | inr k ↦ elim (others z k) [ inl f ↦ inl f | inr l ↦ inr (inr l) ] ],
       )
 
+  -- the others are without it
+  apart : (xs ys zs : List A) (x : A) → NoneTwice (x ∷ xs) → ((y : A) → Member y (x ∷ xs) → Member y ys)
+      → ((y : A) → Member y ys → (y ≡ x) ⊎ Member y zs) → (y : A) → Member y xs → Member y zs
+  apart xs ys zs x once all others y m =
+      elim (others y (all y (inr m))) [ inl e ↦ absurd (once.0 (subst (λ z. Member z xs) e m)) | inr k ↦ k ]
+
   pub no_longer : (xs ys : List A) → NoneTwice xs → ((x : A) → Member x xs → Member x ys) → length xs ≤ length ys
   no_longer [] ys once all = omega arith
   no_longer (x ∷ xs) ys once all =
       let (zs, long, others) = without x ys (all x (inl refl)) in
-      let rest =
-      no_longer xs zs once.1
-      (λ y m. elim (others y (all y (inr m))) [ inl e ↦ absurd (once.0 (subst (λ z. Member z xs) e m)) | inr k ↦ k ]) in
+      let rest = no_longer xs zs once.1 (apart xs ys zs x once all others) in
       omega (arith, long, rest)
+
+  -- a list with nothing twice that has only members of one that is not longer has all of them
+  pub all_there : (xs ys : List A) → NoneTwice xs → ((x : A) → Member x xs → Member x ys) → length ys ≤ length xs
+      → (y : A) → Member y ys → Member y xs
+  all_there [] [] once all short y m = m
+  all_there [] (z ∷ ys) once all short y m = absurd (omega (arith, short))
+  all_there (x ∷ xs) ys once all short y m =
+      let (zs, long, others) = without x ys (all x (inl refl)) in
+      let rest = all_there xs zs once.1 (apart xs ys zs x once all others) (omega (arith, long, short)) in
+      elim (others y m) [ inl e ↦ inl e | inr k ↦ inr (rest y k) ]

@@ -9,3 +9,4 @@ pub mod Tables
 pub mod Effects
 pub mod Tabulated
 pub mod Together
+pub mod Readings
