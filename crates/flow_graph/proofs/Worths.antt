@@ -9,7 +9,9 @@ use Rattle.language.specs.Value.{Place, global, local, bit, look_up, operate, va
 use Rattle.language.specs.Resolve.{Scope, place_of, resolve_expression}
 use Rattle.flow_graph.specs.Bits.{bit_of, coded}
 use Rattle.flow_graph.specs.Located.{bit_of_place, read_of, located, worth}
+use Rattle.flow_graph.specs.Formulas.{bit_of_variable}
 use Rattle.flow_graph.proofs.Rows.{first_bit, later_bit}
+use Rattle.std.proofs.lemmas.Option.{none-some, same_Some}
 
 -- a bit of the number of values is the value there, and 0 past the end
 pub coded_bit : (bs : List Bool) (i : ℕ) → bit_of (coded bs) i ≡ bit bs i
@@ -40,3 +42,8 @@ worth_is_value s gs ls (negation e) h = ap not (worth_is_value s gs ls e h)
 worth_is_value s gs ls (two o a b) h =
     ap (λ v. operate o v (worth (bit_of (coded (gs ++ ls))) (located s b))) (worth_is_value s gs ls a h)
     ∙ ap (operate o (value_of gs ls (resolve_expression s a))) (worth_is_value s gs ls b h)
+
+-- a variable has the value of its bit
+pub read_bit : (e : Expression ℕ) (b n : ℕ) → bit_of_variable e ≡ Some b → bit_of n b ≡ worth (bit_of n) e
+read_bit (var x) b n is = ap (bit_of n) (sym (same_Some x b is))
+read_bit _ b n is = absurd (none-some b is)

@@ -1,6 +1,6 @@
 -- What compiled expressions and right sides say.
 use Rattle.std.specs.Prelude.{◌≡◌, ℕ, Bool, false, Option, Some, None, List, [], ◌∷◌, ◌++◌, length, map, slice_get}
-use Rattle.language.specs.Tree.{Name, Expression, RightSide, any, value}
+use Rattle.language.specs.Tree.{Name, Expression, RightSide, any, value, var}
 use Rattle.language.specs.Value.{value_of}
 use Rattle.language.specs.Resolve.{Scope, resolve_expression}
 use Rattle.flow_graph.specs.Bits.{bit_of, coded}
@@ -9,7 +9,7 @@ use Rattle.flow_graph.specs.Postfix.{after_steps, top}
 use Rattle.flow_graph.specs.Tables.{table_says, HaveRow}
 use Rattle.flow_graph.specs.Windows.{seen}
 use Rattle.flow_graph.specs.declared.formula.Formula.{Formula}
-use Rattle.flow_graph.specs.declared.formula.Formula.TheVariants.{Code, Cases as CasesOf, Table as Tabled}
+use Rattle.flow_graph.specs.declared.formula.Formula.TheVariants.{Code, Cases as CasesOf, Table as Tabled, Bit as BitOf}
 use Rattle.flow_graph.specs.declared.outputs.Outputs.{Outputs}
 use Rattle.flow_graph.specs.declared.outputs.Outputs.TheVariants.{One, More}
 use Rattle.flow_graph.specs.declared.case_tables.CaseTables.{CaseTables}
@@ -44,9 +44,15 @@ case_tables_worth cases values = case_worth (slice_get cases.cases.items (coded 
 abbrev pub AreTruthTablesOf : {Alloc : Type 0} → CaseTables Alloc → Expression ℕ → Type 0
 AreTruthTablesOf cases expression = (values : ℕ) → case_tables_worth cases values ≡ worth (bit_of values) expression
 
--- the value of the formula for these values: the table's output in their row, that of the table for the picked bits'
--- row, or what its steps leave on the stack
+-- the bit of an expression that is a variable
+abbrev pub bit_of_variable : Expression ℕ → Option ℕ
+bit_of_variable (var bit) = Some bit
+bit_of_variable expression = None
+
+-- the value of the formula for these values: the bit's, the table's output in their row, that of the table for the
+-- picked bits' row, or what its steps leave on the stack
 abbrev pub says : {Alloc : Type 0} → Formula Alloc → ℕ → Bool
+says (BitOf variable) values = bit_of values variable.bit
 says (Tabled table) values = table_worth table values
 says (CasesOf cases) values = case_tables_worth cases values
 says (Code p) values = top (after_steps (bit_of values) p.steps.items [])
