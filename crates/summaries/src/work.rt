@@ -10,7 +10,7 @@ ghost use Rattle.flow_graph.specs.declared.flow.Flow.TheVariants as flow;
 ghost use Rattle.summaries.specs.declared.due.Due.TheVariants.{Entry};
 ghost use Rattle.summaries.specs.Mails.{summary_due};
 ghost use Rattle.summaries.specs.Found.{path_edge, HasExit};
-ghost use Rattle.summaries.specs.Grows.{triple_of, IsAt, IsFoundBy, IsNoCall, IsOther};
+ghost use Rattle.summaries.specs.Grows.{triple_of, IsAt, IsFoundBy, IsNext, IsNoCall, IsOther};
 ghost use Rattle.summaries.specs.Tables.{answers_of, graph_of, limit_of, HasItsExit, HasAsked};
 ghost use Rattle.summaries.specs.Tables.{Holds};
 ghost use Rattle.summaries.specs.Tables.{AddsEdges, FindsEdge, HasAllNext, Worked, StaysAs, IsLess};
@@ -127,8 +127,8 @@ impl<'g, G: Allocator, A: Allocator + Copy, S: PathSet<A>> Table<'g, G, A, S> {
 
     /// Works on an edge that is not pending: adds the edges that it leads to, and gives the messages that it makes due. The
     /// edge that the first choice leads to is returned, if it is new; the others that are new become pending.
-    // What few edges need is not inlined, and takes the parts of an edge: a struct that is passed to such a function has a
-    // place on the stack that is filled for every edge.
+    // What few edges need is not inlined. It takes the parts of an edge and returns none: a struct that is passed to such a
+    // function or returned by it has a place on the stack that is filled for every edge.
     #[inline(always)]
     fn work(&mut self, edge: PathEdge) -> Result<Option<PathEdge>, TableFault>
         requires edge { Member (triple_of edge) (S.members self.old.edges) }
@@ -153,7 +153,10 @@ impl<'g, G: Allocator, A: Allocator + Copy, S: PathSet<A>> Table<'g, G, A, S> {
                 self.record_call(entry, point, values, call)?;
                 Ok(None)
             }
-            flow if has_many_choices(flow) => self.expand_once(flow, entry, point, values),
+            flow if has_many_choices(flow) => {
+                self.expand_once(flow, entry, point, values)?;
+                Ok(None)
+            }
             flow => self.expand(flow, edge),
         }
     }
@@ -239,6 +242,29 @@ impl<'g, G: Allocator, A: Allocator + Copy, S: PathSet<A>> Table<'g, G, A, S> {
         frontier.reach_others(flow, edge)
     }
 
+    /// Adds where the run continues from an edge, if it does, and makes it pending, if it is new.
+    fn reach_next(&mut self, edge: PathEdge, next: Option<(Point, Word)>) -> Result<(), TableFault>
+        requires within { length (S.members self.old.edges) ≤ limit_of self.old }
+        ensures { AddsEdges S.members (IsAt edge next) result self.old self.new }
+    {
+        let mut frontier = Frontier {
+            edges: &mut self.edges,
+            pending: &mut self.found.pending,
+            limit: self.limit,
+        };
+        frontier.reach_next(edge, next)
+    }
+
+    /// Adds the edges that each choice leads to from an edge; those that are new become pending.
+    fn reach_all(&mut self, flow: &Flow<G>, edge: PathEdge) -> Result<(), TableFault>
+        requires within { length (S.members self.old.edges) ≤ limit_of self.old }
+        ensures { AddsEdges S.members (IsNext flow.now edge) result self.old self.new }
+    {
+        let (next, more) = flow.choose(edge.values, 0);
+        self.reach_next(edge, next)?;
+        self.expand_others(flow, edge, more)
+    }
+
     /// Adds the edges that each choice of many leads to from an edge, unless this was done for an edge that choice 0 leads
     /// to the same: then each choice does.
     #[inline(never)]
@@ -248,7 +274,7 @@ impl<'g, G: Allocator, A: Allocator + Copy, S: PathSet<A>> Table<'g, G, A, S> {
         entry: Word,
         point: Point,
         values: Word,
-    ) -> Result<Option<PathEdge>, TableFault>
+    ) -> Result<(), TableFault>
         requires flow { slice_get (flows_of (graph_of self.old)) point ≡ Some flow.now }
         requires no_call { IsNoCall flow.now }
         requires many { 2 ≤ last_of flow.now }
@@ -256,10 +282,9 @@ impl<'g, G: Allocator, A: Allocator + Copy, S: PathSet<A>> Table<'g, G, A, S> {
         requires edge { Member (triple entry point values) (S.members self.old.edges) }
         requires holds { Holds S.members (λ t. t ≡ triple entry point values) self.old }
         requires within { length (S.members self.old.edges) ≤ limit_of self.old }
-        ensures worked { Worked S.members (IsFoundBy result) result self.old self.new }
-        ensures there { IsThere S.members result self.new }
+        ensures worked { Worked S.members (λ t. ⊥) result self.old self.new }
         ensures taken { TookSame self.old.found self.new.found }
-        ensures less { OnOk result (IsLessBeside S.members result self.old self.new) }
+        ensures less { OnOk result (IsLess S.members self.old self.new) }
     {
         let edge = PathEdge {
             entry,
@@ -267,14 +292,14 @@ impl<'g, G: Allocator, A: Allocator + Copy, S: PathSet<A>> Table<'g, G, A, S> {
             values,
         };
         let Some(led) = expansion_key(flow, edge) else {
-            return self.expand(flow, edge);
+            return self.reach_all(flow, edge);
         };
         if self.found.expanded.contains(&led) {
-            return Ok(None);
+            return Ok(());
         }
-        let found = self.expand(flow, edge)?;
+        self.reach_all(flow, edge)?;
         self.found.expanded.insert(led)?;
-        Ok(found)
+        Ok(())
     }
 
     /// Lets a caller enter the procedure, unless it has: its start is reached, and the caller gets the summaries known.

@@ -20,7 +20,7 @@ use Rattle.summaries.proofs.AsideLemmas.{none_aside, none_found, nothing}
 use Rattle.std.proofs.lemmas.Result.{IfOk-weaker}
 use Rattle.summaries.proofs.table.Table.work.Goals as goal
 use Rattle.path_sets.specs.EdgeLimits.{most_of}
-use Rattle.std.specs.Result.{OnOk}
+use Rattle.path_sets.specs.Triples.{Triple}
 
 pub returns-in_err-record_if_exit-clause-worked : goal.returns-in_err-record_if_exit-clause-worked
 returns-in_err-record_if_exit-clause-worked g c =
@@ -101,31 +101,59 @@ returns-in_err-record_call-in-Call-clause-worked g c =
     (λ is. failed.many (c.in_err-record_call-in-Call.was ∙ ap Err (sym (fault_of _ _ _ told is))))
 
 -- the rest of the work goes on from the exit that is recorded
-rest : (g : Over) (c : In_ok-record_if_exit g) (r : Result (Option PathEdge) TableFault) (new : Table _ _ _)
-    → Worked g.S.PathSet.members (IsFoundBy r) r c.record_if_exit.new.self new → TookSame c.record_if_exit.new.self.found new.found
-    → OnOk r (IsLessBeside g.S.PathSet.members r c.record_if_exit.new.self new)
-    → Worked g.S.PathSet.members (IsFoundBy r) r c.args.self.now new × TookSame c.args.self.now.found new.found
-    × OnOk r (IsLessBeside g.S.PathSet.members r c.args.self.now new)
-rest g c r new worked taken less =
-    let old = c.args.self.now in
-    let mid = c.record_if_exit.new.self in
-    let left = c.in_ok-record_if_exit.ensures in
-    let waits = ap (λ v. length v.items) left.pending in
-    let kept = ap (λ s. length (g.S.PathSet.members s)) left.edges in (
-      then_worked g.S.PathSet.members (IsFoundBy r) (IsFoundBy r) r old mid new left.stays left.fault left.answers worked.holds worked,
+rest : (g : Over) (c : In_ok-record_if_exit g) {T : Type 0} (Aside : Triple → Type 0) (r : Result T TableFault) (new : Table _ _ _)
+    → Worked g.S.PathSet.members Aside r c.record_if_exit.new.self new → TookSame c.record_if_exit.new.self.found new.found
+    → Worked g.S.PathSet.members Aside r c.args.self.now new × TookSame c.args.self.now.found new.found
+rest g c Aside r new worked taken =
+    let left = c.in_ok-record_if_exit.ensures in (
+      then_worked g.S.PathSet.members Aside Aside r c.args.self.now c.record_if_exit.new.self new left.stays left.fault left.answers
+          worked.holds worked,
       (taken.0 ∙ left.taken.0, taken.1 ∙ left.taken.1),
-      IfOk-weaker r _ _
-          (λ _ less. let (more, longer) = less in (omega (arith, waits, kept, more), omega (arith, kept, longer))) less,
     )
 
-pub returns-in_default : goal.returns-in_default
-returns-in_default g c =
-    let last = c.expand_once.ensures in
-    let all = rest g (goal.at.returns-in_default g c).In_ok-record_if_exit _ _ last.worked last.taken last.less in
-    record { worked = all.0; there = last.there; taken = all.1; less = all.2 }
+-- that many edges are found and pending as before
+less_of : (g : Over) (c : In_ok-record_if_exit g) (r : Result (Option PathEdge) TableFault) (new : Table _ _ _) →
+    IsLessBeside g.S.PathSet.members r c.record_if_exit.new.self new → IsLessBeside g.S.PathSet.members r c.args.self.now new
+less_of g c r new (more, longer) =
+    let left = c.in_ok-record_if_exit.ensures in
+    let waits = ap (λ v. length v.items) left.pending in
+    let kept = ap (λ s. length (g.S.PathSet.members s)) left.edges in (omega (arith, waits, kept, more), omega (arith, kept, longer))
+
+pub returns-in_ok-expand_once-in_default : goal.returns-in_ok-expand_once-in_default
+returns-in_ok-expand_once-in_default g c =
+    let before = (goal.at.returns-in_ok-expand_once-in_default g c).In_ok-record_if_exit in
+    let last = c.in_ok-expand_once-in_default.ensures in
+    let all = rest g before _ _ _ last.worked last.taken in
+    record {
+      worked = none_found g.S.PathSet.members _ _ _ all.0;
+      there = λ t (found, is, at). absurd cc;
+      taken = all.1;
+      less = less_of g before nothing c.expand_once.new.self last.less;
+    }
+
+pub returns-in_err-expand_once-in_default-clause-worked : goal.returns-in_err-expand_once-in_default-clause-worked
+returns-in_err-expand_once-in_default-clause-worked g c =
+    let before = (goal.at.returns-in_err-expand_once-in_default-clause-worked g c).In_ok-record_if_exit in
+    let last = c.in_err-expand_once-in_default.ensures in
+    let told = c.from_residual-in_err-expand_once-in_default.ensures.1 in
+    let failed = (rest g before _ _ _ last.worked last.taken).0 in
+    failed_worked g.S.PathSet.members _ _ _ _ failed.edges failed.within failed.stays failed.fault _ told
+    (λ is. failed.many (ap Err (sym (fault_of _ _ _ told is))))
+
+pub returns-in_err-expand_once-in_default-clause-taken : goal.returns-in_err-expand_once-in_default-clause-taken
+returns-in_err-expand_once-in_default-clause-taken g c =
+    let before = (goal.at.returns-in_err-expand_once-in_default-clause-taken g c).In_ok-record_if_exit in
+    let last = c.in_err-expand_once-in_default.ensures in
+    (rest g before _ _ _ last.worked last.taken).1
 
 pub returns-in_default-2 : goal.returns-in_default-2
 returns-in_default-2 g c =
+    let before = (goal.at.returns-in_default-2 g c).In_ok-record_if_exit in
     let last = c.expand.ensures in
-    let all = rest g (goal.at.returns-in_default-2 g c).In_ok-record_if_exit _ _ last.worked last.taken last.less in
-    record { worked = all.0; there = last.there; taken = all.1; less = all.2 }
+    let all = rest g before _ _ _ last.worked last.taken in
+    record {
+      worked = all.0;
+      there = last.there;
+      taken = all.1;
+      less = IfOk-weaker c.expand.result _ _ (λ _. less_of g before c.expand.result c.expand.new.self) last.less;
+    }
