@@ -1,10 +1,14 @@
 -- A point is gathered at a key that has a mask, or at one without.
-use Rattle.std.proofs.Common.{◌≡◌, ℕ, suc, zero, Bool, true, false, cond, List, [], ◌∷◌, ◌++◌, Some, None, slice_get, if◌then◌else◌}
+use Rattle.std.proofs.Common.{◌≡◌, ℕ, suc, zero, Bool, true, false, cond, List, [], ◌∷◌, ◌++◌, Some, None, slice_get, if◌then◌else◌, length}
+use Rattle.std.proofs.Common.{◌+◌, ◌<◌, arith}
 use Rattle.std.proofs.Common.{inl, refl, sym, ap, ◌∙◌, subst}
 use Rattle.std.specs.Map.{keys_of, lookup, values_of}
+use Rattle.std.specs.List.{position_or_len}
+use Rattle.std.proofs.lemmas.List.{length_push}
 use Rattle.std.proofs.lemmas.Option.{none-some}
 use Rattle.indexmap.specs.IndexMap.{insert_entry, set_value_at}
-use Rattle.indexmap.proofs.CallerLemmas.{insert_entry-new, keys-with_value_at}
+use Rattle.indexmap.proofs.CallerLemmas.{index_map_len-with_value_at, insert_entry-new, keys-with_value_at}
+use Rattle.indexmap.proofs.SetLemmas.{inserted_at}
 use Rattle.language.specs.Lists.{Member}
 use Rattle.path_sets.specs.declared.diagrams.batch.Batch.{Batch}
 use Rattle.path_sets.specs.declared.diagrams.diagrams.Diagrams.{Diagrams}
@@ -16,7 +20,7 @@ use Rattle.path_sets.specs.GatheredKeys.{gathered_key_eq, mask_key_at, masks_of}
 use Rattle.path_sets.specs.Inserts.{PutsIn}
 use Rattle.path_sets.specs.Masks.{AddsPoint, AddsPointAt}
 use Rattle.path_sets.proofs.CoverLemmas.{covers_begun, covers_marked, one_more_key, puts_begun, puts_marked}
-use Rattle.path_sets.proofs.GatheredKeyLemmas.{key_masks, keys_masks, marked_masks, none_there, push_masks, same_gathered_key}
+use Rattle.path_sets.proofs.GatheredKeyLemmas.{gathered_key_self, key_masks, keys_masks, marked_masks, none_there, push_masks, same_gathered_key}
 use Rattle.path_sets.proofs.PlaceLemmas.{at_index}
 
 module _ {K V : Type 0} (eq : K → K → Bool) (same : (x y : K) → eq x y ≡ true → x ≡ y) (k : K) (was now : V) where
@@ -38,6 +42,21 @@ module _ {K V : Type 0} (eq : K → K → Bool) (same : (x y : K) → eq x y ≡
       by false is here rest =
           let (i, at, value, set) = rest here in
           (suc i, at, value, ap (λ b. if b then (e.0, now) ∷ es else e ∷ insert_entry eq es k now) is ∙ ap (λ l. e ∷ l) set)
+
+-- a key that is put stands at its index
+pub put_at : (old new : List (GatheredKey × ℕ)) (key : GatheredKey) (mask : ℕ) → new ≡ insert_entry gathered_key_eq old key mask
+    → (at : ℕ) → at ≡ position_or_len (gathered_key_eq key) (keys_of old) → slice_get (keys_of new) at ≡ Some key
+put_at old new key mask put at is =
+    let (own, here, same) = inserted_at gathered_key_eq gathered_key_self old key mask in
+    (λ j. slice_get (keys_of (put j)) (is j)) ∙ here ∙ ap Some (sym (same_gathered_key key own same))
+
+-- numbers that are the same: neither is greater
+pub no_longer : (old new : ℕ) → new ≡ old → old < new → ⊥
+no_longer old new same less = omega (arith, same, less)
+
+-- and one more is not the same
+pub one_more_not_same : (old new : ℕ) → new ≡ old + 1 → {P : Type 0} → new ≡ old → P
+one_more_not_same old new more same = absurd (omega (arith, same, more))
 
 module _ {A : Type 0} {merged : Diagrams A} {key : GatheredKey} {bit : ℕ} {batch : Batch A} (may : MayGather merged key bit batch)
     (new : List (GatheredKey × ℕ)) where
@@ -84,10 +103,18 @@ module _ {A : Type 0} {merged : Diagrams A} {key : GatheredKey} {bit : ℕ} {bat
     pub keys_more : NoKeyBut key old new
     keys_more = keys_at place.0 place.1 added place.2
 
+    pub len_more : length new ≡ length old
+    len_more =
+        let (i, at, value, set) = set_at_key gathered_key_eq same_gathered_key key was mask old had in
+        ap length (put ∙ set) ∙ index_map_len-with_value_at batch.masks i mask
+
   -- the key has none, and gets its first
   module _ (mask : ℕ) (put : new ≡ insert_entry gathered_key_eq old key mask) (without : lookup (gathered_key_eq key) old ≡ None) where
     appended : new ≡ old ++ (key, mask) ∷ []
     appended = put ∙ insert_entry-new gathered_key_eq batch.masks key mask without
+
+    pub len_first : length new ≡ length old + 1
+    len_first = ap length appended ∙ length_push old (key, mask)
 
     made : masks_of (diagrams_in merged) new ≡ batch_masks merged batch ++ (mask_key, mask) ∷ []
     made = ap (masks_of (diagrams_in merged)) appended ∙ push_masks (diagrams_in merged) old ((key, mask) ∷ [])

@@ -1,10 +1,10 @@
 -- The bits of a mask, and one more of them.
 use Rattle.std.proofs.Common.{bit_or, ◌≡◌, ◌≢◌, ℕ, zero, suc, ◌<◌, ◌*◌, ◌^◌, ◌%◌, ◌≤◌}
-use Rattle.std.proofs.Common.{nat_lt, Bool, true, false}
+use Rattle.std.proofs.Common.{nat_lt, Bool, true, false, not}
 use Rattle.std.proofs.Common.{cond, max, ◌==◌, [], ◌∷◌, inl, inr, refl, sym, ap, ap₂, ◌∙◌, subst, true≢false, arith}
 use Rattle.std.specs.Int.{bit_at}
-use Rattle.std.proofs.lemmas.Bool.{ltb-true, ltb-false}
-use Rattle.std.proofs.lemmas.Nat.Bits.{bit_at-lt, bit_at-zero, bit_at_or, bit_at-pow_same, bit_at-pow_other}
+use Rattle.std.proofs.lemmas.Bool.{cases_eq, ltb-true, ltb-false}
+use Rattle.std.proofs.lemmas.Nat.Bits.{bit_at-lt, bit_at-zero, bit_at_or, bit_at-pow_same, bit_at-pow_other, same_from_bits}
 use Rattle.std.proofs.Math.Pow.{pow_mono}
 use Rattle.language.specs.Lists.{Member}
 use Rattle.path_sets.specs.Inserts.{Inserts, here, there}
@@ -93,6 +93,11 @@ clear_bit zero lt h = refl
 clear_bit (suc zero) lt h = absurd (true≢false h)
 clear_bit (suc (suc x)) lt h = absurd (omega (arith, lt))
 
+set_bit : (x : ℕ) → x < 2 → (x == 1) ≡ true → x ≡ 1
+set_bit zero lt h = absurd (true≢false (sym h))
+set_bit (suc zero) lt h = refl
+set_bit (suc (suc x)) lt h = absurd (omega (arith, lt))
+
 max_none : (x : ℕ) → max x 0 ≡ x
 max_none x = omega arith
 
@@ -106,10 +111,24 @@ others_are : (m b i : ℕ) → i ≢ b → bit_of (bit_or m (2 ^ b)) i ≡ bit_o
 others_are m b i ne =
     ap (λ x. x == 1) (bit_at_or m (2 ^ b) i ∙ ap (max (bit_at m i)) (bit_at-pow_other b i ne) ∙ max_none (bit_at m i))
 
--- a bit that was 0 is put in
-pub marked : (m w b : ℕ) → bit_of m b ≡ false → w ≡ 2 ^ b → AddsPoint b m (bit_or m w) true
-marked m w b clear is =
-    subst (λ x. AddsPoint b m (bit_or m x) true) (sym is) (clear, put_in_is m b clear, others_are m b)
+-- a bit that is 1 stays
+stays_in : (m b : ℕ) → bit_of m b ≡ true → bit_or m (2 ^ b) ≡ m
+stays_in m b set = same_from_bits (bit_or m (2 ^ b)) m (λ i. elim (cases_eq i b) [
+  | inl is ↦ ap (bit_at (bit_or m (2 ^ b))) is ∙ here ∙ sym (ap (bit_at m) is)
+  | inr ne ↦ bit_at_or m (2 ^ b) i ∙ ap (max (bit_at m i)) (bit_at-pow_other b i ne) ∙ max_none (bit_at m i)
+])
+  where
+    one : bit_at m b ≡ 1
+    one = set_bit (bit_at m b) (bit_at-lt m b) set
+
+    here : bit_at (bit_or m (2 ^ b)) b ≡ bit_at m b
+    here = bit_at_or m (2 ^ b) b ∙ ap₂ max one (bit_at-pow_same b) ∙ sym one
+
+-- a bit that was 0 is put in, and one that was 1 leaves the mask as it is
+pub marked : (m w b : ℕ) (known : Bool) → known ≡ bit_of m b → w ≡ 2 ^ b → AddsPoint b m (bit_or m w) (not known)
+marked m w b true was is = (sym was, ap (bit_or m) is ∙ stays_in m b (sym was))
+marked m w b false was is =
+    subst (λ x. AddsPoint b m (bit_or m x) true) (sym is) (sym was, put_in_is m b (sym was), others_are m b)
 
 -- the mask of one bit lists that alone
 pub first_bit : (w b : ℕ) → b < 64 → w ≡ 2 ^ b → Inserts b [] (bits_below w 64)

@@ -1,10 +1,11 @@
 //! Gathered masks that go into the diagrams together.
 
 ghost use Rattle.std.specs.Prelude.{◌≡◌, ◌<◌, [], true, Some, slice_get, length, IfOk, OnErr};
-ghost use Rattle.std.specs.Prelude.{IfSome, IsNone};
+ghost use Rattle.std.specs.Prelude.{◌+◌, ◌-◌, ◌^◌, min, IfSome, IsNone};
+ghost use Rattle.std.specs.Bool.{OnTrue};
 ghost use Rattle.std.specs.Map.{keys_of};
 ghost use Rattle.std.proofs.lemmas.Map.Keys.{IsDistinct-prop};
-ghost use Rattle.indexmap.specs.IndexMap.{IsUnique, keys};
+ghost use Rattle.indexmap.specs.IndexMap.{IsUnique, index_map_len, keys};
 ghost use Rattle.language.specs.Lists.{Member};
 ghost use Rattle.path_sets.specs.Edges.{edge_at};
 ghost use Rattle.path_sets.specs.GatheredKeys.{gathered_key, gathered_key_eq, mask_key_at};
@@ -76,6 +77,7 @@ impl<A: Allocator + Copy> Batch<A> {
             (batch_masks merged.now self.new) result }
         ensures covers { AreCovered merged.now (batch_masks merged.now self.new) }
         ensures keys { NoKeyBut key self.old.masks.entries self.new.masks.entries }
+        ensures same { keys self.new.masks ≡ keys self.old.masks }
     {
         add_point_at(&mut self.masks, at, bit)
     }
@@ -100,6 +102,12 @@ impl<A: Allocator + Copy> Batch<A> {
         ensures covers { AreCovered merged.now (batch_masks merged.now self.new) }
         ensures keys { NoKeyBut (gathered_key diagram values) self.old.masks.entries
             self.new.masks.entries }
+        ensures last { IfOk result (λ added. OnTrue added
+            (slice_get (keys self.new.masks) last.new ≡ Some (gathered_key diagram values))) }
+        ensures same { index_map_len self.new.masks ≡ index_map_len self.old.masks
+            → waiting.new ≡ waiting.old }
+        ensures more { index_map_len self.old.masks < index_map_len self.new.masks
+            → waiting.new ≡ min (waiting.old + 1) (2 ^ 64 - 1) }
     {
         let key = GatheredKey {
             diagram,
@@ -137,6 +145,12 @@ impl<A: Allocator + Copy> Batch<A> {
         ensures err { OnErr result (self.new.masks.entries ≡ self.old.masks.entries) }
         ensures covers { AreCovered merged.now (batch_masks merged.now self.new) }
         ensures keys { NoKeyBut key self.old.masks.entries self.new.masks.entries }
+        ensures last { IfOk result (λ added. OnTrue added
+            (slice_get (keys self.new.masks) last.new ≡ Some key)) }
+        ensures same { index_map_len self.new.masks ≡ index_map_len self.old.masks
+            → waiting.new ≡ waiting.old }
+        ensures more { index_map_len self.old.masks < index_map_len self.new.masks
+            → waiting.new ≡ min (waiting.old + 1) (2 ^ 64 - 1) }
     {
         if is_at(&self.masks, *last, &key) {
             return Ok(self.gather_at(merged, key, *last, bit));

@@ -1,7 +1,7 @@
 //! Path edges that are gathered, in batches, before they go into the diagrams.
 
 ghost use Rattle.std.specs.Prelude.{◌≡◌, ◌<◌, ℕ, [], Some, length, slice_get, IfOk, OnErr};
-ghost use Rattle.std.specs.Prelude.{◌≤◌, ◌⊎◌, ◌↔◌, IfSome, IsNone, IsSome, IsTrue, OnOk};
+ghost use Rattle.std.specs.Prelude.{◌≤◌, ◌⊎◌, ◌↔◌, ◌+◌, ◌-◌, ◌^◌, min, IfSome, IsNone, IsSome, IsTrue, OnOk};
 ghost use Rattle.std.specs.Map.{keys_of};
 ghost use Rattle.language.specs.Lists.{Member};
 ghost use Rattle.path_sets.specs.Batches.{AreHome, HasBatch, HasNoMasks, KeepMasks, gathered_at};
@@ -137,6 +137,12 @@ impl<A: Allocator + Copy> Batches<A> {
             ≡ all_masks merged.now self.old.batches.items) }
         ensures fit { BatchesFit merged.now self.new.batches.items }
         ensures batch { HasBatch self.new.homes.items self.new.batches.items key.diagram batch }
+        ensures same { length (gathered_at self.new.batches.items batch)
+            ≡ length (gathered_at self.old.batches.items batch)
+            → self.new.waiting ≡ self.old.waiting }
+        ensures more { length (gathered_at self.old.batches.items batch)
+            < length (gathered_at self.new.batches.items batch)
+            → self.new.waiting ≡ min (self.old.waiting + 1) (2 ^ 64 - 1) }
     {
         self.batches[batch].gather(&mut self.last, &mut self.waiting, merged, key, bit)
     }

@@ -99,6 +99,8 @@ impl<A: Allocator + Copy> Diagrams<A> {
         ensures nodes { self.new.nodes ≡ self.old.nodes }
         ensures at { IfOk result (λ at. slice_get (keys self.new.roots) at ≡ Some diagram) }
         ensures stay { RootsStay self.old.roots.entries self.new.roots.entries }
+        ensures last { IfOk result
+            (λ at. slice_get self.new.last (diagram.block % 4) ≡ Some at) }
     {
         let slot = slot_of(&diagram);
         let at = index_of(&mut self.roots, self.last[slot], diagram)?;

@@ -20,13 +20,12 @@ pub(crate) fn has_point(mask: u64, bit: usize) -> bool
 }
 
 /// Puts the point of a bit into a mask. Returns whether the point is new.
+// The mask is written in either case, so that no jump depends on it.
 pub(crate) fn add_point(mask: &mut u64, bit: usize) -> bool
     requires { bit < 64 }
     ensures { AddsPoint bit mask.old mask.new result }
 {
-    if has_point(*mask, bit) {
-        return false;
-    }
+    let known = has_point(*mask, bit);
     *mask |= mask_of_point(bit);
-    true
+    !known
 }

@@ -1,10 +1,12 @@
-use Rattle.std.proofs.Common.{◌≡◌, Some, None, ap, sym, ◌∙◌, subst, rules}
+use Rattle.std.proofs.Common.{◌≡◌, Some, None, ap, sym, ◌∙◌, subst, length, rules}
 use Rattle.std.specs.Map.{lookup}
 use Rattle.indexmap.specs.Entry.{entry_value}
-use Rattle.indexmap.specs.IndexMap.{insert_entry}
+use Rattle.indexmap.specs.IndexMap.{insert_entry, insert_index}
 use Rattle.path_sets.specs.Contents.{IsFirstMask}
 use Rattle.path_sets.specs.GatheredKeys.{gathered_key, gathered_key_eq}
-use Rattle.path_sets.proofs.GatherLemmas.{covers_first, covers_more, gathers_first, gathers_more, keys_first, keys_more}
+use Rattle.path_sets.proofs.GatherLemmas.{covers_first, covers_more, gathers_first, gathers_more, keys_first, keys_more, len_first, len_more}
+use Rattle.path_sets.proofs.GatherLemmas.{no_longer, one_more_not_same, put_at}
+use Rattle.std.proofs.lemmas.Bool.{OnTrue_from}
 use Rattle.path_sets.proofs.diagrams.batch.Batch.gather_elsewhere.Given as given
 use Rattle.path_sets.proofs.diagrams.batch.Batch.gather_elsewhere.Goals as goal
 use Rattle.path_sets.proofs.diagrams.batch.Batch.gather_elsewhere.Goals.{After-add_point, After-insert}
@@ -74,3 +76,33 @@ pub returns-in-Some-clause-keys : goal.returns-in-Some-clause-keys
 returns-in-Some-clause-keys g c =
     let i = (goal.at.returns-in-Some-clause-keys g c).After-insert in
     keys_first c.requires _ c.insert.result.now (search rules ∙ one g i) (none g i)
+
+pub returns-in-Occupied-clause-last : goal.returns-in-Occupied-clause-last
+returns-in-Occupied-clause-last g c =
+    let i = (goal.at.returns-in-Occupied-clause-last g c).After-add_point in
+    OnTrue_from c.add_point.result _ (λ _. put_at c.args.self.now.masks.entries _ _ c.add_point.new.mask (search rules ∙ same g i) c.index.result
+    (c.index.ensures ∙ c.in_ok-entry.ensures.index ∙ ap (λ v. insert_index gathered_key_eq c.args.self.now.masks (gathered_key c.args.diagram v)) c.new.ensures))
+
+pub returns-in-Some-clause-last : goal.returns-in-Some-clause-last
+returns-in-Some-clause-last g c =
+    let i = (goal.at.returns-in-Some-clause-last g c).After-insert in
+    put_at c.args.self.now.masks.entries _ _ c.insert.result.now (search rules ∙ one g i) c.index.result
+    (c.index.ensures ∙ c.in_ok-entry.ensures.index ∙ ap (λ v. insert_index gathered_key_eq c.args.self.now.masks (gathered_key c.args.diagram v)) c.new.ensures)
+
+pub returns-in_err-entry-clause-more : goal.returns-in_err-entry-clause-more
+returns-in_err-entry-clause-more g c more = absurd (no_longer _ _ (ap length (search rules)) more)
+
+pub returns-in_default-clause-more : goal.returns-in_default-clause-more
+returns-in_default-clause-more g c more = absurd (no_longer _ _ (ap length (search rules)) more)
+
+pub returns-in-Occupied-clause-more : goal.returns-in-Occupied-clause-more
+returns-in-Occupied-clause-more g c more =
+    let i = (goal.at.returns-in-Occupied-clause-more g c).After-add_point in
+    let same = len_more c.requires _ c.add_point.result c.add_point.new.mask (search rules ∙ same g i) c.into_mut.result.now (had g i)
+    c.add_point.ensures in
+    absurd (no_longer _ _ same more)
+
+pub returns-in-Some-clause-same : goal.returns-in-Some-clause-same
+returns-in-Some-clause-same g c =
+    let i = (goal.at.returns-in-Some-clause-same g c).After-insert in
+    one_more_not_same _ _ (len_first c.requires _ c.insert.result.now (search rules ∙ one g i) (none g i))
