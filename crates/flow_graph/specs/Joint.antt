@@ -30,3 +30,8 @@ pub IsFormOf-prop : {Alloc : Type 0} (form : Form Alloc) (writes : List (Write A
 IsFormOf-prop Same writes = ×_prop (ℕ_set _ _) (Π_prop (λ values. Π_prop (λ choice. ℕ_set _ _)))
 IsFormOf-prop (Joint table) writes = ×_prop (ℕ_set _ _) (Π_prop (λ values. Π_prop (λ choice. Π_prop (λ fits. ℕ_set _ _))))
 IsFormOf-prop Each writes = Unit-prop
+
+-- the next valuation is not computed by one write after the other
+abbrev pub IsLookedUp : {Alloc : Type 0} → Form Alloc → Type 0
+IsLookedUp Each = ⊥
+IsLookedUp form = Unit {0}

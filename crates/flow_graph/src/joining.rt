@@ -1,7 +1,7 @@
 //! Joint tables, made of writes.
 
-ghost use Rattle.std.specs.Prelude.{◌≡◌, ◌<◌, ◌≤◌, ◌^◌, None, length, IfOk, IfSome};
-ghost use Rattle.flow_graph.specs.Joint.{IsFormOf};
+ghost use Rattle.std.specs.Prelude.{◌≡◌, ◌<◌, ◌≤◌, ◌^◌, true, None, length, IfOk, IfSome};
+ghost use Rattle.flow_graph.specs.Joint.{IsFormOf, IsLookedUp};
 ghost use Rattle.flow_graph.specs.Joining.{reads_few, all_read_few, reads, some_reads, read_bits};
 ghost use Rattle.flow_graph.specs.Joining.{placed, unwritten, all_bits, AreRows};
 ghost use Rattle.flow_graph.specs.Tables.{most_inputs, AreBits};
@@ -132,12 +132,16 @@ fn rows_of<A: Allocator + Clone>(
     Ok(rows)
 }
 
-/// How next valuations are computed best.
+/// How the next valuations of an assignment with these writes are computed: all is looked up at once if the right sides
+/// read at most ten bits together.
 pub(crate) fn form_of<A: Allocator + Clone>(
     alloc: &A,
     writes: &[Write<A>],
 ) -> Result<Form<A>, AllocError>
-    ensures { IfOk result (λ form. IsFormOf form writes.now) }
+    ensures right { IfOk result (λ form. IsFormOf form writes.now) }
+    ensures looked_up { IfOk result
+        (λ form. all_read_few writes.now ≡ true
+        → length (read_bits writes.now most_places) ≤ most_inputs → IsLookedUp form) }
 {
     if writes.is_empty() {
         return Ok(Form::Same);

@@ -34,9 +34,9 @@ impl<A: Allocator> JointTable<A> {
 /// How the next valuations of an assignment are computed.
 #[derive(Drop)]
 pub(crate) enum Form<A: Allocator> {
-    /// Nothing is written, and there is one: the same.
+    /// Nothing is written: the next valuation is the same.
     Same,
-    /// There is one, by the bits that are read.
+    /// No right side is `?`: all that is written is looked up at once.
     Joint(JointTable<A>),
     /// One write after the other.
     Each,

@@ -14,8 +14,8 @@ pub new-inputs-requires-clause-places : goal.new-inputs-requires-clause-places
 new-inputs-requires-clause-places g c =
     subst AreBits (sym (c.as_slice-2.ensures.value ∙ c.in-Some.ensures.some.0)) (read_places c.args.writes.now most_places (omega arith))
 
-pub returns : goal.returns
-returns g c =
+pub returns-clause-right : goal.returns-clause-right
+returns-clause-right g c =
     let ws = c.args.writes.now in
     let few : all_read_few ws ≡ true = sym c.all_read_few.ensures ∙ c.if-not-all_read_few.false in
     let bits = c.as_slice.result.now in
