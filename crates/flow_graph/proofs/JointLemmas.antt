@@ -26,9 +26,11 @@ use Rattle.resolved.specs.Limits.{most_places}
 
 -- ---- what a right side reads determines its value
 
+-- a number is itself
 same_number : (b : ℕ) → (b == b) ≡ true
 same_number b = at_test (λ c. c ≡ true) (b == b) (λ e. refl) (λ e. absurd (eqb-false b b e refl))
 
+-- two valuations in which each of these bits is the same have the same row
 map_agree : (f g : ℕ → Bool) (xs : List ℕ) → ((b : ℕ) → is_input b xs ≡ true → f b ≡ g b) → map f xs ≡ map g xs
 map_agree f g [] same = refl
 map_agree f g (x ∷ xs) same =
@@ -36,6 +38,7 @@ map_agree f g (x ∷ xs) same =
     (map_agree f g xs (λ b there. same b (at_test (λ c. cond c true (is_input b xs) ≡ true) (b == x) (λ e. refl) (λ e. there))))
 
 module _ {A : Type 0} where
+  -- if all that a variable or a truth table reads is the same, so is its value
   side_agree : (s : CompiledSide A) (u v c d : ℕ) → reads_few s ≡ true
       → ((b : ℕ) → reads s b ≡ true → bit_of u b ≡ bit_of v b) → side_value s u c ≡ side_value s v d
   side_agree side.Any u v c d few same = absurd (false≢true few)
@@ -113,7 +116,9 @@ module _ {A : Type 0} (ws : List (Write A)) where
   -- and no fewer below a greater number
   pub read_longer : (d n m : ℕ) → m ≡ d + n → length (read_bits ws n) ≤ length (read_bits ws m)
   unfolding read_bits
-  read_longer zero n m e = subst (λ k. length (read_bits ws n) ≤ length (read_bits ws k)) (let z : n ≡ m = omega (arith, e) in z) (omega arith)
+  read_longer zero n m e =
+      let same : n ≡ m = omega (arith, e) in
+      subst (λ k. length (read_bits ws n) ≤ length (read_bits ws k)) same (omega arith)
   read_longer (suc d) n zero e = absurd (omega (arith, e))
   read_longer (suc d) n (suc m) e =
       omega (arith, read_longer d n m (omega (arith, e)), length-append (read_bits ws m) (cond (some_reads ws m) (m ∷ []) []))
@@ -160,6 +165,7 @@ both : (a b : Bool) → cond a b false ≡ true → (a ≡ true) × (b ≡ true)
 both true b h = (refl, h)
 both false b h = absurd (false≢true h)
 
+-- without `?` there is one choice
 pub none_any : {A : Type 0} (ws : List (Write A)) → all_read_few ws ≡ true → anys ws ≡ 0
 none_any [] few = refl
 none_any (w ∷ ws) few =
@@ -171,6 +177,8 @@ later_true true b h = refl
 later_true false b h = h
 
 module _ {A : Type 0} (u s v k : ℕ) where
+  -- what writes make over one valuation is what is kept of a third, and what they make over another that agrees with the
+  -- first in all that is read, if it was so before the writes
   joined : (ws : List (Write A)) (c d n m kept : ℕ) → all_read_few ws ≡ true
       → ((b : ℕ) → some_reads ws b ≡ true → bit_of u b ≡ bit_of s b)
       → bit_of n k ≡ ((bit_of v k && bit_of kept k) || bit_of m k)
@@ -193,9 +201,11 @@ module _ {A : Type 0} (u s v k : ℕ) where
 no_bit : (k : ℕ) → bit_of 0 k ≡ false
 no_bit k = ap (λ n. n == 1) (bit_at-zero k)
 
+-- a valuation has no bit past its last
 past : (v k : ℕ) → v < 2 ^ word_bits → word_bits ≤ k → bit_of v k ≡ false
 past v k fits far = ap (λ n. n == 1) (bit_at_above v word_bits k fits far)
 
+-- before any write, all bits are kept, and none is written
 whole : (v k : ℕ) → v < 2 ^ word_bits → bit_of v k ≡ ((bit_of v k && bit_of all_bits k) || bit_of 0 k)
 whole v k fits = at_test (λ c. bit_of v k ≡ ((bit_of v k && bit_of all_bits k) || bit_of 0 k)) (nat_lt k word_bits)
     (λ is. let one : bit_of all_bits k ≡ true = ap (λ n. n == 1) (bit_at_ones word_bits k (ltb-true k word_bits is)) in
@@ -207,16 +217,18 @@ whole v k fits = at_test (λ c. bit_of v k ≡ ((bit_of v k && bit_of all_bits k
     same true = refl
     same false = refl
 
--- a number is that of a valuation's bits among which are those read, in all that is read
+-- a bit that is read is the same in the valuation that has the values of a valuation's row, and 0 elsewhere
 read_same : {A : Type 0} (ws : List (Write A)) (bits : List ℕ) (v b : ℕ) → v < 2 ^ word_bits
     → ((k : ℕ) → k < most_places → some_reads ws k ≡ true → is_input k bits ≡ true) → some_reads ws b ≡ true
     → bit_of v b ≡ bit_of (placed bits (coded (map (bit_of v) bits)) 0) b
-read_same ws bits v b fits all there = at_test (λ c. bit_of v b ≡ bit_of (placed bits (coded (map (bit_of v) bits)) 0) b) (nat_lt b word_bits)
+read_same ws bits v b fits all there = at_test
+    (λ c. bit_of v b ≡ bit_of (placed bits (coded (map (bit_of v) bits)) 0) b) (nat_lt b word_bits)
     (λ is. sym (placed_bit (bit_of v) bits 0 b
     ∙ ap (λ c. cond c (bit_of v b) (bit_of 0 b)) (all b (ltb-true b word_bits is) there)))
     (λ is. let none = past v b fits (ltb-false b word_bits is) in
     none ∙ sym (placed_bit (bit_of v) bits 0 b ∙ ap₂ (cond (is_input b bits)) none (no_bit b) ∙ either (is_input b bits) false))
 
+-- a row has a bit for each input
 pub row_fits : (f : ℕ → Bool) (xs : List ℕ) → coded (map f xs) < 2 ^ length xs
 row_fits f xs = subst (λ n. coded (map f xs) < 2 ^ n) (length-map xs f) (coded_small (map f xs))
 
