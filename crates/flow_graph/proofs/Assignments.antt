@@ -58,7 +58,7 @@ or_then_xor false true = refl
 or_then_xor false false = refl
 
 -- only the bit of the mask changes
-masked_bit : (m b k : ℕ) (v : Bool) → bit_of (masked m (2 ^ b) v) k ≡ cond (b == k) v (bit_of m k)
+pub masked_bit : (m b k : ℕ) (v : Bool) → bit_of (masked m (2 ^ b) v) k ≡ cond (b == k) v (bit_of m k)
 masked_bit m b k true = bits_or m (2 ^ b) k ∙ ap (λ e. bit_of m k || e) (pow_bit b k) ∙ or_one (bit_of m k) (b == k)
 masked_bit m b k false =
     bits_xor (bit_or m (2 ^ b)) (2 ^ b) k
@@ -114,7 +114,7 @@ Compiled s [] (k ∷ ks) = ⊥
 Compiled s (w ∷ ws) [] = ⊥
 Compiled s (w ∷ ws) (k ∷ ks) = ((w.mask ≡ 2 ^ k.0) × SaysSide w.side s k.1) × Compiled s ws ks
 
-any_same : {A : Type 0} (s : Scope) (sd : CompiledSide A) (r : RightSide Name) → SaysSide sd s r → any_of sd ≡ any_in r
+pub any_same : {A : Type 0} (s : Scope) (sd : CompiledSide A) (r : RightSide Name) → SaysSide sd s r → any_of sd ≡ any_in r
 any_same s side.Any (value e) h = absurd h
 any_same s (side.Value f) any h = absurd h
 any_same s _ _ h = refl

@@ -4,10 +4,10 @@ use Rattle.std.proofs.Common.{inl, inr, refl, sym, ap, ◌∙◌, arith}
 use Rattle.std.specs.Int.RustNames.{bit_or}
 use Rattle.std.proofs.lemmas.Nat.Bits.{same_from_bits}
 use Rattle.std.proofs.lemmas.Option.{same_Some}
-use Rattle.flow_graph.specs.Assignments.{masked, choice_left, after_writes, assigned}
+use Rattle.flow_graph.specs.Assignments.{masked, choice_left, after_writes}
 use Rattle.flow_graph.specs.Bits.{bit_of, worth_of}
 use Rattle.flow_graph.specs.Formulas.{side_value, says}
-use Rattle.flow_graph.specs.Flows.{last_of, next_of}
+use Rattle.flow_graph.specs.Flows.{assigned, last_of, next_of}
 use Rattle.flow_graph.specs.declared.assignment.Assignment.{Assignment}
 use Rattle.flow_graph.specs.declared.assignment.Write.{Write}
 use Rattle.flow_graph.specs.declared.flow.Flow.{Flow}
@@ -19,7 +19,7 @@ use Rattle.flow_graph.proofs.Rows.{bits_or, bits_xor}
 use Rattle.flow_graph.proofs.Stacks.{bit_worth}
 
 -- the bits of the mask get the value, the others stay
-masked_in : (n mask k : ℕ) (v : Bool) → bit_of (masked n mask v) k ≡ cond (bit_of mask k) v (bit_of n k)
+pub masked_in : (n mask k : ℕ) (v : Bool) → bit_of (masked n mask v) k ≡ cond (bit_of mask k) v (bit_of n k)
 masked_in n mask k true = bits_or n mask k ∙ or_one (bit_of n k) (bit_of mask k)
 masked_in n mask k false =
     bits_xor (bit_or n mask) mask k

@@ -14,10 +14,10 @@ use Rattle.language.specs.Sequential.{Valuation}
 use Rattle.language.proofs.Lengths.{length_values}
 use Rattle.flow_graph.specs.Bits.{bit_of, worth_of, coded}
 use Rattle.flow_graph.specs.Formulas.{says, SaysSide}
-use Rattle.flow_graph.specs.Assignments.{masked, assigned, after_writes}
+use Rattle.flow_graph.specs.Assignments.{masked, after_writes}
 use Rattle.flow_graph.specs.Assigning.{HasPlaces, Assigns, WritesOne, after_values}
 use Rattle.flow_graph.specs.Nodes.{goes, stops, tests, assigns, calls, returns}
-use Rattle.flow_graph.specs.Flows.{code, exit_code, Widths, widths_of, HasWidths, Does}
+use Rattle.flow_graph.specs.Flows.{code, assigned, exit_code, Widths, widths_of, HasWidths, Does}
 use Rattle.flow_graph.proofs.Assignments.{got_same}
 use Rattle.flow_graph.proofs.Nodes.{only_value}
 use Rattle.flow_graph.proofs.Rows.{first_bit}

@@ -23,3 +23,4 @@ pub mod DueLemmas
 pub mod ReachLemmas
 pub mod Pairs
 pub mod ChoiceLemmas
+pub mod JointLemmas

@@ -4,8 +4,7 @@ use Rattle.language.specs.Tree.{Name, Expression, RightSide, value}
 use Rattle.language.specs.Value.{AreValues, written_globals, written_locals}
 use Rattle.language.specs.Resolve.{Scope, place_of, resolve_side}
 use Rattle.language.specs.Sequential.{Valuation}
-use Rattle.flow_graph.specs.Assignments.{assigned}
-use Rattle.flow_graph.specs.Flows.{code}
+use Rattle.flow_graph.specs.Flows.{code, assigned}
 use Rattle.flow_graph.specs.Formulas.{SaysSide}
 use Rattle.flow_graph.specs.declared.assignment.Assignment.{Assignment}
 use Rattle.flow_graph.specs.declared.assignment.Write.{Write}

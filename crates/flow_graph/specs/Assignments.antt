@@ -1,4 +1,4 @@
--- What compiled assignments do.
+-- What the writes of compiled assignments do.
 use Rattle.std.specs.Prelude.{ℕ, ◌+◌, ◌/◌, ◌==◌, cond, Bool, true, false, Option, Some, None, List, [], ◌∷◌, map}
 use Rattle.std.specs.Int.RustNames.{bit_or, bit_xor}
 use Rattle.language.specs.Tree.{Name}
@@ -8,7 +8,6 @@ use Rattle.flow_graph.specs.Formulas.{side_value}
 use Rattle.flow_graph.specs.declared.side.CompiledSide.{CompiledSide}
 use Rattle.flow_graph.specs.declared.side.CompiledSide.TheVariants as side
 use Rattle.flow_graph.specs.declared.assignment.Write.{Write}
-use Rattle.flow_graph.specs.declared.assignment.Assignment.{Assignment}
 
 -- the valuation with this value for the bits of a mask
 abbrev pub masked : ℕ → ℕ → Bool → ℕ
@@ -25,10 +24,6 @@ abbrev pub after_writes : {Alloc : Type 0} → List (Write Alloc) → ℕ → �
 after_writes [] values choice next = next
 after_writes (write ∷ writes) values choice next =
     after_writes writes values (choice_left write.side choice) (masked next write.mask (side_value write.side values choice))
-
--- the next valuation by this choice for the `?`
-abbrev pub assigned : {Alloc : Type 0} → Assignment Alloc → ℕ → ℕ → ℕ
-assigned assignment values choice = after_writes assignment.writes.items values choice values
 
 -- 1 for `?`
 abbrev pub any_of : {Alloc : Type 0} → CompiledSide Alloc → ℕ

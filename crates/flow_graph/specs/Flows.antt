@@ -6,10 +6,11 @@ use Rattle.language.specs.Resolve.{Scope}
 use Rattle.language.specs.Sequential.{Valuation, Exit as ExitValues, resumed_with}
 use Rattle.flow_graph.specs.Bits.{coded}
 use Rattle.flow_graph.specs.Formulas.{side_value}
-use Rattle.flow_graph.specs.Assignments.{assigned}
+use Rattle.flow_graph.specs.Assignments.{after_writes}
 use Rattle.flow_graph.specs.Calls.{call_entry, resumed}
 use Rattle.flow_graph.specs.Nodes.{Node, target_in, Leads, NodeCalls}
 use Rattle.flow_graph.specs.declared.side.CompiledSide.TheVariants as side
+use Rattle.flow_graph.specs.declared.assignment.Assignment.{Assignment}
 use Rattle.flow_graph.specs.declared.flow.Flow.{Flow}
 use Rattle.flow_graph.specs.declared.flow.Flow.TheVariants.{Assign, Test, Assume, Call, Return}
 use Rattle.flow_graph.specs.declared.exit.Exit.{Exit}
@@ -22,6 +23,10 @@ code valuation = coded (valuation.globals ++ valuation.places)
 -- what is left by numbers: that of the globals, from bit 0, and the result
 abbrev pub exit_code : ExitValues → Exit
 exit_code exit = record { globals = coded exit.globals; result = exit.result }
+
+-- the next valuation by this choice for the `?`
+abbrev pub assigned : {Alloc : Type 0} → Assignment Alloc → ℕ → ℕ → ℕ
+assigned assignment values choice = after_writes assignment.writes.items values choice values
 
 -- the last choice
 abbrev pub last_of : {Alloc : Type 0} → Flow Alloc → ℕ

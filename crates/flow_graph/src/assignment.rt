@@ -3,12 +3,14 @@
 ghost use Rattle.std.specs.Prelude.{◌≡◌, ◌+◌, ◌≤◌, ◌<◌, ◌^◌, [], IfOk, IfSome};
 ghost use Rattle.language.specs.Tree.{value};
 ghost use Rattle.trees.specs.Trees.{name_of, names_of, expr_of, rhs_of, rhss_of};
-ghost use Rattle.flow_graph.specs.Assignments.{masked, choice_left, anys, assigned, lasting_bit};
-ghost use Rattle.flow_graph.specs.Assigning.{Assigns, WritesOne};
+ghost use Rattle.flow_graph.specs.Assignments.{masked, choice_left, after_writes, anys, lasting_bit};
 ghost use Rattle.flow_graph.specs.Formulas.{SaysSide};
+ghost use Rattle.flow_graph.specs.Joint.{IsFormOf, IsFormOf-prop};
 ghost use Rattle.flow_graph.specs.Views.{scope_seen, IsSmall};
 ghost use Rattle.resolved.specs.Limits.{most_places};
 
+use crate::joining::form_of;
+use crate::joint::Form;
 use crate::put::put;
 use crate::scope::Scope;
 use crate::side::CompiledSide;
@@ -59,14 +61,40 @@ fn last_choice<A: Allocator>(writes: &[Write<A>]) -> Word
     last
 }
 
+/// The valuation after these writes, from the one before. All right sides are computed over `values`; the values of the
+/// `?` are the bits of `choice`, from the lowest, in the order of the writes.
+// Apart, so that the steps of the other forms stay short.
+#[inline(never)]
+pub(crate) fn after_writes<A: Allocator>(
+    writes: &[Write<A>],
+    values: Word,
+    choice: Word,
+    before: Word,
+) -> Word
+    ensures { result ≡ after_writes writes.now values choice before }
+{
+    let mut next = before;
+    let mut left = choice;
+    for write in writes {
+        next = masked(next, write.mask, write.side.value(values, left));
+        left = write.side.choice_left(left);
+    }
+    next
+}
+
 /// A simultaneous assignment, compiled. No bit is written twice.
 #[derive(Drop)]
 pub struct Assignment<A: Allocator> {
     pub(crate) writes: Vec<Write<A>, A>,
     pub(crate) last: Word,
+    pub(crate) form: Form<A>,
+    pub(crate) ghost numbered: { last + 1 ≡ 2 ^ anys writes.items },
+    pub(crate) ghost formed: { IsFormOf form writes.items } by { IsFormOf-prop form writes.items },
 }
 
 impl<A: Allocator> Assignment<A> {
+    ghost use Rattle.flow_graph.specs.Flows.{assigned};
+
     /// The assignment that writes nothing.
     pub(crate) fn nothing(alloc: A) -> Assignment<A>
         ensures { (result.writes.items ≡ []) × (result.last ≡ 0) }
@@ -74,6 +102,7 @@ impl<A: Allocator> Assignment<A> {
         Assignment {
             writes: Vec::new(alloc),
             last: 0,
+            form: Form::Same,
         }
     }
 
@@ -81,7 +110,11 @@ impl<A: Allocator> Assignment<A> {
     pub(crate) fn last(&self) -> Word
         ensures { result ≡ self.now.last }
     {
-        self.last
+        match &self.form {
+            Form::Same => 0,
+            Form::Joint(_) => 0,
+            Form::Each => self.last,
+        }
     }
 
     /// The next valuation with this number. All right sides are computed over `values` before a bit is written;
@@ -90,17 +123,17 @@ impl<A: Allocator> Assignment<A> {
     pub(crate) fn next(&self, values: Word, choice: Word) -> Word
         ensures { result ≡ assigned self.now values choice }
     {
-        let mut next = values;
-        let mut left = choice;
-        for write in self.writes.as_slice() {
-            next = masked(next, write.mask, write.side.value(values, left));
-            left = write.side.choice_left(left);
+        match &self.form {
+            Form::Same => values,
+            Form::Joint(table) => table.next(values),
+            Form::Each => after_writes(self.writes.as_slice(), values, choice, values),
         }
-        next
     }
 }
 
 impl<'a, N: Allocator> Scope<'a, N> {
+    ghost use Rattle.flow_graph.specs.Assigning.{Assigns, WritesOne};
+
     /// The bit of a target: `None` if it is declared nowhere, or a later target writes it again.
     fn lasting(&self, target: &Name<N>, later: &[Name<N>]) -> Option<u8>
         requires { IsSmall self.now }
@@ -160,7 +193,9 @@ impl<'a, N: Allocator> Scope<'a, N> {
     {
         let mut writes = Vec::new(alloc.clone()?);
         put(self.write_value(alloc, mask, e), &mut writes)?;
-        Ok(Assignment { writes, last: 0 })
+        let form = form_of(alloc, writes.as_slice())?;
+        let last = 0;
+        Ok(Assignment { writes, last, form })
     }
 
     /// Compiles a simultaneous assignment. A target that is declared nowhere is not written, nor is one without a right
@@ -183,6 +218,7 @@ impl<'a, N: Allocator> Scope<'a, N> {
             }
         }
         let last = last_choice(writes.as_slice());
-        Ok(Assignment { writes, last })
+        let form = form_of(alloc, writes.as_slice())?;
+        Ok(Assignment { writes, last, form })
     }
 }

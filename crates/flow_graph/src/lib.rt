@@ -10,6 +10,8 @@ mod exit;
 mod flow;
 mod formula;
 mod graph;
+mod joining;
+mod joint;
 mod labels;
 mod laws;
 mod lowering;

@@ -3,7 +3,7 @@
 ghost use Rattle.std.specs.Prelude.{◌≡◌, ◌<◌, ◌≤◌, ◌+◌, ◌++◌, ◌∷◌, [], length, map};
 ghost use Rattle.language.specs.Words.{word_bits};
 ghost use Rattle.flow_graph.specs.Bits.{bit_of, coded};
-ghost use Rattle.flow_graph.specs.Tables.{most_inputs, AreBits};
+ghost use Rattle.flow_graph.specs.Tables.{most_inputs, is_input, AreBits};
 ghost use Rattle.flow_graph.specs.Windows.{seen, IsWindow, AreWindows, AreWindows-prop};
 
 use crate::bit::{HALF, half};
@@ -87,6 +87,18 @@ impl Windows {
             front += 1;
         }
         Windows { items }
+    }
+
+    /// Whether a bit is one of these.
+    pub(crate) fn has(&self, bit: u8) -> bool
+        ensures { result ≡ is_input bit (seen self.now.items.items) }
+    {
+        for window in self.items.as_slice() {
+            if window.first <= bit && bit - window.first < window.count {
+                return true;
+            }
+        }
+        false
     }
 
     /// The row of these bits in a valuation: the value of the first is its lowest bit.

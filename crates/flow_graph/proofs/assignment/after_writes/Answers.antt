@@ -2,11 +2,11 @@
 use Rattle.std.proofs.Common.{◌∷◌, ◌+◌, drop, sym, ◌∙◌, ap}
 use Rattle.std.proofs.lemmas.List.{drop_more, drop_all}
 use Rattle.flow_graph.specs.Assignments.{after_writes, masked, choice_left}
-use Rattle.flow_graph.proofs.assignment.Assignment.next.Goals as goal
+use Rattle.flow_graph.proofs.assignment.after_writes.Goals as goal
 
 pub loop-write-preserved : goal.loop-write-preserved
 loop-write-preserved g c =
-    let ws = c.as_slice-write-items.result.now in
+    let ws = c.args.writes.now in
     let i = c.loop-write.write-index in
     let w = c.write-item.result in
     let rest = drop (i + 1) ws in
@@ -21,7 +21,5 @@ loop-write-preserved g c =
 pub returns : goal.returns
 returns g c =
     let values = c.args.values in
-    let all = drop_all c.loop-write.write-index c.as_slice-write-items.result.now c.loop-write-test.false in
-    sym (ap (λ l. after_writes l values c.loop-write.left c.loop-write.next) all)
-    ∙ c.loop-write.invariant
-    ∙ ap (λ l. after_writes l values c.args.choice values) c.as_slice-write-items.ensures.value
+    let all = drop_all c.loop-write.write-index c.args.writes.now c.loop-write-test.false in
+    sym (ap (λ l. after_writes l values c.loop-write.left c.loop-write.next) all) ∙ c.loop-write.invariant

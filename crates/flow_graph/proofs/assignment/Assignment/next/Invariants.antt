@@ -1,8 +1,0 @@
--- what is after_writes so far, with the writes left, is what all writes make of the valuation
-use Rattle.std.proofs.Common.{◌≡◌, drop}
-use Rattle.flow_graph.specs.Assignments.{after_writes}
-use Rattle.flow_graph.proofs.assignment.Assignment.next.Given as goal
-
-abbrev pub invariant-loop-write : goal.invariant-loop-write
-invariant-loop-write g l =
-    after_writes (drop l.write-index l.write-items) l.values l.left l.next ≡ after_writes l.write-items l.values l.choice l.values
