@@ -77,7 +77,8 @@ kept : (g : Over) (c : In_ok-send_summary_to_all g)
     IsIndexed c.args.self.now.found → IsIndexed (after g c)
 kept g c new last here old =
     left_indexed c.args.self.now.procedure c.args.self.now.found (after g c) c.args.entry c.left-left.result c.in_ok-exit.exit
-    c.of_near-callers.result.now old new last here c.in_ok-add_near.ensures.added c.in_ok-add_near.ensures.others c.in_ok-send_summary_to_all.ensures.ok
+    c.of_near-callers.result.now old new last here c.in_ok-add_near.ensures.added c.in_ok-add_near.ensures.others
+    c.in_ok-send_summary_to_all.ensures.ok
 
 -- and its summary is given to the callers
 gave : (g : Over) (c : In_ok-send_summary_to_all g)
