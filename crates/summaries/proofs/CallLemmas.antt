@@ -57,6 +57,8 @@ module _ {A G : Type 0} (graph : Graph G) (q : ℕ) (f : Found A) (given : Outbo
     outbox = given;
     expanded = f.expanded;
     pending = pending;
+    last_exit = f.last_exit;
+    last_entry = f.last_entry;
   }
 
   -- the messages taken are the same

@@ -36,7 +36,7 @@ use Rattle.path_sets.proofs.PlaceLemmas.{still_there, last_or}
 module _ {A G : Type 0} (graph : Graph G) (q : ℕ) (f g : Found A) where
   -- what is found, with other exits, pairs and messages given
   abbrev pub left_to : Found A
-  left_to = record f { exits = g.exits; pairs = g.pairs; outbox = g.outbox }
+  left_to = record f { exits = g.exits; pairs = g.pairs; outbox = g.outbox; last_exit = g.last_exit; last_entry = g.last_entry }
 
   -- the messages taken are the same
   pub taken_left : (k : NumberedMessage) → TookMessage f k → TookMessage left_to k
@@ -126,7 +126,7 @@ module _ {A : Type 0} (q : ℕ) (f g : Found A) (a : ℕ) (b : Exit) (at : ℕ) 
     (others : (k : ℕ) → nat_eq a k ≡ false → under nat_eq g.exits.by_key k ≡ under nat_eq f.exits.by_key k)
     (told : AddsTo (OfSome (IsTold at) callers) f.outbox.sent.items g.outbox.sent.items) where
   abbrev there : Found A
-  there = record f { exits = g.exits; pairs = g.pairs; outbox = g.outbox }
+  there = record f { exits = g.exits; pairs = g.pairs; outbox = g.outbox; last_exit = g.last_exit; last_entry = g.last_entry }
 
   more : HasMoreBehind f.pairs.keys g.pairs.keys
   more = (pair a b ∷ [], keys)

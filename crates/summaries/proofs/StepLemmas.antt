@@ -205,6 +205,8 @@ module _ {A G : Type 0} (graph : Graph G) (q : ℕ) (f : Found A) (entries : Gro
     outbox = given;
     expanded = f.expanded;
     pending = pending;
+    last_exit = f.last_exit;
+    last_entry = f.last_entry;
   }
 
   module _ (es ds : List Triple) (W : Triple → Type 0) (taken : (k : NumberedMessage) → TookMessage f k → TookMessage grown_to k)

@@ -35,6 +35,10 @@ pub(crate) struct Found<A: Allocator> {
     pub(crate) expanded: IndexSet<KeptEdge, BuildHasherDefault<FoldHasher>, A>,
     /// The edges to work on.
     pub(crate) pending: Vec<PathEdge, A>,
+    /// The place in `exits` that was used last. It is tried first, since most pairs have the entry of the pair before.
+    pub(crate) last_exit: usize,
+    /// The same in `entries`.
+    pub(crate) last_entry: usize,
 }
 
 impl<A: Allocator + Copy> Found<A> {
@@ -54,6 +58,8 @@ impl<A: Allocator + Copy> Found<A> {
             outbox: Outbox::new(alloc),
             expanded: IndexSet::new(alloc),
             pending: Vec::new(alloc),
+            last_exit: 0,
+            last_entry: 0,
         }
     }
 

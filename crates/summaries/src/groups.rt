@@ -1,6 +1,6 @@
 //! Values that are found by a key.
 
-ghost use Rattle.std.specs.Prelude.{◌≡◌, ◌≢◌, [], ◌∷◌, ◌++◌, OnOk, OnErr, IfOk};
+ghost use Rattle.std.specs.Prelude.{◌≡◌, ◌↔◌, ◌≢◌, [], ◌∷◌, ◌++◌, OnOk, OnErr, IfOk, IsTrue};
 ghost use Rattle.std.specs.Bool.{OnTrue, OnFalse};
 ghost use Rattle.std.specs.Mem.{FitsInMemory};
 ghost use Rattle.indexmap.specs.IndexMap.{keys};
@@ -80,5 +80,57 @@ impl<K: Eq + Hash + Copy, V: Copy, A: Allocator + Copy> Groups<K, V, A> {
             Some(values) => values.as_slice(),
             None => &[],
         }
+    }
+
+    /// Whether a key is the one at an index.
+    #[inline(always)]
+    fn is_at(&self, at: usize, key: K) -> bool
+        ensures { IsTrue result ↔ IsKeyAt K.eq (keys self.now.by_key) key at }
+    {
+        match self.by_key.get_index(at) {
+            Some((known, _)) => key == *known,
+            None => false,
+        }
+    }
+
+    /// The values of a key. The key at the index `last` is tried first, and `last` becomes the index of this one.
+    #[inline(always)]
+    pub(crate) fn of_near(&self, key: K, last: &mut usize) -> &[V]
+        requires { FitsInMemory V.row }
+        ensures { result.now ≡ under K.eq self.now.by_key key }
+    {
+        if let Some((known, values)) = self.by_key.get_index(*last) {
+            if key == *known {
+                return values.as_slice();
+            }
+        }
+        match self.by_key.get_full(&key) {
+            Some((at, _, values)) => {
+                *last = at;
+                values.as_slice()
+            }
+            None => &[],
+        }
+    }
+
+    /// Adds a value to those of a key. The key at the index `last` is tried first, and `last` becomes the index of this
+    /// one. If memory is refused, each key has the values that it had.
+    #[inline(always)]
+    pub(crate) fn add_near(&mut self, key: K, value: V, last: &mut usize) -> Result<(), AllocError>
+        requires { FitsInMemory V.row }
+        ensures added { OnOk result
+            (under K.eq self.new.by_key key ≡ under K.eq self.old.by_key key ++ value ∷ []) }
+        ensures others { OnOk result (OthersStay K.eq key self.old.by_key self.new.by_key) }
+        ensures err { OnErr result (AllStay K.eq self.old.by_key self.new.by_key) }
+    {
+        if !self.is_at(*last, key) {
+            *last = self.add(key, value)?.at;
+            return Ok(());
+        }
+        let alloc = *self.by_key.allocator();
+        if let Some(values) = self.by_key.get_index_mut(*last) {
+            values.add(alloc, value)?;
+        }
+        Ok(())
     }
 }

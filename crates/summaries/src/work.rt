@@ -59,8 +59,10 @@ impl<'g, G: Allocator, A: Allocator + Copy, S: PathSet<A>> Table<'g, G, A, S> {
         let (at, new) = self.found.pairs.insert_full(KeptPair::new(pair))?;
         if new {
             let exit = index_in_32_bits(at)?;
-            self.found.exits.add(entry, exit)?;
-            let callers = self.found.entries.of(entry);
+            let last = &mut self.found.last_exit;
+            self.found.exits.add_near(entry, exit, last)?;
+            let last = &mut self.found.last_entry;
+            let callers = self.found.entries.of_near(entry, last);
             send_summary_to_all(&mut self.found.outbox, exit, callers)?;
         }
         Ok(())

@@ -1,15 +1,13 @@
-use Rattle.std.proofs.Common.{◌≡◌, ℕ, Bool, true, false, cond, List, [], ◌∷◌, ◌++◌, Some, Result, Ok, Err, slice_get}
-use Rattle.std.proofs.Common.{refl, sym, ap, ◌∙◌, rules}
-use Rattle.std.specs.Cmp.{IsEquivalence}
+use Rattle.std.proofs.Common.{◌≡◌, ℕ, Bool, true, List, [], ◌∷◌, ◌++◌, Some, slice_get}
+use Rattle.std.proofs.Common.{sym, ap, ◌∙◌, rules}
 use Rattle.std.specs.List.{position_or_len}
-use Rattle.std.specs.Map.{keys_of, lookup}
-use Rattle.std.specs.Result.{OnErr}
+use Rattle.std.specs.Map.{keys_of}
 use Rattle.indexmap.specs.Entry.{entry_value}
 use Rattle.indexmap.specs.IndexMap.{insert_entry}
 use Rattle.indexmap.specs.IndexSet.{insert_key}
 use Rattle.indexmap.proofs.SetLemmas.{keys_insert_entry, inserted_at}
-use Rattle.summaries.specs.declared.values.Values.{Values}
 use Rattle.summaries.specs.Under.{values_in, values_if_any, under}
+use Rattle.summaries.proofs.GroupLemmas.{same_after, added_after, others_after}
 use Rattle.summaries.proofs.groups.Groups.add.Given.{Over}
 use Rattle.summaries.proofs.groups.Groups.add.Goals as goal
 
@@ -25,31 +23,6 @@ module _ {K V : Type 0} (eq : K → K → Bool) (es fs : List (K × V)) (k : K) 
   place_after itself i at =
       let (x, here, same) = inserted_at eq itself es k v in
       (x, (λ j. slice_get (keys_of (is j)) (at j)) ∙ here, same)
-
-module _ {K V A : Type 0} (eq : K → K → Bool) (laws : IsEquivalence eq) (es : List (K × Values V A)) (k : K)
-    (old new : Values V A)
-    (had : lookup (eq k) es ≡ Some old) (same : values_in new ≡ values_in old) where
-  -- each key has the items that it had, if those of k are the same
-  same_after : {X E : Type 0} (r : Result X E) (fs : List (K × Values V A))
-      → ((j : K) → lookup (eq j) fs ≡ cond (eq k j) (Some new) (lookup (eq j) es))
-      → OnErr r ((j : K) → values_if_any (lookup (eq j) fs) ≡ values_if_any (lookup (eq j) es))
-  same_after (Ok _) fs is = tt
-  same_after (Err _) fs is = λ j. ap values_if_any (is j) ∙ by j (eq k j) refl
-    where
-      by : (j : K) (b : Bool) → eq k j ≡ b
-          → values_if_any (cond b (Some new) (lookup (eq j) es)) ≡ values_if_any (lookup (eq j) es)
-      by j true e = same ∙ ap values_if_any (sym had ∙ (λ n. lookup (λ x. laws.congr k j x e n) es))
-      by j false e = refl
-
-module _ {K V A : Type 0} (eq : K → K → Bool) (es fs : List (K × Values V A)) (k : K) (new : Values V A)
-    (is : (j : K) → lookup (eq j) fs ≡ cond (eq k j) (Some new) (lookup (eq j) es)) where
-  -- the key that was written has the new items
-  added_after : eq k k ≡ true → (items : List V) → values_in new ≡ items → values_if_any (lookup (eq k) fs) ≡ items
-  added_after same items grown = ap values_if_any (is k) ∙ (λ j. values_if_any (cond (same j) (Some new) (lookup (eq k) es))) ∙ grown
-
-  -- and each other key what it had
-  others_after : (j : K) → eq k j ≡ false → values_if_any (lookup (eq j) fs) ≡ values_if_any (lookup (eq j) es)
-  others_after j apart = ap values_if_any (is j) ∙ (λ n. values_if_any (cond (apart n) (Some new) (lookup (eq j) es)))
 
 -- the values that the key has
 had : (g : Over) (c : goal.In_ok-add-in-Occupied g) →

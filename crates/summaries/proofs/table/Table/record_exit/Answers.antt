@@ -55,15 +55,17 @@ pub send_summary_to_all-requires-clause-new : goal.send_summary_to_all-requires-
 send_summary_to_all-requires-clause-new g c =
     let at = (goal.at.send_summary_to_all-requires-clause-new g c).In_ok-at in
     none_told c.args.self.now.found c.requires.holds.0.indexed (pair c.args.entry c.left-left.result) c.insert_full.new.self.keys
-    c.in_ok-exit.exit c.of-callers.result.now (is_new g at c.if-new.true) (is_last g at c.if-new.true)
+    c.in_ok-exit.exit c.of_near-callers.result.now (is_new g at c.if-new.true) (is_last g at c.if-new.true)
     (stands g (goal.at.send_summary_to_all-requires-clause-new g c).In_ok-exit)
 
 -- what is found if the pair is new
 abbrev after : (g : Over) → In_ok-send_summary_to_all g → Found g.row.A.Denot
 after g c = record c.args.self.now.found {
-  exits = c.add.new.self;
+  exits = c.add_near.new.self;
   pairs = c.insert_full.new.self;
   outbox = c.send_summary_to_all.new.outbox;
+  last_exit = c.add_near.new.last;
+  last_entry = c.of_near-callers.new.last;
 }
 
 -- its place is kept
@@ -75,7 +77,8 @@ kept : (g : Over) (c : In_ok-send_summary_to_all g)
     IsIndexed c.args.self.now.found → IsIndexed (after g c)
 kept g c new last here old =
     left_indexed c.args.self.now.procedure c.args.self.now.found (after g c) c.args.entry c.left-left.result c.in_ok-exit.exit
-    c.of-callers.result.now old new last here c.in_ok-add.ensures.added c.in_ok-add.ensures.others c.in_ok-send_summary_to_all.ensures.ok
+    c.of_near-callers.result.now old new last here c.in_ok-add_near.ensures.added c.in_ok-add_near.ensures.others
+    c.in_ok-send_summary_to_all.ensures.ok
 
 -- and its summary is given to the callers
 gave : (g : Over) (c : In_ok-send_summary_to_all g)
@@ -84,11 +87,11 @@ gave : (g : Over) (c : In_ok-send_summary_to_all g)
     c.insert_full.new.self.keys ≡ c.args.self.now.found.pairs.keys ++ pair c.args.entry c.left-left.result ∷ [] →
     slice_get c.insert_full.new.self.keys c.in_ok-exit.exit ≡ Some (pair c.args.entry c.left-left.result) →
     let self = c.args.self.now in
-    AddsTo (OfSome (IsSummaryTold self.procedure c.args.entry c.left-left.result) c.of-callers.result.now)
+    AddsTo (OfSome (IsSummaryTold self.procedure c.args.entry c.left-left.result) c.of_near-callers.result.now)
     (mails_in self.procedure self.found) (mails_in self.procedure (after g c))
 gave g c new last here =
     left_told c.args.self.now.procedure c.args.self.now.found (after g c) c.args.entry c.left-left.result c.in_ok-exit.exit
-    c.of-callers.result.now c.requires.holds.0.indexed new last here c.in_ok-add.ensures.added c.in_ok-add.ensures.others
+    c.of_near-callers.result.now c.requires.holds.0.indexed new last here c.in_ok-add_near.ensures.added c.in_ok-add_near.ensures.others
     c.in_ok-send_summary_to_all.ensures.ok
 
 pub returns-in_ok-send_summary_to_all-clause-ok : goal.returns-in_ok-send_summary_to_all-clause-ok
@@ -104,7 +107,7 @@ returns-in_ok-send_summary_to_all-clause-ok g c =
     let h = after g at.In_ok-send_summary_to_all in
     let told =
     subst (λ cs. AddsTo (OfSome (IsSummaryTold self.procedure c.args.entry b) cs) (mails_in self.procedure f) (mails_in self.procedure h))
-    c.of-callers.ensures (gave g at.In_ok-send_summary_to_all new last here) in
+    c.of_near-callers.ensures (gave g at.In_ok-send_summary_to_all new last here) in
     let step = leave_step self.graph.now self.procedure f h es c.args.entry c.args.values b c.left-left.ensures.number
     c.requires.holds.0 c.requires.edge last (kept g at.In_ok-send_summary_to_all new last here) told in
     still_holds self.graph.now self.procedure f h es es step (λ t. t ≡ triple c.args.entry 0 c.args.values) c.requires.holds
