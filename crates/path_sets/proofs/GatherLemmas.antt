@@ -1,7 +1,6 @@
 -- A point is gathered at a key that has a mask, or at one without.
-use Rattle.std.proofs.Common.{◌≡◌, ℕ, suc, zero, Bool, true, false, cond, List, [], ◌∷◌, ◌++◌, Some, None, slice_get, if◌then◌else◌, length}
-use Rattle.std.proofs.Common.{◌+◌, ◌<◌, arith}
-use Rattle.std.proofs.Common.{inl, refl, sym, ap, ◌∙◌, subst}
+use Rattle.std.proofs.Common.{◌≡◌, ◌+◌, ◌<◌, ℕ, suc, zero, Bool, true, false, cond, if◌then◌else◌}
+use Rattle.std.proofs.Common.{List, [], ◌∷◌, ◌++◌, Some, None, length, slice_get, inl, refl, sym, ap, ◌∙◌, subst, arith}
 use Rattle.std.specs.Map.{keys_of, lookup, values_of}
 use Rattle.std.specs.List.{position_or_len}
 use Rattle.std.proofs.lemmas.List.{length_push}
@@ -20,7 +19,8 @@ use Rattle.path_sets.specs.GatheredKeys.{gathered_key_eq, mask_key_at, masks_of}
 use Rattle.path_sets.specs.Inserts.{PutsIn}
 use Rattle.path_sets.specs.Masks.{AddsPoint, AddsPointAt}
 use Rattle.path_sets.proofs.CoverLemmas.{covers_begun, covers_marked, one_more_key, puts_begun, puts_marked}
-use Rattle.path_sets.proofs.GatheredKeyLemmas.{gathered_key_self, key_masks, keys_masks, marked_masks, none_there, push_masks, same_gathered_key}
+use Rattle.path_sets.proofs.GatheredKeyLemmas.{gathered_key_self, key_masks, keys_masks, marked_masks, none_there}
+use Rattle.path_sets.proofs.GatheredKeyLemmas.{push_masks, same_gathered_key}
 use Rattle.path_sets.proofs.PlaceLemmas.{at_index}
 
 module _ {K V : Type 0} (eq : K → K → Bool) (same : (x y : K) → eq x y ≡ true → x ≡ y) (k : K) (was now : V) where
@@ -50,11 +50,11 @@ put_at old new key mask put at is =
     let (own, here, same) = inserted_at gathered_key_eq gathered_key_self old key mask in
     (λ j. slice_get (keys_of (put j)) (is j)) ∙ here ∙ ap Some (sym (same_gathered_key key own same))
 
--- numbers that are the same: neither is greater
+-- a number that is the same as another is not greater
 pub no_longer : (old new : ℕ) → new ≡ old → old < new → ⊥
 no_longer old new same less = omega (arith, same, less)
 
--- and one more is not the same
+-- and one more than a number is not that number
 pub one_more_not_same : (old new : ℕ) → new ≡ old + 1 → {P : Type 0} → new ≡ old → P
 one_more_not_same old new more same = absurd (omega (arith, same, more))
 

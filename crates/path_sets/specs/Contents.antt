@@ -66,7 +66,8 @@ module _ {Alloc : Type 0} where
 
   -- The path edge of a key and a bit was nowhere, and now is in the masks; or it was somewhere, and the masks are the
   -- same. The flag says which.
-  pub record GathersEdge (merged : Diagrams Alloc) (key : GatheredKey) (bit : ℕ) (old new : List (MaskKey × ℕ)) (added : Bool) : Type 0 where
+  pub record GathersEdge (merged : Diagrams Alloc) (key : GatheredKey) (bit : ℕ) (old new : List (MaskKey × ℕ)) (added : Bool)
+      : Type 0 where
     pub puts : PutsEdge merged.nodes.kept.keys merged.roots.entries (edge_at (mask_key_at (diagrams_in merged) key) bit) old new added
 
   -- the mask has the points that the diagrams have at the key, and one point more

@@ -4,8 +4,8 @@ use Rattle.indexmap.specs.Entry.{entry_value}
 use Rattle.indexmap.specs.IndexMap.{insert_entry, insert_index}
 use Rattle.path_sets.specs.Contents.{IsFirstMask}
 use Rattle.path_sets.specs.GatheredKeys.{gathered_key, gathered_key_eq}
-use Rattle.path_sets.proofs.GatherLemmas.{covers_first, covers_more, gathers_first, gathers_more, keys_first, keys_more, len_first, len_more}
-use Rattle.path_sets.proofs.GatherLemmas.{no_longer, one_more_not_same, put_at}
+use Rattle.path_sets.proofs.GatherLemmas.{covers_first, covers_more, gathers_first, gathers_more, keys_first, keys_more}
+use Rattle.path_sets.proofs.GatherLemmas.{len_first, len_more, no_longer, one_more_not_same, put_at}
 use Rattle.std.proofs.lemmas.Bool.{OnTrue_from}
 use Rattle.path_sets.proofs.diagrams.batch.Batch.gather_elsewhere.Given as given
 use Rattle.path_sets.proofs.diagrams.batch.Batch.gather_elsewhere.Goals as goal
@@ -25,6 +25,12 @@ module _ (g : given.Over) (c : After-add_point g) where
       ap (λ v. insert_entry gathered_key_eq c.args.self.now.masks.entries (gathered_key c.args.diagram v) c.add_point.new.mask)
       c.new.ensures
 
+  -- the index is that of the key
+  at : c.index.result ≡ insert_index gathered_key_eq c.args.self.now.masks (gathered_key c.args.diagram c.args.values)
+  at =
+      c.index.ensures ∙ c.in_ok-entry.ensures.index
+      ∙ ap (λ v. insert_index gathered_key_eq c.args.self.now.masks (gathered_key c.args.diagram v)) c.new.ensures
+
 module _ (g : given.Over) (c : After-insert g) where
   -- the key had no mask
   none : lookup (gathered_key_eq (gathered_key c.args.diagram c.args.values)) c.args.self.now.masks.entries ≡ None
@@ -33,12 +39,20 @@ module _ (g : given.Over) (c : After-insert g) where
       ap (λ v. lookup (gathered_key_eq (gathered_key c.args.diagram v)) c.args.self.now.masks.entries) (sym c.new.ensures)
       ∙ sym c.in_ok-entry.ensures.value ∙ ap entry_value c.in-Vacant.is
 
+  -- the key that is put in is the one that was given
   one : insert_entry gathered_key_eq c.args.self.now.masks.entries (gathered_key c.args.diagram c.new.result) c.insert.result.now
       ≡ insert_entry gathered_key_eq c.args.self.now.masks.entries (gathered_key c.args.diagram c.args.values) c.insert.result.now
   one =
       ap (λ v. insert_entry gathered_key_eq c.args.self.now.masks.entries (gathered_key c.args.diagram v) c.insert.result.now)
       c.new.ensures
 
+  -- the index is the one that the key gets
+  place : c.index.result ≡ insert_index gathered_key_eq c.args.self.now.masks (gathered_key c.args.diagram c.args.values)
+  place =
+      c.index.ensures ∙ c.in_ok-entry.ensures.index
+      ∙ ap (λ v. insert_index gathered_key_eq c.args.self.now.masks (gathered_key c.args.diagram v)) c.new.ensures
+
+  -- what is put in is the first mask of the key
   first : IsFirstMask c.args.merged.now (gathered_key c.args.diagram c.args.values) c.args.bit c.insert.result.now
   first =
       subst (IsFirstMask c.args.merged.now (gathered_key c.args.diagram c.args.values) c.args.bit) (sym c.insert.ensures.value)
@@ -80,14 +94,13 @@ returns-in-Some-clause-keys g c =
 pub returns-in-Occupied-clause-last : goal.returns-in-Occupied-clause-last
 returns-in-Occupied-clause-last g c =
     let i = (goal.at.returns-in-Occupied-clause-last g c).After-add_point in
-    OnTrue_from c.add_point.result _ (λ _. put_at c.args.self.now.masks.entries _ _ c.add_point.new.mask (search rules ∙ same g i) c.index.result
-    (c.index.ensures ∙ c.in_ok-entry.ensures.index ∙ ap (λ v. insert_index gathered_key_eq c.args.self.now.masks (gathered_key c.args.diagram v)) c.new.ensures))
+    OnTrue_from c.add_point.result _
+    (λ _. put_at c.args.self.now.masks.entries _ _ c.add_point.new.mask (search rules ∙ same g i) c.index.result (at g i))
 
 pub returns-in-Some-clause-last : goal.returns-in-Some-clause-last
 returns-in-Some-clause-last g c =
     let i = (goal.at.returns-in-Some-clause-last g c).After-insert in
-    put_at c.args.self.now.masks.entries _ _ c.insert.result.now (search rules ∙ one g i) c.index.result
-    (c.index.ensures ∙ c.in_ok-entry.ensures.index ∙ ap (λ v. insert_index gathered_key_eq c.args.self.now.masks (gathered_key c.args.diagram v)) c.new.ensures)
+    put_at c.args.self.now.masks.entries _ _ c.insert.result.now (search rules ∙ one g i) c.index.result (place g i)
 
 pub returns-in_err-entry-clause-more : goal.returns-in_err-entry-clause-more
 returns-in_err-entry-clause-more g c more = absurd (no_longer _ _ (ap length (search rules)) more)

@@ -49,7 +49,8 @@ returns-clause-ok g c =
     let diagrams = keys m.roots in
     let b = c.index_mut.result.now in
     let w = c.gather.new.self in
-    IfOk-weaker c.gather.result (GathersEdge m c.args.key c.args.bit (masks_of diagrams b.masks.entries) (masks_of diagrams w.masks.entries))
+    IfOk-weaker c.gather.result
+    (GathersEdge m c.args.key c.args.bit (masks_of diagrams b.masks.entries) (masks_of diagrams w.masks.entries))
     (GathersEdge m c.args.key c.args.bit (masks_in diagrams bs) (masks_in diagrams (slice_set bs k w)))
     (λ added gathers. record {
       puts = puts_in bs k b w (at g i) c.args.key c.gather.ensures.keys s.homes.items ns rs c.args.bit s.home c.requires.batch.0
