@@ -1,13 +1,15 @@
 -- What is found by keys after a value of a map was written.
 use Rattle.std.proofs.Common.{◌≡◌, ℕ, Bool, true, false, cond, List, [], ◌∷◌, None, Some, Result, Ok, Err, slice_get}
-use Rattle.std.proofs.Common.{zero, suc, refl, sym, ap, ◌∙◌}
+use Rattle.std.proofs.Common.{◌++◌, ◌||◌, if◌then◌else◌, zero, suc, refl, sym, ap, ◌∙◌}
 use Rattle.std.specs.Cmp.{IsEquivalence}
 use Rattle.std.specs.Map.{keys_of, values_of, lookup}
 use Rattle.std.specs.Result.{OnErr}
 use Rattle.std.proofs.lemmas.Map.Entries.{lookup_from_place}
 use Rattle.std.proofs.lemmas.Option.{none-some, same_Some}
 use Rattle.indexmap.specs.IndexMap.{IndexMap, keys, values, get, with_value_at, IsUnique}
+use Rattle.indexmap.specs.IndexSet.{insert_key}
 use Rattle.indexmap.proofs.CallerLemmas.{updates-with_value_at}
+use Rattle.std.specs.List.{list_any}
 use Rattle.summaries.specs.declared.values.Values.{Values}
 use Rattle.summaries.specs.Under.{values_in, values_if_any}
 
@@ -64,3 +66,19 @@ module _ {K X S : Type 0} (eq : K → K → Bool) (laws : IsEquivalence eq) (m :
   written_at w j =
       (updates-with_value_at m i w laws unique known v (entry_at m.entries i known v key value)).0 j
       ∙ sym (λ n. cond (laws.congr k known j same n) (Some w) (get eq m j))
+
+-- a key that is the same as the one at an index is among the keys
+any_at : {K : Type 0} (eq : K → K → Bool) (ks : List K) (k known : K) (i : ℕ) → slice_get ks i ≡ Some known → eq k known ≡ true
+    → list_any (eq k) ks ≡ true
+any_at eq [] k known i at same = absurd (none-some known at)
+any_at eq (x ∷ xs) k known zero at same = ap (λ b. b || list_any (eq k) xs) (ap (eq k) (same_Some x known at) ∙ same)
+any_at eq (x ∷ xs) k known (suc i) at same = by (eq k x) (any_at eq xs k known i at same)
+  where
+    by : (b : Bool) → list_any (eq k) xs ≡ true → (b || list_any (eq k) xs) ≡ true
+    by true later = refl
+    by false later = later
+
+-- so inserting it leaves them
+pub keys_stay : {K : Type 0} (eq : K → K → Bool) (ks : List K) (k known : K) (i : ℕ) → slice_get ks i ≡ Some known
+    → eq k known ≡ true → insert_key eq ks k ≡ ks
+keys_stay eq ks k known i at same = ap (λ b. if b then ks else ks ++ k ∷ []) (any_at eq ks k known i at same)

@@ -118,6 +118,8 @@ impl<K: Eq + Hash + Copy, V: Copy, A: Allocator + Copy> Groups<K, V, A> {
     #[inline(always)]
     pub(crate) fn add_near(&mut self, key: K, value: V, last: &mut usize) -> Result<(), AllocError>
         requires { FitsInMemory V.row }
+        ensures keys { OnOk result
+            (keys self.new.by_key ≡ insert_key K.eq (keys self.old.by_key) key) }
         ensures added { OnOk result
             (under K.eq self.new.by_key key ≡ under K.eq self.old.by_key key ++ value ∷ []) }
         ensures others { OnOk result (OthersStay K.eq key self.old.by_key self.new.by_key) }

@@ -1,7 +1,9 @@
 -- A value is added to those of the key at the index.
 use Rattle.std.proofs.Common.{◌∷◌, ◌++◌, [], refl, sym, ap, ◌∙◌}
 use Rattle.summaries.specs.Under.{values_if_any}
-use Rattle.summaries.proofs.GroupLemmas.{same_after, added_after, others_after, has_value_at, value_there, written_at}
+use Rattle.summaries.proofs.GroupLemmas.{same_after, added_after, others_after, has_value_at, keys_stay, value_there, written_at}
+use Rattle.indexmap.specs.IndexMap.{keys}
+use Rattle.indexmap.proofs.CallerLemmas.{keys-with_value_at}
 use Rattle.summaries.proofs.groups.Groups.add_near.Goals as goal
 
 pub returns-in_err-add-clause-err : goal.returns-in_err-add-clause-err
@@ -44,3 +46,15 @@ pub returns-in_default-clause-added : goal.returns-in_default-clause-added
 returns-in_default-clause-added g c =
     let (known, key, same) = c.if-not-is_at.ensures.0 refl in
     absurd (value_there c.args.self.now.by_key.entries c.args.last.now known key c.in_default.ensures.value)
+
+pub returns-in_ok-add-clause-keys : goal.returns-in_ok-add-clause-keys
+returns-in_ok-add-clause-keys g c =
+    let m = c.args.self.now.by_key in
+    let (known, key, same) = c.if-not-is_at.ensures.0 refl in
+    keys-with_value_at m c.args.last.now c.add-in-Some.new.self
+    ∙ sym (keys_stay g.K.PartialEq.eq (keys m) c.args.key known c.args.last.now key same)
+
+pub returns-in_default-clause-keys : goal.returns-in_default-clause-keys
+returns-in_default-clause-keys g c =
+    let (known, key, same) = c.if-not-is_at.ensures.0 refl in
+    sym (keys_stay g.K.PartialEq.eq (keys c.args.self.now.by_key) c.args.key known c.args.last.now key same)
