@@ -15,7 +15,8 @@ use Rattle.summaries.specs.Tables.{Worked}
 use Rattle.summaries.proofs.FrontierLemmas.{ok_err}
 
 -- the edges es grow to ds, and what is found beside them stays
-module _ {A G : Type 0} (graph : Graph G) (q : ℕ) (f : Found A) (es ds : List Triple) (kept : (t : Triple) → Member t es → Member t ds) where
+module _ {A G : Type 0} (graph : Graph G) (q : ℕ) (f : Found A) (es ds : List Triple)
+    (kept : (t : Triple) → Member t es → Member t ds) where
   -- all is reached and sent, if the new edges are reached
   pub found_grounded : ((t : Triple) → Member t ds → GraphReaches graph (TookMessage f) t.entry t.point t.values) →
       IsGrounded graph q f es → IsGrounded graph q f ds

@@ -37,7 +37,8 @@ returns-in_default g c =
     c.in_default.is c.in_ok-found.ensures in record {
       adds = record {
         ok = subst (λ after. Grows (λ t. t ≡ triple_of c.args.edge) (g.S.PathSet.members c.args.self.now.edges.now)
-            (g.S.PathSet.members c.find.new.self.edges.now) c.args.self.now.pending.now.items after.items) (sym found.pending) found.adds.ok;
+            (g.S.PathSet.members c.find.new.self.edges.now) c.args.self.now.pending.now.items after.items)
+            (sym found.pending) found.adds.ok;
         only = found.adds.only;
         within = found.adds.within;
         limit = λ is. absurd (ok_err is);

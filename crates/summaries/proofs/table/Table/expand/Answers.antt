@@ -87,7 +87,8 @@ returns g c =
     let reached = lead_only old.graph.now old.procedure f pending es ds e flow held.0 c.requires.edge here adds.only in
     let holds : OnOk answer (Holds g.S.PathSet.members (IsFoundBy answer) last) =
     both_ok answer
-    (λ (kept : (t : Triple) → Member t ms → Member t ds) (both : ((t : Triple) → IsNext flow e t → Member t ds) × AddsOnly (IsFoundBy answer) ms ds). (
+    (λ (kept : (t : Triple) → Member t ms → Member t ds)
+    (both : ((t : Triple) → IsNext flow e t → Member t ds) × AddsOnly (IsFoundBy answer) ms ds). (
       found_grounded old.graph.now old.procedure last.found ms ds kept reached now.0,
       found_saturated old.graph.now old.procedure last.found ms ds kept e
           (led_worked old.graph.now old.procedure last.found ds e c.requires.left flow here c.requires.no_call both.0)

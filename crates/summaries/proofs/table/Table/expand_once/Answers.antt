@@ -72,7 +72,8 @@ expanded g c answer new added =
           (next_reached old.graph.now old.procedure f pending es ds e flow held.0 c.requires.edge here)
           (IfOk-weaker answer _ _
           (λ _ grown.
-          let step = lead_step old.graph.now old.procedure f pending es ds e flow held.0 c.requires.edge here (IsNext flow e) (λ t is. is) grown in
+          let step = lead_step old.graph.now old.procedure f pending es ds e flow held.0 c.requires.edge here
+          (IsNext flow e) (λ t is. is) grown in
           let now = still_holds old.graph.now old.procedure f _ es ds step (λ t. t ≡ triple_of e) held in (
             now.0,
             worked_off old.graph.now old.procedure _ ds e.entry e.point e.values

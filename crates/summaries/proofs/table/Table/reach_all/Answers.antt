@@ -32,7 +32,8 @@ returns g c =
     let first = c.in_ok-reach_next.ensures in
     let others = c.expand_others.ensures in
     let limit : most_of mid.limit ≡ most_of old.limit = ap (λ t. most_of t.limit) first.rest in record {
-      adds = adds_both (IsAt e c.choose-next.result.0) (IsOther flow e) (IsNext flow e) c.expand_others.result (most_of old.limit) _ _ _ _ _ _
+      adds = adds_both (IsAt e c.choose-next.result.0) (IsOther flow e) (IsNext flow e) c.expand_others.result (most_of old.limit)
+          _ _ _ _ _ _
           first.adds.ok
           (subst (λ most. Adds (IsOther flow e) c.expand_others.result most (g.S.PathSet.members mid.edges) (g.S.PathSet.members new.edges)
           mid.found.pending.items new.found.pending.items) limit others.adds)

@@ -62,7 +62,8 @@ returns-then-point-points-clause-worked g c =
     }
 
 -- the work on a call, whatever is answered of it
-called : (g : Over) (c : After-record_call g) → Worked g.S.PathSet.members (λ t. ⊥) c.record_call.result c.args.self.now c.record_call.new.self
+called : (g : Over) (c : After-record_call g) →
+    Worked g.S.PathSet.members (λ t. ⊥) c.record_call.result c.args.self.now c.record_call.new.self
 called g c =
     let old = c.args.self.now in
     let new = c.record_if_exit.new.self in
@@ -90,7 +91,8 @@ pub returns-in_ok-record_call-in-Call-clause-worked : goal.returns-in_ok-record_
 returns-in_ok-record_call-in-Call-clause-worked g c =
     let after = (goal.at.returns-in_ok-record_call-in-Call-clause-worked g c).After-record_call in
     none_found g.S.PathSet.members _ _ _
-    (subst (λ r. Worked g.S.PathSet.members (λ t. ⊥) r c.args.self.now c.record_call.new.self) c.in_ok-record_call-in-Call.was (called g after))
+    (subst (λ r. Worked g.S.PathSet.members (λ t. ⊥) r c.args.self.now c.record_call.new.self) c.in_ok-record_call-in-Call.was
+    (called g after))
 
 pub returns-in_err-record_call-in-Call-clause-worked : goal.returns-in_err-record_call-in-Call-clause-worked
 returns-in_err-record_call-in-Call-clause-worked g c =
