@@ -1,18 +1,19 @@
 -- Each step of a lock at a place may be taken, under every rule that allows a lock there.
 use Rattle.std.proofs.Common.{◌≡◌, ◌≢◌, inl, inr, ℕ, ◌+◌, ◌*◌, ◌^◌, ◌%◌, ◌<◌, List, [], ◌∷◌, ◌++◌, map, length, set, get_or, refl, sym, ap}
-use Rattle.std.proofs.Common.{◌∙◌, subst, arith, Option, Some, length-set, get_or-set_other, get_or-set_same}
+use Rattle.std.proofs.Common.{◌==◌, eq-eqb, ne_eqb, ◌∙◌, subst, arith, Option, Some, length-set, get_or-set_other, get_or-set_same}
 use mathlib.Core.Option as maybe
 use mathlib.Core.Option.{some, none}
 use mathlib.Core.Logic.{dite}
+use prog.Atomic.{either}
 use native.Mathlib.Decide.{ℕ_discrete}
 use lib.ListN.{get_elem?}
-use Rattle.atomic_table.specs.Table.{State, Me, keeps, takes, gives, Allows, rest}
+use Rattle.atomic_table.specs.Table.{State, Me, stepped, carried_after, keeps, takes, gives, Allows, rest}
 use Rattle.ticket_lock.specs.declared.hand.Hand.{Hand}
 use Rattle.ticket_lock.specs.Count.{times}
 use Rattle.ticket_lock.specs.History.{StartsWith, EndsIn}
 use Rattle.ticket_lock.specs.Core.{in_hand, TicketCore}
 use Rattle.ticket_lock.specs.Turns.{StepKind, draws, waits, enters, passes, with_ticket, with_entry, with_leave, Kept, Opens}
-use Rattle.ticket_lock.specs.Calls.{Drew, Loaded, Passed}
+use Rattle.ticket_lock.specs.Calls.{Drew, DrewIfNext, Loaded, Passed}
 use Rattle.ticket_lock.specs.Proved.Facts.{total_at, set_again, set_here, set_else, at-map}
 use Rattle.ticket_lock.proofs.HistoryFacts.{StartsWith-length, EndsIn-some}
 use Rattle.ticket_lock.proofs.CoreSteps.{in_range, few_drawn, core_draws, outside, core_enters, core_passes, nobody_inside}
@@ -72,6 +73,48 @@ module _ {T V : Type 0} (holds : State (Option T) V → Type 0) (see : V → Han
           r.3,
         ),
       )
+
+  pub draws_if_next_allowed : (slots id : ℕ) (m : Me (Option T) V) (ticket expected next : ℕ) → ticket ≡ expected
+      → next ≡ (expected + 1) % 2 ^ 64
+      → length (see m.0).drawn < (see m.0).parts * 2 ^ 56 → asks draws m.0 → asks waits m.0
+      → Allows holds slots id m (word + 1) (λ n. either (n == expected) next n) (DrewIfNext see tells ticket m)
+  draws_if_next_allowed slots id m ticket expected next same is_next room ask_draws ask_waits s ok len is_at small =
+      let found : ℕ = get_or s.words (word + 1) 0 in
+      dite (ℕ_discrete found expected)
+      (λ (e : found ≡ expected).
+      let d = draws_allowed slots id m room ask_draws s ok len is_at small in
+      let written : (found + 1) % 2 ^ 64 ≡ either (found == expected) next found =
+      ap (λ n. (n + 1) % 2 ^ 64) e ∙ sym is_next ∙ sym (ap (λ b. either b next found) (eq-eqb _ _ e)) in (
+        d.0,
+        d.1,
+        d.2,
+        subst (λ n. holds (stepped s (word + 1) n id m.1 d.0 d.1)) written d.3,
+        ((λ is. subst (λ n. Drew see tells m n (d.0, carried_after m.1 d.1)) is d.4), (λ ne. absurd (ne (e ∙ sym same)))),
+      ))
+      (λ (ne : found ≢ expected).
+      let o = opening s ok in
+      let log : List T = o.0 in
+      let kept = o.1 in
+      let h : Hand T = see m.0 in
+      let serving : ℕ = get_or s.words word 0 in
+      let hands : List (Hand T) = map see s.views in
+      let here : maybe.Option (maybe.Option (Option T)) = get_elem? s.homes slot in
+      let is_h = at-map see s.views id m.0 is_at in
+      let in_row = kept.room in
+      let same_a : get_or (set s.words (word + 1) found) word 0 ≡ serving =
+      get_or-set_other s.words (word + 1) word found 0 (λ k. omega arith) in
+      let same_b : get_or (set s.words (word + 1) found) (word + 1) 0 ≡ found = get_or-set_same s.words (word + 1) found 0 in_row in
+      let kept' : Kept word slot log (set s.words (word + 1) found) s.homes (set hands id h) =
+      kept_words word slot (word + 1) found serving found log s.words s.homes (set hands id h) kept.room same_a same_b
+      (subst (λ l. TicketCore serving found log here l) (sym (set_again hands id h is_h)) kept.core) in
+      let r = o.2 id m.0 is_at waits (word + 1) found s.homes log h (inr refl) refl (λ k _. refl) (refl, refl) kept' ask_waits in
+      let written : found ≡ either (found == expected) next found = sym (ap (λ b. either b next found) (ne_eqb _ _ ne)) in (
+        r.0,
+        keeps,
+        tt,
+        subst (λ n. holds (stepped s (word + 1) n id m.1 r.0 keeps)) written r.2,
+        ((λ e. absurd (ne (e ∙ same))), (λ _. (refl, r.1, r.3))),
+      ))
 
   pub looks_allowed : (slots id : ℕ) (m : Me (Option T) V) (ticket : ℕ) → 0 < times ticket (see m.0).tickets → asks waits m.0
       → ((x : T) → asks (enters x) m.0)

@@ -1,5 +1,5 @@
 -- What each call of a lock at a place tells.
-use Rattle.std.specs.Prelude.{◌≡◌, ◌≢◌, ℕ, ◌+◌, ◌^◌, ◌<◌, ◌≤◌, [], ◌∷◌, length, Option, Some, None, MatchOption}
+use Rattle.std.specs.Prelude.{◌≡◌, ◌≢◌, ℕ, Bool, true, false, ◌+◌, ◌^◌, ◌<◌, ◌≤◌, [], ◌∷◌, length, Option, Some, None, MatchOption}
 use Rattle.atomic_table.specs.Table.{Me, rest}
 use Rattle.atomic_table.specs.Seated.{TableId}
 use Rattle.atomic_table.specs.declared.shared.Seat.{Seat}
@@ -39,6 +39,18 @@ module _ {T V : Type 0} (see : V → Hand T) (tells : StepKind T → V → V →
   -- a draw: the slots that the seat holds stay
   abbrev pub Drew : Me (Option T) V → ℕ → Me (Option T) V → Type 0
   Drew before ticket after = (after.1 ≡ before.1) × DrawsTicket ticket (see before.0) (see after.0) × tells draws before.0 after.0
+
+  -- a look that tells nothing: the hand stays
+  abbrev pub Stayed : Me (Option T) V → Me (Option T) V → Type 0
+  Stayed before after = (after.1 ≡ before.1) × (see after.0 ≡ see before.0) × tells waits before.0 after.0
+
+  -- a draw of this ticket if it is the next one, and else a look
+  abbrev pub DrewIfNext : ℕ → Me (Option T) V → ℕ → Me (Option T) V → Type 0
+  DrewIfNext next before number after = (number ≡ next → Drew before next after) × (number ≢ next → Stayed before after)
+
+  -- the same, with whether it was drawn
+  abbrev pub DrewIf : Me (Option T) V → ℕ → Bool → Me (Option T) V → Type 0
+  DrewIf before next drawn after = (drawn ≡ true → Drew before next after) × (drawn ≡ false → Stayed before after)
 
   -- a look too early: nothing changes, and fewer values are left than the ticket says
   abbrev pub Waited : ℕ → Me (Option T) V → Me (Option T) V → Type 0

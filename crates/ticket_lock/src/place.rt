@@ -4,16 +4,24 @@ ghost use Rattle.atomic_table.specs.Table.{rest};
 ghost use Rattle.ticket_lock.specs.Count.{times};
 ghost use Rattle.ticket_lock.specs.History.{EndsIn};
 ghost use Rattle.ticket_lock.specs.Turns.{draws, waits, enters, passes};
-ghost use Rattle.ticket_lock.specs.Calls.{IsSameSeat, IsRoom, StandsAt, IsFree, Drew, LookedAtTurn};
-ghost use Rattle.ticket_lock.specs.Calls.{Came, Left};
+ghost use Rattle.ticket_lock.specs.Calls.{IsSameSeat, IsRoom, StandsAt, IsFree, Drew, DrewIf};
+ghost use Rattle.ticket_lock.specs.Calls.{LookedAtTurn};
+ghost use Rattle.ticket_lock.specs.Calls.{Came, Left, WentInside};
 
-use crate::plays::{Draws, Looks, Passes};
+use crate::plays::{Draws, DrawsIfNext, Looks, Passes};
 use crate::rule::{At, LockRule};
 use atomic_table::{Seat, Shared};
 use crossbeam_utils::Backoff;
 use std::marker::Brand;
 use std::sync::Wait;
-use std::thread;
+use std::{hint, thread};
+
+// How often a seat pauses while another is inside, and how often it yields after that, before it draws a ticket that it
+// waits with. Tickets are served in turn, so one whose thread has no processor holds up all behind it; a seat without a
+// ticket holds up nobody.
+const PAUSES: u32 = 16;
+
+const YIELDS: u32 = 32;
 
 // How often a ticket is looked at before its thread yields, since the one that it waits for may have no processor.
 const LOOKS: u32 = 16;
@@ -107,6 +115,111 @@ pub fn look_at<T, V, K, P: LockRule<T, V, K>>(
     look_step::<Brand, T, V, K, P>(shared, seat, word, slot, ticket)
 }
 
+fn draw_if_next_step<J: At, T, V, K, P: LockRule<T, V, K>>(
+    shared: &Shared<Option<T>, V, K, P>,
+    seat: &mut Seat<Option<T>, V>,
+    word: usize,
+    slot: usize,
+    next: u64,
+) -> bool
+    requires table { (seat.old.table_id ≡ shared.now.table_id)
+        × IsRoom word J.slot shared.now.table_id
+        × P.is_place shared.now.key word J.slot × (J.slot ≡ slot) × (J.ticket ≡ next) }
+    requires room { length (P.see J.slot seat.old.me.0).drawn
+        < (P.see J.slot seat.old.me.0).parts * 2 ^ 56 }
+    requires asks { P.asks J.slot draws seat.old.me.0 × P.asks J.slot waits seat.old.me.0 }
+    ensures { IsSameSeat seat.old seat.new
+        × DrewIf (P.see J.slot) (P.tells J.slot) seat.old.me next result seat.new.me }
+{
+    let after = next.wrapping_add(1);
+    shared.compare_exchange::<DrawsIfNext<J, K, P>>(seat, word + 1, next, after) == next
+}
+
+/// Draws the next ticket of the lock at this place if it has this number: one compare_exchange. Else nothing changes.
+fn draw_if_next<T, V, K, P: LockRule<T, V, K>>(
+    shared: &Shared<Option<T>, V, K, P>,
+    seat: &mut Seat<Option<T>, V>,
+    word: usize,
+    slot: usize,
+    next: u64,
+) -> bool
+    requires table { StandsAt P.is_place seat.old.table_id shared.now.table_id shared.now.key word
+        slot }
+    requires room { length (P.see slot seat.old.me.0).drawn
+        < (P.see slot seat.old.me.0).parts * 2 ^ 56 }
+    requires asks { P.asks slot draws seat.old.me.0 × P.asks slot waits seat.old.me.0 }
+    ensures { IsSameSeat seat.old seat.new
+        × DrewIf (P.see slot) (P.tells slot) seat.old.me next result seat.new.me }
+{
+    draw_if_next_step::<Brand, T, V, K, P>(shared, seat, word, slot, next)
+}
+
+fn wait_a_moment(tries: u32) {
+    if tries < PAUSES {
+        hint::spin_loop();
+    } else {
+        thread::yield_now();
+    }
+}
+
+/// Draws the next ticket of the lock at this place as soon as it is served at once, and after some tries in any case.
+fn draw_when_free<T, V, K, P: LockRule<T, V, K>>(
+    shared: &Shared<Option<T>, V, K, P>,
+    seat: &mut Seat<Option<T>, V>,
+    word: usize,
+    slot: usize,
+) -> u64
+    requires table { StandsAt P.is_place seat.old.table_id shared.now.table_id shared.now.key word
+        slot }
+    requires room { length (P.see slot seat.old.me.0).drawn
+        < (P.see slot seat.old.me.0).parts * 2 ^ 56 }
+    requires free { IsFree (P.asks slot) (P.tells slot) }
+    ensures { IsSameSeat seat.old seat.new
+        × Drew (P.see slot) (P.tells slot) seat.old.me result seat.new.me }
+{
+    for tries in 0..PAUSES + YIELDS {
+        let next = shared.peek(word + 1);
+        if shared.peek(word) == next && draw_if_next(shared, seat, word, slot, next) {
+            return next;
+        }
+        wait_a_moment(tries);
+    }
+    draw_at(shared, seat, word, slot)
+}
+
+/// Looks whether it is this ticket's turn until it is, with a pause between two looks, and after some looks yields
+/// between two. The value is taken out then.
+fn wait_with<R: Wait, T, V, K, P: LockRule<T, V, K>>(
+    rt: &R,
+    shared: &Shared<Option<T>, V, K, P>,
+    seat: &mut Seat<Option<T>, V>,
+    word: usize,
+    slot: usize,
+    ticket: u64,
+) -> T
+    requires table { StandsAt P.is_place seat.old.table_id shared.now.table_id shared.now.key word
+        slot }
+    requires held { 0 < times ticket (P.see slot seat.old.me.0).tickets }
+    requires free { IsFree (P.asks slot) (P.tells slot) }
+    ensures { IsSameSeat seat.old seat.new
+        × WentInside (P.see slot)
+        (P.tells slot) slot ticket result None seat.old.me seat.new.me }
+{
+    let mut looks = 0u32;
+    for _ in rt.forever() {
+        if let Some(value) = look_at(shared, seat, word, slot, ticket) {
+            return value;
+        }
+        if looks < LOOKS {
+            looks += 1;
+            pause();
+        } else {
+            thread::yield_now();
+        }
+    }
+    unreachable!()
+}
+
 /// Draws the next ticket of the lock at this place, and looks until it is served, with a pause between two looks, and
 /// after some looks yields between two: the ticket's number and the value. The seat must have some of its share of the
 /// right to draw left, and the rule must let each seat draw, look and enter.
@@ -126,19 +239,30 @@ pub fn enter_at<R: Wait, T, V, K, P: LockRule<T, V, K>>(
         × Came (P.see slot) (P.tells slot) slot seat.old.me result.0 result.1 seat.new.me }
 {
     let ticket = draw_at(shared, seat, word, slot);
-    let mut looks = 0u32;
-    for _ in rt.forever() {
-        if let Some(value) = look_at(shared, seat, word, slot, ticket) {
-            return (ticket, value);
-        }
-        if looks < LOOKS {
-            looks += 1;
-            pause();
-        } else {
-            thread::yield_now();
-        }
-    }
-    unreachable!()
+    let value = wait_with(rt, shared, seat, word, slot, ticket);
+    (ticket, value)
+}
+
+/// Like `enter_at`, but a ticket is drawn as soon as it is served at once, and only after some tries one to wait with. So
+/// seats do not enter in the order in which they come, but seldom does one wait for another whose thread has no processor.
+pub fn enter_when_free_at<R: Wait, T, V, K, P: LockRule<T, V, K>>(
+    rt: &R,
+    shared: &Shared<Option<T>, V, K, P>,
+    seat: &mut Seat<Option<T>, V>,
+    word: usize,
+    slot: usize,
+) -> (u64, T)
+    requires table { StandsAt P.is_place seat.old.table_id shared.now.table_id shared.now.key word
+        slot }
+    requires room { length (P.see slot seat.old.me.0).drawn
+        < (P.see slot seat.old.me.0).parts * 2 ^ 56 }
+    requires free { IsFree (P.asks slot) (P.tells slot) }
+    ensures { IsSameSeat seat.old seat.new
+        × Came (P.see slot) (P.tells slot) slot seat.old.me result.0 result.1 seat.new.me }
+{
+    let ticket = draw_when_free(shared, seat, word, slot);
+    let value = wait_with(rt, shared, seat, word, slot, ticket);
+    (ticket, value)
 }
 
 fn leave_step<J: At, T, V, K, P: LockRule<T, V, K>>(

@@ -1,5 +1,5 @@
 //! What each step on the table tells.
-ghost use Rattle.ticket_lock.specs.Calls.{Drew, Loaded, Passed};
+ghost use Rattle.ticket_lock.specs.Calls.{Drew, DrewIfNext, Loaded, Passed};
 
 use crate::rule::{At, LockRule};
 use atomic_table::Play;
@@ -11,6 +11,14 @@ pub(crate) struct Draws<J, K, P> {
 
 impl<J: At, T, V, K, P: LockRule<T, V, K>> Play<Option<T>, V> for Draws<J, K, P> {
     ghost then = { λ _. Drew (P.see J.slot) (P.tells J.slot) };
+}
+
+pub(crate) struct DrawsIfNext<J, K, P> {
+    of: PhantomData<(J, K, P)>,
+}
+
+impl<J: At, T, V, K, P: LockRule<T, V, K>> Play<Option<T>, V> for DrawsIfNext<J, K, P> {
+    ghost then = { λ _. DrewIfNext (P.see J.slot) (P.tells J.slot) J.ticket };
 }
 
 pub(crate) struct Looks<J, K, P> {
