@@ -2,7 +2,6 @@
 
 pub(crate) mod board;
 pub(crate) mod close;
-pub(crate) mod doors;
 pub(crate) mod knowing;
 pub(crate) mod open;
 pub(crate) mod outstanding;

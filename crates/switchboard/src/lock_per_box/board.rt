@@ -9,7 +9,6 @@ ghost use Rattle.switchboard.specs.BoxAnswers.{TookOut, PutIn};
 
 use crate::board::Board;
 use crate::calls::{Cause, Job, PostFault, Taken};
-use crate::lock_per_box::doors::Doors;
 use crate::lock_per_box::knowing::{Ground, Knowing};
 use crate::lock_per_box::outstanding::{
     ABORTED, Boards, BoxSeat, TellsSeen, count_down, count_up, look, raise, take_in,
@@ -39,8 +38,6 @@ pub struct LockPerBox<M: Mail<W>, W, A: Allocator> {
     pub(crate) table: BoxTable<M, W, A>,
     /// For the mailboxes, once the board is at its end.
     pub(crate) room: Vec<Mailbox<M, A>, A>,
-    /// One before the lock of each mailbox.
-    pub(crate) doors: Doors,
     ghost sized: { IsBoardTable table.shared.table_id table.shared.key.boxes
         × (0 < table.shared.key.boxes) },
     ghost free: { (vec_len room ≡ 0) × (table.shared.key.boxes ≤ vec_capacity room) },
@@ -111,7 +108,7 @@ impl<M: Mail<W>, W, A: Allocator> LockPerBox<M, W, A> {
         }
         pass.left -= 1;
         let shared = &self.table.shared;
-        let (mut mailbox, passed) = enter_box(rt, shared, &self.doors, &mut pass.seat, to);
+        let mut mailbox = enter_box(rt, shared, &mut pass.seat, to);
         let answer = put(
             shared,
             &mut pass.seat,
@@ -121,7 +118,7 @@ impl<M: Mail<W>, W, A: Allocator> LockPerBox<M, W, A> {
             message,
             held,
         );
-        leave_box(shared, &mut pass.seat, to, mailbox, passed);
+        leave_box(shared, &mut pass.seat, to, mailbox);
         answer
     }
 }
@@ -183,9 +180,9 @@ impl<M: Mail<W>, W, A: Allocator> Board<M, W, A> for LockPerBox<M, W, A> {
         if found >= ABORTED {
             return Ok(Taken::Aborted);
         }
-        let (mut mailbox, passed) = enter_box(rt, shared, &self.doors, &mut pass.seat, pass.number);
+        let mut mailbox = enter_box(rt, shared, &mut pass.seat, pass.number);
         let answer = take_out(&mut mailbox);
-        leave_box(shared, &mut pass.seat, pass.number, mailbox, passed);
+        leave_box(shared, &mut pass.seat, pass.number, mailbox);
         Ok(answer)
     }
 
@@ -201,9 +198,9 @@ impl<M: Mail<W>, W, A: Allocator> Board<M, W, A> for LockPerBox<M, W, A> {
         pass.left -= 1;
         let Job { take } = job;
         let shared = &self.table.shared;
-        let (mut mailbox, passed) = enter_box(rt, shared, &self.doors, &mut pass.seat, pass.number);
+        let mut mailbox = enter_box(rt, shared, &mut pass.seat, pass.number);
         mailbox.done(take);
-        leave_box(shared, &mut pass.seat, pass.number, mailbox, passed);
+        leave_box(shared, &mut pass.seat, pass.number, mailbox);
         count_down(shared, &mut pass.seat);
         Ok(())
     }

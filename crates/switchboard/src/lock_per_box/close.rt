@@ -66,11 +66,7 @@ impl<M: Mail<W>, W, A: Allocator> LockPerBox<M, W, A> {
         ensures settles { Settles M.fits self.table.shared.key.boxes passes.old.items
             result.histories.items result.closed }
     {
-        let LockPerBox {
-            table,
-            mut room,
-            doors: _,
-        } = self;
+        let LockPerBox { table, mut room } = self;
         let seat = gather(&table.shared, passes);
         let closed = settle(table, seat, &mut room);
         Ledger {

@@ -9,7 +9,6 @@ ghost use Rattle.switchboard.specs.Knowing.{first_view};
 ghost use Rattle.switchboard.specs.PerBox.{IsBoardTable};
 
 use crate::lock_per_box::board::{BoxTable, LockPerBox};
-use crate::lock_per_box::doors::Doors;
 use crate::lock_per_box::knowing::Ground;
 use crate::lock_per_box::outstanding::{Boards, BoxSeat, DealsPass};
 use crate::lock_per_box::pass::BoxPass;
@@ -146,7 +145,6 @@ impl<M: Mail<W>, W, A: Allocator> LockPerBox<M, W, A> {
         let mut passes = Vec::with_capacity(alloc.clone()?, usize::from(boxes))?;
         let (table, seat) = lay(alloc, &about)?;
         deal(&table.shared, seat, &mut passes, world, boxes, budget - 1);
-        let doors = Doors::new();
-        Ok((LockPerBox { table, room, doors }, passes))
+        Ok((LockPerBox { table, room }, passes))
     }
 }

@@ -9,13 +9,12 @@ ghost use Rattle.switchboard.specs.Knowing.{hand_at};
 ghost use Rattle.switchboard.specs.PerBox.{word_of, IsBoxOf, CanDraw, IsInside, LeavesOneEvent};
 ghost use Rattle.switchboard.specs.PerBox.{TellsOrder};
 
-use crate::lock_per_box::doors::{Doors, PastDoor};
 use crate::lock_per_box::outstanding::{Boards, BoxSeat};
 use crate::mail::Mail;
 use post_ledger::Mailbox;
 use std::alloc::Allocator;
 use std::sync::Wait;
-use ticket_lock::{enter_at, leave_at};
+use ticket_lock::{enter_when_free_at, leave_at};
 
 /// How many words lie between the locks of two mailboxes: 64 bytes, so that no two share a cache line.
 pub(crate) const STRIDE: usize = 8;
@@ -26,33 +25,34 @@ fn first_word(number: u8) -> usize
     STRIDE * (usize::from(number) + 1)
 }
 
-/// Shuts the door of this mailbox or continues after a while, draws a ticket of its lock, and waits until it is
-/// served. The mailbox then is out.
-pub(crate) fn enter_box<'d, R: Wait, W, M: Mail<W>, A: Allocator>(
+/// Enters the lock of this mailbox, which then is out.
+pub(crate) fn enter_box<R: Wait, W, M: Mail<W>, A: Allocator>(
     rt: &R,
     shared: &Boards<M, W, A>,
-    doors: &'d Doors,
     seat: &mut BoxSeat<M, W, A>,
     number: u8,
-) -> (Mailbox<M, A>, PastDoor<'d>)
+) -> Mailbox<M, A>
     requires table { IsBoxOf shared.now.key shared.now.table_id seat.old.table_id number }
     requires ready { CanDraw (hand_at number seat.old.me.0) }
     ensures { IsSameSeat seat.old seat.new
-        × IsInside M.fits number result.0 seat.old.me seat.new.me }
+        × IsInside M.fits number result seat.old.me seat.new.me }
 {
-    let passed = doors.knock(number);
-    let (_, mailbox) = enter_at(rt, shared, seat, first_word(number), usize::from(number));
-    (mailbox, passed)
+    let (_, mailbox) = enter_when_free_at(
+        rt,
+        shared,
+        seat,
+        first_word(number),
+        usize::from(number),
+    );
+    mailbox
 }
 
-/// Leaves the mailbox as the value after the one found, serves the next ticket, and opens the door again if this pass
-/// has shut it.
+/// Leaves the mailbox as the value after the one found, and serves the next ticket.
 pub(crate) fn leave_box<W, M: Mail<W>, A: Allocator>(
     shared: &Boards<M, W, A>,
     seat: &mut BoxSeat<M, W, A>,
     number: u8,
     mailbox: Mailbox<M, A>,
-    passed: PastDoor<'_>,
 )
     requires table { IsBoxOf shared.now.key shared.now.table_id seat.old.table_id number }
     requires out { seat.old.me.1 ≡ (number, None) ∷ rest seat.old.me.1 }
@@ -69,5 +69,4 @@ pub(crate) fn leave_box<W, M: Mail<W>, A: Allocator>(
         usize::from(number),
         mailbox,
     );
-    passed.reopen();
 }

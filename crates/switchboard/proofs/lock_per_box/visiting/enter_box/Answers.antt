@@ -6,10 +6,10 @@ use Rattle.switchboard.proofs.lock_per_box.visiting.enter_box.Goals as goal
 
 pub returns : goal.returns
 returns g c =
-    let did = c.enter_at-mailbox.ensures in
+    let did = c.enter_when_free_at-mailbox.ensures in
     let m = c.args.seat.now.me in
-    let w = c.enter_at-mailbox.new.seat.me in
-    let x = c.enter_at-mailbox.result.1 in
+    let w = c.enter_when_free_at-mailbox.new.seat.me in
+    let x = c.enter_when_free_at-mailbox.result.1 in
     let same = c.from.ensures in (
       did.0,
       subst (λ q. IsInside g.M.Mail.fits q x m w) same
