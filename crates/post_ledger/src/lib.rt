@@ -8,6 +8,7 @@ mod laws;
 mod ledger;
 mod legality;
 mod mailbox;
+mod number;
 mod side;
 
 pub use entry::Entry;

@@ -7,6 +7,7 @@ ghost use Rattle.post_ledger.specs.History.{posts, takes, dones, IsLegal, TakesO
 ghost use Rattle.post_ledger.specs.Kept.{numbered_of};
 
 use crate::event::Event;
+use crate::number::Number;
 use std::alloc::Allocator;
 use std::marker::Model;
 
@@ -24,7 +25,7 @@ pub(crate) enum Kind {
 #[derive(Clone, Copy)]
 pub(crate) struct Step {
     /// The number of a Post if the event is one or took one, and of a Take if it completed one, both counted from 0.
-    number: u32,
+    number: Number,
     kind: Kind,
     /// 0 until there is a message of the step's number.
     sender: u8,
@@ -35,7 +36,7 @@ impl Step {
         ensures { numbered_of result ≡ (kind, number) }
     {
         Step {
-            number,
+            number: Number::new(number),
             kind,
             sender: 0,
         }
@@ -179,17 +180,18 @@ impl<M: Copy, A: Allocator> Mailbox<M, A> {
         ensures { result ≡ slice_get self.now number }
     {
         let step = *self.steps.get(number)?;
+        let of = step.number.get();
         let event = match step.kind {
             Kind::Post => {
-                let (sender, message) = self.posted(step.number);
+                let (sender, message) = self.posted(of);
                 Event::Post { sender, message }
             }
             Kind::Take => {
-                let (sender, message) = self.posted(step.number);
+                let (sender, message) = self.posted(of);
                 Event::Take { sender, message }
             }
             Kind::Done => Event::Done {
-                take: u64::from(step.number),
+                take: u64::from(of),
             },
         };
         Some(event)

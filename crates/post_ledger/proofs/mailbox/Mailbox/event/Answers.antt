@@ -58,14 +58,17 @@ pub returns : goal.returns
 returns g c =
     let at = (goal.at.returns g c).In_ok-step in
     let n = c.in_ok-step.field-0.now.number in
+    let same = c.get-of.ensures in
     elim c.match-step.branch [
       | in-Post w ↦
           let p = w.posted-sender.result in
-          let read = ap (λ l. slice_get l n) (posted g at kind.Post w.in-Post.is) ∙ w.posted-sender.ensures in
+          let read = ap (λ l. slice_get l n) (posted g at kind.Post w.in-Post.is)
+          ∙ ap (slice_get (posts c.args.self.now)) (sym same) ∙ w.posted-sender.ensures in
           ap Some w.event-is ∙ sym (event g at kind.Post w.in-Post.is (Post p.0 p.1) (ap post_of read))
       | in-Take w ↦
           let p = w.posted-sender-in-Take.result in
-          let read = ap (λ l. slice_get l n) (posted g at kind.Take w.in-Take.is) ∙ w.posted-sender-in-Take.ensures in
+          let read = ap (λ l. slice_get l n) (posted g at kind.Take w.in-Take.is)
+          ∙ ap (slice_get (posts c.args.self.now)) (sym same) ∙ w.posted-sender-in-Take.ensures in
           ap Some w.event-is ∙ sym (event g at kind.Take w.in-Take.is (Take p.0 p.1) (ap take_of read))
-      | in-Done w ↦ ap Some (w.event-is ∙ ap Done w.from.ensures) ∙ sym (event g at kind.Done w.in-Done.is (Done n) refl)
+      | in-Done w ↦ ap Some (w.event-is ∙ ap Done (w.from.ensures ∙ same)) ∙ sym (event g at kind.Done w.in-Done.is (Done n) refl)
     ]
