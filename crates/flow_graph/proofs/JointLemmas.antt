@@ -125,7 +125,7 @@ module _ {A : Type 0} (ws : List (Write A)) where
 
 -- ---- the values of a row, in their bits
 
-either : (b : Bool) (x : Bool) → cond b x x ≡ x
+pub either : (b : Bool) (x : Bool) → cond b x x ≡ x
 either true x = refl
 either false x = refl
 
@@ -161,7 +161,7 @@ one_joined true x n true k l e = refl
 one_joined true x n false k l e = refl
 one_joined false x n v k l e = e
 
-both : (a b : Bool) → cond a b false ≡ true → (a ≡ true) × (b ≡ true)
+pub both : (a b : Bool) → cond a b false ≡ true → (a ≡ true) × (b ≡ true)
 both true b h = (refl, h)
 both false b h = absurd (false≢true h)
 
@@ -202,7 +202,7 @@ no_bit : (k : ℕ) → bit_of 0 k ≡ false
 no_bit k = ap (λ n. n == 1) (bit_at-zero k)
 
 -- a valuation has no bit past its last
-past : (v k : ℕ) → v < 2 ^ word_bits → word_bits ≤ k → bit_of v k ≡ false
+pub past : (v k : ℕ) → v < 2 ^ word_bits → word_bits ≤ k → bit_of v k ≡ false
 past v k fits far = ap (λ n. n == 1) (bit_at_above v word_bits k fits far)
 
 -- before any write, all bits are kept, and none is written

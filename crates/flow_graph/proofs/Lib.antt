@@ -24,3 +24,4 @@ pub mod ReachLemmas
 pub mod Pairs
 pub mod ChoiceLemmas
 pub mod JointLemmas
+pub mod ChosenLemmas

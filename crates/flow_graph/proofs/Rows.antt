@@ -23,7 +23,7 @@ use Rattle.resolved.specs.Limits.{most_places}
 -- ---- operators on words
 
 -- what holds for 0 and 1 holds for two bits
-two_bits : (P : ℕ → ℕ → Type 0) → P 0 0 → P 0 1 → P 1 0 → P 1 1 → (x y : ℕ) → x < 2 → y < 2 → P x y
+pub two_bits : (P : ℕ → ℕ → Type 0) → P 0 0 → P 0 1 → P 1 0 → P 1 1 → (x y : ℕ) → x < 2 → y < 2 → P x y
 two_bits P a b c d zero zero h k = a
 two_bits P a b c d zero (suc zero) h k = b
 two_bits P a b c d (suc zero) zero h k = c

@@ -21,16 +21,16 @@ use Rattle.flow_graph.proofs.Stacks.{bit_worth, coded_small}
 
 -- ---- a rotated word
 
--- the low half has the low bits
-pub low_bit : (n i : ℕ) → i < 64 → bit_at (n % 2 ^ 64) i ≡ bit_at n i
-low_bit n i low = sym (bit_at_cat_low (n / 2 ^ 64) 64 (n % 2 ^ 64) i low) ∙ ap (λ x. bit_at x i) (split n 64)
+-- what is left of a number by a power of 2 has the low bits
+pub low_bit : (w n i : ℕ) → i < w → bit_at (n % 2 ^ w) i ≡ bit_at n i
+low_bit w n i low = sym (bit_at_cat_low (n / 2 ^ w) w (n % 2 ^ w) i low) ∙ ap (λ x. bit_at x i) (split n w)
 
 -- bits shifted up
 raised_low : (n k j : ℕ) → j < k → bit_at (n * 2 ^ k) j ≡ 0
 raised_low n k j low =
     ap (λ x. bit_at x j) (let z : n * 2 ^ k ≡ n * 2 ^ k + 0 = omega arith in z) ∙ bit_at_cat_low n k 0 j low ∙ bit_at-zero j
 
-raised : (n k j : ℕ) → k ≤ j → bit_at (n * 2 ^ k) j ≡ bit_at n (j - k)
+pub raised : (n k j : ℕ) → k ≤ j → bit_at (n * 2 ^ k) j ≡ bit_at n (j - k)
 raised n k j high =
     ap (λ x. bit_at x j) (let z : n * 2 ^ k ≡ n * 2 ^ k + 0 = omega arith in z)
     ∙ bit_at_cat_high n k 0 j (pow_pos k) high
@@ -61,7 +61,7 @@ rotated n (suc q) j fits small below =
     ∙ ap (λ x. bit_at (bit_or (n / 2 ^ r) ((n * 2 ^ x) % 2 ^ 64)) j) back
     ∙ bit_at_or (n / 2 ^ r) ((n * 2 ^ k) % 2 ^ 64) j
     ∙ ap (λ x. max x (bit_at ((n * 2 ^ k) % 2 ^ 64) j)) (lowered n r j)
-    ∙ ap (max (bit_at n (r + j))) (low_bit (n * 2 ^ k) j below)
+    ∙ ap (max (bit_at n (r + j))) (low_bit 64 (n * 2 ^ k) j below)
     ∙ at_last (nat_lt j k) refl
   where
     at_last : (b : Bool) → nat_lt j (64 - suc q) ≡ b

@@ -1,5 +1,5 @@
 -- How joint tables are made of writes.
-use Rattle.std.specs.Prelude.{◌≡◌, ◌<◌, ◌/◌, ◌%◌, ◌^◌, ◌==◌, ℕ, zero, suc, Bool, true, false, cond}
+use Rattle.std.specs.Prelude.{◌≡◌, ◌<◌, ◌/◌, ◌%◌, ◌^◌, ◌==◌, ℕ, zero, suc, nat_lt, Bool, true, false, cond}
 use Rattle.std.specs.Prelude.{List, [], ◌∷◌, ◌++◌, length, get_or}
 use Rattle.flow_graph.specs.Assignments.{masked, after_writes}
 use Rattle.flow_graph.specs.Tables.{is_input}
@@ -8,6 +8,7 @@ use Rattle.flow_graph.specs.declared.assignment.Write.{Write}
 use Rattle.flow_graph.specs.declared.formula.Formula.TheVariants.{Code, Cases as CasesOf, Table as Tabled, Bit as BitOf}
 use Rattle.flow_graph.specs.declared.side.CompiledSide.{CompiledSide}
 use Rattle.flow_graph.specs.declared.side.CompiledSide.TheVariants as side
+use Rattle.resolved.specs.Limits.{most_places}
 
 -- the right side is a variable or a truth table
 abbrev pub reads_few : {Alloc : Type 0} → CompiledSide Alloc → Bool
@@ -53,6 +54,20 @@ all_bits = 340282366920938463463374607431768211455
 abbrev pub unwritten : {Alloc : Type 0} → List (Write Alloc) → ℕ → ℕ
 unwritten [] mask = mask
 unwritten (write ∷ writes) mask = unwritten writes (masked mask write.mask false)
+
+-- the right side is `?`
+abbrev pub is_any : {Alloc : Type 0} → CompiledSide Alloc → Bool
+is_any side.Any = true
+is_any (side.Value formula) = false
+
+-- `?` is written to this bit
+abbrev pub chooses : {Alloc : Type 0} → Write Alloc → ℕ → Bool
+chooses write bit = cond (is_any write.side) (write.mask == 2 ^ bit) false
+
+-- each of the writes is of `?`, the first one to this place, and each other one to the next
+abbrev pub all_choose : {Alloc : Type 0} → List (Write Alloc) → ℕ → Bool
+all_choose [] bit = true
+all_choose (write ∷ writes) bit = cond (nat_lt bit most_places) (cond (chooses write bit) (all_choose writes (suc bit)) false) false
 
 -- in each row there is what is written by the values of that row
 abbrev pub AreRows : {Alloc : Type 0} → List (Write Alloc) → List ℕ → List ℕ → ℕ → Type 0

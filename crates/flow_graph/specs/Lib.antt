@@ -8,8 +8,8 @@ pub mod Formulas
 pub mod Nodes
 pub mod Points
 pub mod Assignments
-pub mod Joint
 pub mod Joining
+pub mod Joint
 pub mod Calls
 pub mod Flows
 pub mod Assigning

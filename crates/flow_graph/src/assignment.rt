@@ -113,6 +113,7 @@ impl<A: Allocator> Assignment<A> {
         match &self.form {
             Form::Same => 0,
             Form::Joint(_) => 0,
+            Form::Chosen(_) => self.last,
             Form::Each => self.last,
         }
     }
@@ -126,6 +127,7 @@ impl<A: Allocator> Assignment<A> {
         match &self.form {
             Form::Same => values,
             Form::Joint(table) => table.next(values),
+            Form::Chosen(chosen) => chosen.next(values, choice),
             Form::Each => after_writes(self.writes.as_slice(), values, choice, values),
         }
     }
@@ -194,8 +196,11 @@ impl<'a, N: Allocator> Scope<'a, N> {
         let mut writes = Vec::new(alloc.clone()?);
         put(self.write_value(alloc, mask, e), &mut writes)?;
         let form = form_of(alloc, writes.as_slice())?;
-        let last = 0;
-        Ok(Assignment { writes, last, form })
+        Ok(Assignment {
+            writes,
+            last: 0,
+            form,
+        })
     }
 
     /// Compiles a simultaneous assignment. A target that is declared nowhere is not written, nor is one without a right

@@ -1,15 +1,15 @@
 //! Joint tables, made of writes.
 
-ghost use Rattle.std.specs.Prelude.{◌≡◌, ◌<◌, ◌≤◌, ◌^◌, true, None, length, IfOk, IfSome};
-ghost use Rattle.flow_graph.specs.Joint.{IsFormOf, IsLookedUp};
+ghost use Rattle.std.specs.Prelude.{◌≡◌, ◌<◌, ◌≤◌, ◌^◌, true, false, None, ℕ, length, IfOk, IfSome};
+ghost use Rattle.flow_graph.specs.Joint.{IsFormOf};
 ghost use Rattle.flow_graph.specs.Joining.{reads_few, all_read_few, reads, some_reads, read_bits};
-ghost use Rattle.flow_graph.specs.Joining.{placed, unwritten, all_bits, AreRows};
+ghost use Rattle.flow_graph.specs.Joining.{placed, unwritten, all_bits, AreRows, chooses, all_choose};
 ghost use Rattle.flow_graph.specs.Tables.{most_inputs, AreBits};
 ghost use Rattle.resolved.specs.Limits.{most_places};
 
 use crate::assignment::{Write, after_writes, masked};
 use crate::formula::Formula;
-use crate::joint::{Form, JointTable};
+use crate::joint::{Chosen, Form, JointTable};
 use crate::side::CompiledSide;
 use crate::windows::{MOST_INPUTS, Windows};
 use arrayvec::ArrayVec;
@@ -132,19 +132,61 @@ fn rows_of<A: Allocator + Clone>(
     Ok(rows)
 }
 
+impl<A: Allocator> Write<A> {
+    /// Whether this writes a `?` to a bit.
+    fn chooses(&self, bit: u8) -> bool
+        requires { bit < most_places }
+        ensures { result ≡ chooses self.now bit }
+    {
+        match &self.side {
+            CompiledSide::Any => self.mask == 1 << bit,
+            CompiledSide::Value(_) => false,
+        }
+    }
+}
+
+/// Whether each of these writes a `?`, the first one to this bit and each other one to the next bit.
+fn all_choose<A: Allocator>(writes: &[Write<A>], first: usize) -> bool
+    ensures { result ≡ all_choose writes.now first }
+{
+    let mut bit = first;
+    for write in writes {
+        if bit >= MOST_PLACES || !write.chooses(bit as u8) {
+            return false;
+        }
+        bit += 1;
+    }
+    true
+}
+
+/// The lowest bit, if each of these writes a `?` to the bit after that of the one before.
+fn first_chosen<A: Allocator>(writes: &[Write<A>]) -> Option<u8>
+    ensures some { IfSome result
+        (λ first. (first < most_places) × (all_choose writes.now first ≡ true)) }
+    ensures none { result ≡ None → (first : ℕ) → first < most_places → all_choose writes.now first ≡ false }
+{
+    for first in 0..MOST_PLACES {
+        if all_choose(writes, first) {
+            return Some(first as u8);
+        }
+    }
+    None
+}
+
 /// How the next valuations of an assignment with these writes are computed: all is looked up at once if the right sides
-/// read at most ten bits together.
+/// read at most ten bits together, and a choice is put in its place at once if all are `?` for neighbouring bits.
 pub(crate) fn form_of<A: Allocator + Clone>(
     alloc: &A,
     writes: &[Write<A>],
 ) -> Result<Form<A>, AllocError>
-    ensures right { IfOk result (λ form. IsFormOf form writes.now) }
-    ensures looked_up { IfOk result
-        (λ form. all_read_few writes.now ≡ true
-        → length (read_bits writes.now most_places) ≤ most_inputs → IsLookedUp form) }
+    ensures { IfOk result (λ form. IsFormOf form writes.now) }
 {
     if writes.is_empty() {
         return Ok(Form::Same);
+    }
+    if let Some(first) = first_chosen(writes) {
+        let kept = unwritten(writes);
+        return Ok(Form::Chosen(Chosen { first, kept }));
     }
     if !all_read_few(writes) {
         return Ok(Form::Each);

@@ -1,6 +1,7 @@
 //! Joint tables: all that an assignment writes, by the bits that its right sides read.
 
-ghost use Rattle.std.specs.Prelude.{◌≡◌, ◌^◌, length};
+ghost use Rattle.std.specs.Prelude.{◌≡◌, ◌<◌, ◌^◌, length};
+ghost use Rattle.language.specs.Words.{word_bits};
 ghost use Rattle.flow_graph.specs.Windows.{seen};
 
 use crate::windows::Windows;
@@ -31,6 +32,28 @@ impl<A: Allocator> JointTable<A> {
     }
 }
 
+/// Neighbouring bits that each get the value of a `?`, the lowest first.
+#[derive(Drop)]
+pub(crate) struct Chosen {
+    /// The lowest of the bits.
+    pub(crate) first: u8,
+    /// 1 for each bit that is not written.
+    pub(crate) kept: Word,
+    pub(crate) ghost place: { first < word_bits },
+}
+
+impl Chosen {
+    ghost use Rattle.flow_graph.specs.Joint.{chosen_next};
+
+    /// The next valuation: the bits of the choice become the values of the bits that are written.
+    #[inline(always)]
+    pub(crate) fn next(&self, values: Word, choice: Word) -> Word
+        ensures { result ≡ chosen_next self.now values choice }
+    {
+        values & self.kept | choice << self.first & !self.kept
+    }
+}
+
 /// How the next valuations of an assignment are computed.
 #[derive(Drop)]
 pub(crate) enum Form<A: Allocator> {
@@ -38,6 +61,8 @@ pub(crate) enum Form<A: Allocator> {
     Same,
     /// No right side is `?`: all that is written is looked up at once.
     Joint(JointTable<A>),
+    /// All right sides are `?`, for neighbouring bits: the choice is put there at once.
+    Chosen(Chosen),
     /// One write after the other.
     Each,
 }

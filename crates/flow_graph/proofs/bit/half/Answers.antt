@@ -13,7 +13,7 @@ high_bit n i high =
 pub returns-then-at-lt-HALF : goal.returns-then-at-lt-HALF
 returns-then-at-lt-HALF c i within same =
     let low : i < 64 = omega (arith, same, c.if-at-lt-HALF.true) in
-    ap (bit_at (c.args.values % 2 ^ 64)) (let z : i % 64 ≡ i = omega (arith, low) in z) ∙ low_bit c.args.values i low
+    ap (bit_at (c.args.values % 2 ^ 64)) (let z : i % 64 ≡ i = omega (arith, low) in z) ∙ low_bit 64 c.args.values i low
 
 pub returns-else-at-lt-HALF : goal.returns-else-at-lt-HALF
 returns-else-at-lt-HALF c i within same =

@@ -20,5 +20,5 @@ invariant_of-result g c =
     let items = made.2 ∙ ap (λ l. l ++ write ∷ []) c.new-writes.ensures.items in
     record {
       numbered = sym (ap (λ l. 2 ^ anys l) items ∙ ap (λ n. 2 ^ (n + 0)) (any_same s write.side e says.1));
-      formed = subst (IsFormOf c.in_ok-form.form) c.as_slice.ensures.value c.in_ok-form.ensures.right;
+      formed = subst (IsFormOf c.in_ok-form.form) c.as_slice.ensures.value c.in_ok-form.ensures;
     }
