@@ -9,10 +9,10 @@ use Rattle.path_sets.specs.declared.diagrams.diagrams.Diagrams.{Diagrams}
 use Rattle.path_sets.specs.declared.diagrams.gathered_key.GatheredKey.{GatheredKey}
 use Rattle.path_sets.specs.declared.diagrams.roots.DiagramKey.{DiagramKey}
 use Rattle.path_sets.specs.declared.points.mask_key.MaskKey.{MaskKey}
-use Rattle.path_sets.specs.Batches.{AllWithin, CoversEach, HasBatch, masks_in}
+use Rattle.path_sets.specs.Batches.{AllWithin, CoversEach, gathered_at, HasBatch, masks_in}
 use Rattle.path_sets.specs.Diagrams.{TakesGiven, merged_has}
 use Rattle.path_sets.specs.Edges.{edge_at}
-use Rattle.path_sets.specs.GatheredKeys.{AreWithin, mask_key_at, masks_of}
+use Rattle.path_sets.specs.GatheredKeys.{AreWithin, gathered_key, mask_key_at, masks_of}
 use Rattle.path_sets.specs.Masks.{AddsPoint, bit_of}
 use Rattle.path_sets.specs.Members.{all_edges, Covers, PutsEdge}
 use Rattle.path_sets.specs.Triples.{Triple}
@@ -26,6 +26,10 @@ abbrev pub IsLastOf : ℕ → ℕ → Option LastDiagram → Type 0
 IsLastOf entry block last = (diagram : LastDiagram) × (last ≡ Some diagram) × (diagram.entry ≡ entry) × (diagram.block ≡ block)
 
 module _ {Alloc : Type 0} where
+  -- the key of the last diagram and a valuation is at this index in its batch
+  abbrev pub IsKeyAt : List (Batch Alloc) → LastDiagram → ℕ → ℕ → Type 0
+  IsKeyAt batches last values at = slice_get (keys_of (gathered_at batches last.batch)) at ≡ Some (gathered_key last.diagram values)
+
   -- the keys of the diagrams, by their indexes
   abbrev pub diagrams_in : Diagrams Alloc → List DiagramKey
   diagrams_in merged = keys merged.roots

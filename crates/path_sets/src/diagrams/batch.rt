@@ -1,7 +1,7 @@
 //! Gathered masks that go into the diagrams together.
 
 ghost use Rattle.std.specs.Prelude.{◌≡◌, ◌<◌, [], true, Some, slice_get, length, IfOk, OnErr};
-ghost use Rattle.std.specs.Prelude.{◌+◌, ◌-◌, ◌^◌, min, IfSome, IsNone};
+ghost use Rattle.std.specs.Prelude.{◌+◌, ◌-◌, ◌^◌, min, IfSome, IsNone, IsSome};
 ghost use Rattle.std.specs.Bool.{OnTrue};
 ghost use Rattle.std.specs.Map.{keys_of};
 ghost use Rattle.std.proofs.lemmas.Map.Keys.{IsDistinct-prop};
@@ -15,7 +15,7 @@ use crate::diagrams::gathered_key::GatheredKey;
 use crate::points::halves::Halves;
 use crate::points::mask::add_point;
 use crate::points::masks::{Masks, add_point_at};
-use crate::points::seek::{find, is_at};
+use crate::points::seek::find;
 use indexmap::IndexMap;
 use indexmap::map::Entry;
 use language::Word;
@@ -70,7 +70,13 @@ impl<A: Allocator + Copy> Batch<A> {
     /// Puts a point into the mask at the index of its key. Returns whether the point is new.
     // The diagrams and the key are read by the clauses alone.
     #[inline(always)]
-    fn gather_at(&mut self, merged: &Diagrams<A>, key: GatheredKey, at: usize, bit: usize) -> bool
+    pub(crate) fn gather_at(
+        &mut self,
+        merged: &Diagrams<A>,
+        key: GatheredKey,
+        at: usize,
+        bit: usize,
+    ) -> bool
         requires here { slice_get (keys self.old.masks) at ≡ Some key }
         requires may { MayGather merged.now key bit self.old }
         ensures ok { GathersEdge merged.now key bit (batch_masks merged.now self.old)
@@ -82,12 +88,12 @@ impl<A: Allocator + Copy> Batch<A> {
         add_point_at(&mut self.masks, at, bit)
     }
 
-    /// Puts a point into the mask of its key, and makes `last` the index of that. Returns whether the point is new.
-    // Apart, with the parts of the key: a key that is handed on would be stored for each path edge.
-    #[inline(never)]
-    fn gather_elsewhere(
+    /// Puts a point into the mask of its key, and makes `place` the index of that, if there is a mask then. Returns
+    /// whether the point is new.
+    #[inline(always)]
+    pub(crate) fn gather(
         &mut self,
-        last: &mut usize,
+        place: &mut Option<usize>,
         waiting: &mut usize,
         merged: &Diagrams<A>,
         diagram: usize,
@@ -102,68 +108,44 @@ impl<A: Allocator + Copy> Batch<A> {
         ensures covers { AreCovered merged.now (batch_masks merged.now self.new) }
         ensures keys { NoKeyBut (gathered_key diagram values) self.old.masks.entries
             self.new.masks.entries }
-        ensures last { IfOk result (λ added. OnTrue added
-            (slice_get (keys self.new.masks) last.new ≡ Some (gathered_key diagram values))) }
+        ensures place { IfSome place.new
+            (λ at. slice_get (keys self.new.masks) at ≡ Some (gathered_key diagram values)) }
+        ensures known { IfOk result (λ added. OnTrue added (IsSome place.new)) }
         ensures same { index_map_len self.new.masks ≡ index_map_len self.old.masks
             → waiting.new ≡ waiting.old }
         ensures more { index_map_len self.old.masks < index_map_len self.new.masks
             → waiting.new ≡ min (waiting.old + 1) (2 ^ 64 - 1) }
     {
+        *place = None;
         let key = GatheredKey {
             diagram,
             values: Halves::new(values),
         };
         let entry = self.masks.entry(key)?;
-        *last = entry.index();
+        let at = entry.index();
         match entry {
-            Entry::Occupied(known) => Ok(add_point(known.into_mut(), bit)),
+            Entry::Occupied(known) => {
+                *place = Some(at);
+                Ok(add_point(known.into_mut(), bit))
+            }
             Entry::Vacant(new) => {
                 let Some(mask) = Batch::first_mask(merged, diagram, values, bit) else {
                     return Ok(false);
                 };
                 new.insert(mask);
+                *place = Some(at);
                 *waiting = waiting.saturating_add(1);
                 Ok(true)
             }
         }
     }
 
-    /// Puts a point into the mask of its key; the key at the index `last` is tried first. Returns whether the
-    /// point is new.
-    #[inline(always)]
-    pub(crate) fn gather(
-        &mut self,
-        last: &mut usize,
-        waiting: &mut usize,
-        merged: &Diagrams<A>,
-        key: GatheredKey,
-        bit: usize,
-    ) -> Result<bool, AllocError>
-        requires { MayGather merged.now key bit self.old }
-        ensures ok { IfOk result (GathersEdge merged.now key bit (batch_masks merged.now self.old)
-            (batch_masks merged.now self.new)) }
-        ensures err { OnErr result (self.new.masks.entries ≡ self.old.masks.entries) }
-        ensures covers { AreCovered merged.now (batch_masks merged.now self.new) }
-        ensures keys { NoKeyBut key self.old.masks.entries self.new.masks.entries }
-        ensures last { IfOk result (λ added. OnTrue added
-            (slice_get (keys self.new.masks) last.new ≡ Some key)) }
-        ensures same { index_map_len self.new.masks ≡ index_map_len self.old.masks
-            → waiting.new ≡ waiting.old }
-        ensures more { index_map_len self.old.masks < index_map_len self.new.masks
-            → waiting.new ≡ min (waiting.old + 1) (2 ^ 64 - 1) }
-    {
-        if is_at(&self.masks, *last, &key) {
-            return Ok(self.gather_at(merged, key, *last, bit));
-        }
-        self.gather_elsewhere(last, waiting, merged, key.diagram, key.values.word(), bit)
-    }
-
-    /// The mask of a key, if the batch has one; the key at the index `last` is tried first.
-    pub(crate) fn mask(&self, last: usize, key: &GatheredKey) -> Option<u64>
+    /// The mask of a key, if the batch has one.
+    pub(crate) fn mask(&self, key: &GatheredKey) -> Option<u64>
         ensures some { IfSome result (λ m. Member (key.now, m) self.now.masks.entries) }
         ensures none { IsNone result → Member key.now (keys_of self.now.masks.entries) → ⊥ }
     {
-        match find(&self.masks, last, key) {
+        match find(&self.masks, 0, key) {
             Some(at) => Some(self.masks[at]),
             None => None,
         }

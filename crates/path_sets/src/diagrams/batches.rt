@@ -2,15 +2,18 @@
 
 ghost use Rattle.std.specs.Prelude.{◌≡◌, ◌<◌, ℕ, [], Some, length, slice_get, IfOk, OnErr};
 ghost use Rattle.std.specs.Prelude.{◌≤◌, ◌⊎◌, ◌↔◌, ◌+◌, ◌-◌, ◌^◌, min, IfSome, IsNone, IsSome, IsTrue, OnOk};
+ghost use Rattle.std.specs.Bool.{OnTrue};
 ghost use Rattle.std.specs.Map.{keys_of};
 ghost use Rattle.language.specs.Lists.{Member};
 ghost use Rattle.path_sets.specs.Batches.{AreHome, HasBatch, HasNoMasks, KeepMasks, gathered_at};
 ghost use Rattle.path_sets.specs.Contents.{BatchesFit, GathersEdge, all_masks, diagrams_in};
+ghost use Rattle.path_sets.specs.GatheredKeys.{gathered_key};
 
 use crate::diagrams::batch::Batch;
 use crate::diagrams::diagrams::Diagrams;
 use crate::diagrams::gathered_key::GatheredKey;
 use crate::diagrams::newest::batch_with_room;
+use language::Word;
 use std::alloc::{AllocError, Allocator};
 
 /// How many masks may wait for each that has gone into the diagrams.
@@ -32,8 +35,6 @@ pub(crate) struct Batches<A: Allocator> {
     /// For each diagram, by its index, the number of the batch that it got last.
     pub(crate) homes: Vec<usize, A>,
     pub(crate) batches: Vec<Batch<A>, A>,
-    /// The index of the key in its batch that was used last, which is usually that of the next path edge.
-    last: usize,
     /// The number of the oldest batch that may have masks.
     oldest: usize,
     /// How many masks wait.
@@ -65,7 +66,6 @@ impl<A: Allocator + Copy> Batches<A> {
         Batches {
             homes: Vec::new(alloc),
             batches: Vec::new(alloc),
-            last: 0,
             oldest: 0,
             waiting: 0,
             gone: 0,
@@ -116,27 +116,34 @@ impl<A: Allocator + Copy> Batches<A> {
         }
     }
 
-    /// Puts a point into the mask of its key in the batch of its diagram. Returns whether the point is new.
+    /// Puts a point into the mask of its key in the batch of its diagram, and makes `place` the index of the key there.
+    /// Returns whether the point is new.
     #[inline(always)]
     pub(crate) fn gather(
         &mut self,
         merged: &Diagrams<A>,
+        place: &mut Option<usize>,
         batch: usize,
-        key: GatheredKey,
+        diagram: usize,
+        values: Word,
         bit: usize,
     ) -> Result<bool, AllocError>
         requires bit { bit < 64 }
-        requires batch { HasBatch self.old.homes.items self.old.batches.items key.diagram batch }
-        requires diagram { key.diagram < length (diagrams_in merged.now) }
+        requires batch { HasBatch self.old.homes.items self.old.batches.items diagram batch }
+        requires diagram { diagram < length (diagrams_in merged.now) }
         requires fit { BatchesFit merged.now self.old.batches.items }
-        ensures ok { IfOk result (GathersEdge merged.now key bit
+        ensures ok { IfOk result (GathersEdge merged.now (gathered_key diagram values) bit
             (all_masks merged.now self.old.batches.items)
             (all_masks merged.now self.new.batches.items)) }
         ensures err { OnErr result
             (all_masks merged.now self.new.batches.items
             ≡ all_masks merged.now self.old.batches.items) }
+        ensures place { IfSome place.new
+            (λ at. slice_get (keys_of (gathered_at self.new.batches.items batch)) at
+            ≡ Some (gathered_key diagram values)) }
+        ensures known { IfOk result (λ added. OnTrue added (IsSome place.new)) }
         ensures fit { BatchesFit merged.now self.new.batches.items }
-        ensures batch { HasBatch self.new.homes.items self.new.batches.items key.diagram batch }
+        ensures batch { HasBatch self.new.homes.items self.new.batches.items diagram batch }
         ensures same { length (gathered_at self.new.batches.items batch)
             ≡ length (gathered_at self.old.batches.items batch)
             → self.new.waiting ≡ self.old.waiting }
@@ -144,7 +151,35 @@ impl<A: Allocator + Copy> Batches<A> {
             < length (gathered_at self.new.batches.items batch)
             → self.new.waiting ≡ min (self.old.waiting + 1) (2 ^ 64 - 1) }
     {
-        self.batches[batch].gather(&mut self.last, &mut self.waiting, merged, key, bit)
+        self.batches[batch].gather(place, &mut self.waiting, merged, diagram, values, bit)
+    }
+
+    /// Puts a point into the mask at the index of its key in a batch. Returns whether the point is new.
+    #[inline(always)]
+    pub(crate) fn gather_at(
+        &mut self,
+        merged: &Diagrams<A>,
+        batch: usize,
+        key: GatheredKey,
+        at: usize,
+        bit: usize,
+    ) -> bool
+        requires bit { bit < 64 }
+        requires batch { HasBatch self.old.homes.items self.old.batches.items key.diagram batch }
+        requires here { slice_get (keys_of (gathered_at self.old.batches.items batch)) at
+            ≡ Some key }
+        requires diagram { key.diagram < length (diagrams_in merged.now) }
+        requires fit { BatchesFit merged.now self.old.batches.items }
+        ensures ok { GathersEdge merged.now key bit
+            (all_masks merged.now self.old.batches.items)
+            (all_masks merged.now self.new.batches.items) result }
+        ensures fit { BatchesFit merged.now self.new.batches.items }
+        ensures homes { self.new.homes ≡ self.old.homes }
+        ensures batches { length self.new.batches.items ≡ length self.old.batches.items }
+        ensures keys { keys_of (gathered_at self.new.batches.items batch)
+            ≡ keys_of (gathered_at self.old.batches.items batch) }
+    {
+        self.batches[batch].gather_at(merged, key, at, bit)
     }
 
     /// The mask of a key, if it is gathered.
@@ -155,7 +190,7 @@ impl<A: Allocator + Copy> Batches<A> {
             → Member key.now (keys_of (gathered_at self.now.batches.items k)) → ⊥ }
     {
         match self.own_batch(key.diagram) {
-            Some(at) => self.batches[at].mask(self.last, key),
+            Some(at) => self.batches[at].mask(key),
             None => None,
         }
     }

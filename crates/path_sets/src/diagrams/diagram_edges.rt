@@ -1,12 +1,14 @@
 //! A set of path edges that keeps a decision diagram for each entry and block of points.
 
-ghost use Rattle.std.specs.Prelude.{◌≡◌, ◌<◌, ◌↔◌, None, Some, slice_get, length, IfOk, IsTrue, OnOk};
+ghost use Rattle.std.specs.Prelude.{◌≡◌, ◌<◌, ◌↔◌, ◌^◌, ℕ, None, Some, slice_get, length};
+ghost use Rattle.std.specs.Prelude.{IfOk, IfSome, IsTrue, OnErr, OnOk};
 ghost use Rattle.language.specs.Lists.{Member, NoneTwice, NoneTwice-prop};
 ghost use Rattle.language.specs.Words.{word_bits};
 ghost use Rattle.path_sets.specs.declared.diagrams.diagram_edges.LastDiagram.{LastDiagram};
+ghost use Rattle.path_sets.specs.Inserts.{HasAlso, IsLongerIf, IsNewIf};
 ghost use Rattle.path_sets.specs.Suffixes.{HasNodes};
 ghost use Rattle.path_sets.specs.Triples.{triple};
-ghost use Rattle.path_sets.specs.Contents.{BatchesFit, diagrams_in, IsLastOf, IsPlaced, whole};
+ghost use Rattle.path_sets.specs.Contents.{BatchesFit, diagrams_in, IsKeyAt, IsLastOf, IsPlaced, whole};
 
 use crate::diagrams::batches::Batches;
 use crate::diagrams::diagrams::Diagrams;
@@ -41,10 +43,16 @@ pub struct DiagramEdges<A: Allocator> {
     gathered: Batches<A>,
     merged: Diagrams<A>,
     last: Option<LastDiagram>,
+    /// The valuation of the last path edge, which is usually that of the next one.
+    values: Word,
+    /// The index of its key in the batch of the last diagram, if it is known.
+    place: Option<usize>,
     count: u64,
     ghost fit: { BatchesFit merged gathered.batches.items },
     ghost placed: { (l : LastDiagram) → last ≡ Some l
         → IsPlaced merged gathered.homes.items gathered.batches.items l },
+    ghost known: { (l : LastDiagram) (at : ℕ) → last ≡ Some l → place ≡ Some at
+        → IsKeyAt gathered.batches.items l values at },
     ghost counted: { count ≡ length (whole merged gathered.batches.items) },
     ghost once: { NoneTwice (whole merged gathered.batches.items) } by { NoneTwice-prop
         (whole merged gathered.batches.items) },
@@ -112,6 +120,7 @@ impl<A: Allocator + Copy> DiagramEdges<A> {
             block,
         })?;
         let batch = self.gathered.batch_of(diagram)?;
+        self.place = None;
         self.last = Some(LastDiagram {
             entry,
             block,
@@ -132,6 +141,63 @@ impl<A: Allocator + Copy> DiagramEdges<A> {
             return self.look_up(entry, block);
         }
         Ok(())
+    }
+
+    /// The index of the last path edge's key in its batch, if that is known and the key is that of an entry, a block and
+    /// a valuation.
+    #[inline(always)]
+    fn last_place(&self, entry: Word, block: usize, values: Word) -> Option<usize>
+        ensures some { IfSome result (λ at. (self.now.place ≡ Some at) × (self.now.values ≡ values)
+            × IsLastOf entry block self.now.last) }
+        ensures known { self.now.values ≡ values → IsLastOf entry block self.now.last
+            → result ≡ self.now.place }
+    {
+        if self.values == values && self.is_last(entry, block) {
+            return self.place;
+        }
+        None
+    }
+
+    /// Inserts a path edge, whether or not it is of the last diagram.
+    // Apart, since mostly the place of the next path edge is that of the last one.
+    #[inline(never)]
+    fn insert_elsewhere(
+        &mut self,
+        entry: Word,
+        point: Point,
+        values: Word,
+    ) -> Result<bool, AllocError>
+        requires { let old = whole self.old.merged self.old.gathered.batches.items in
+            length old < 2 ^ 63 }
+        ensures members { let old = whole self.old.merged self.old.gathered.batches.items in
+            let new = whole self.new.merged self.new.gathered.batches.items in
+            OnOk result (HasAlso (triple entry point values) old new) }
+        ensures new { let old = whole self.old.merged self.old.gathered.batches.items in
+            IfOk result (IsNewIf (triple entry point values) old) }
+        ensures len { let old = whole self.old.merged self.old.gathered.batches.items in
+            let new = whole self.new.merged self.new.gathered.batches.items in
+            IfOk result (IsLongerIf old new) }
+        ensures err { OnErr result (whole self.new.merged self.new.gathered.batches.items
+            ≡ whole self.old.merged self.old.gathered.batches.items) }
+    {
+        let (mask_key, bit) = key_and_bit(entry, point, values);
+        self.turn_to(entry, mask_key.block)?;
+        let Some(last) = self.last else {
+            unreachable!()
+        };
+        self.values = values;
+        let added = self.gathered.gather(
+            &self.merged,
+            &mut self.place,
+            last.batch,
+            last.diagram,
+            values,
+            bit,
+        )?;
+        if added {
+            self.count += 1;
+        }
+        Ok(added)
     }
 
     /// How many inner nodes the diagram of an entry and a point has whose nodes test one bit each, bit 0 first: one
@@ -160,6 +226,8 @@ impl<A: Allocator + Copy> PathSet<A> for DiagramEdges<A> {
             gathered: Batches::new(alloc),
             merged: Diagrams::new(alloc),
             last: None,
+            values: 0,
+            place: None,
             count: 0,
         }
     }
@@ -167,7 +235,9 @@ impl<A: Allocator + Copy> PathSet<A> for DiagramEdges<A> {
     #[inline(always)]
     fn insert(&mut self, entry: Word, point: Point, values: Word) -> Result<bool, AllocError> {
         let (mask_key, bit) = key_and_bit(entry, point, values);
-        self.turn_to(entry, mask_key.block)?;
+        let Some(at) = self.last_place(entry, mask_key.block, values) else {
+            return self.insert_elsewhere(entry, point, values);
+        };
         let Some(last) = self.last else {
             unreachable!()
         };
@@ -175,7 +245,9 @@ impl<A: Allocator + Copy> PathSet<A> for DiagramEdges<A> {
             diagram: last.diagram,
             values: mask_key.values,
         };
-        let added = self.gathered.gather(&self.merged, last.batch, key, bit)?;
+        let added = self
+            .gathered
+            .gather_at(&self.merged, last.batch, key, at, bit);
         if added {
             self.count += 1;
         }

@@ -1,12 +1,13 @@
-use Rattle.std.proofs.Common.{◌≡◌, Some, slice_get, slice_set, refl, subst}
+use Rattle.std.proofs.Common.{◌≡◌, IfSome, Some, slice_get, slice_set, refl, subst, sym}
+use Rattle.std.specs.Map.{keys_of}
 use Rattle.std.proofs.lemmas.Option.{slice_get_read}
 use Rattle.std.proofs.lemmas.Result.{IfOk-weaker, on_err_weaker}
 use Rattle.indexmap.specs.IndexMap.{keys}
 use Rattle.path_sets.specs.Batches.{masks_in}
 use Rattle.path_sets.specs.Contents.{GathersEdge}
 use Rattle.path_sets.specs.Members.{Covers}
-use Rattle.path_sets.specs.GatheredKeys.{AreWithin, masks_of}
-use Rattle.path_sets.proofs.BatchLemmas.{covers_put, home_put, puts_in, same_masks, gathered_is, within_put}
+use Rattle.path_sets.specs.GatheredKeys.{AreWithin, gathered_key, masks_of}
+use Rattle.path_sets.proofs.BatchLemmas.{covers_put, home_put, puts_in, same_masks, set_here, gathered_is, within_put}
 use Rattle.path_sets.proofs.diagrams.batches.Batches.gather.Given as given
 use Rattle.path_sets.proofs.diagrams.batches.Batches.gather.Goals as goal
 use Rattle.path_sets.proofs.diagrams.batches.Batches.gather.Goals.{After-index_mut}
@@ -33,7 +34,8 @@ invariant_of-self g c =
     let i = (goal.at.invariant_of-self g c).After-index_mut in
     let s = c.args.self.now in
     record {
-      home = home_put s.batches.items c.args.batch c.index_mut.result.now c.gather.new.self (at g i) c.args.key c.gather.ensures.keys
+      home = home_put s.batches.items c.args.batch c.index_mut.result.now c.gather.new.self (at g i) (gathered_key
+          c.args.diagram c.args.values) c.gather.ensures.keys
           s.homes.items s.home c.requires.batch.0;
     }
 
@@ -50,10 +52,12 @@ returns-clause-ok g c =
     let b = c.index_mut.result.now in
     let w = c.gather.new.self in
     IfOk-weaker c.gather.result
-    (GathersEdge m c.args.key c.args.bit (masks_of diagrams b.masks.entries) (masks_of diagrams w.masks.entries))
-    (GathersEdge m c.args.key c.args.bit (masks_in diagrams bs) (masks_in diagrams (slice_set bs k w)))
+    (GathersEdge m (gathered_key c.args.diagram c.args.values) c.args.bit (masks_of diagrams b.masks.entries) (masks_of
+    diagrams w.masks.entries))
+    (GathersEdge m (gathered_key c.args.diagram c.args.values) c.args.bit (masks_in diagrams bs) (masks_in diagrams (slice_set bs k w)))
     (λ added gathers. record {
-      puts = puts_in bs k b w (at g i) c.args.key c.gather.ensures.keys s.homes.items ns rs c.args.bit s.home c.requires.batch.0
+      puts = puts_in bs k b w (at g i) (gathered_key c.args.diagram c.args.values) c.gather.ensures.keys s.homes.items ns rs
+          c.args.bit s.home c.requires.batch.0
           c.requires.fit.within m.unique c.requires.diagram c.requires.bit added gathers.puts;
     }) c.gather.ensures.ok
 
@@ -70,8 +74,16 @@ returns-clause-fit g c =
     let m = c.args.merged.now in
     let bs = c.args.self.now.batches.items in
     let k = c.args.batch in record {
-      within = within_put bs k c.index_mut.result.now c.gather.new.self (at g i) c.args.key c.gather.ensures.keys (keys m.roots)
+      within = within_put bs k c.index_mut.result.now c.gather.new.self (at g i) (gathered_key c.args.diagram c.args.values)
+          c.gather.ensures.keys (keys m.roots)
           c.requires.fit.within c.requires.diagram;
-      covers = covers_put bs k c.index_mut.result.now c.gather.new.self (at g i) c.args.key c.gather.ensures.keys m.nodes.kept.keys
+      covers = covers_put bs k c.index_mut.result.now c.gather.new.self (at g i) (gathered_key c.args.diagram c.args.values)
+          c.gather.ensures.keys m.nodes.kept.keys
           m.roots.entries c.requires.fit.covers c.gather.ensures.covers;
     }
+
+pub returns-clause-place : goal.returns-clause-place
+returns-clause-place g c =
+    let i = (goal.at.returns-clause-place g c).After-index_mut in
+    subst (λ es. IfSome c.gather.new.place (λ n. slice_get (keys_of es) n ≡ Some (gathered_key c.args.diagram c.args.values)))
+    (sym (set_here c.args.self.now.batches.items c.args.batch c.index_mut.result.now c.gather.new.self (at g i))) c.gather.ensures.place

@@ -1,4 +1,5 @@
 use Rattle.std.proofs.Common.{◌≡◌, length, ap, sym, ◌∙◌, rules}
+use Rattle.std.proofs.lemmas.Option.{none-some}
 use Rattle.indexmap.specs.IndexMap.{keys}
 use Rattle.path_sets.specs.Batches.{masks_in}
 use Rattle.path_sets.specs.Contents.{BatchesFit}
@@ -33,6 +34,7 @@ invariant_of-self g c =
     let s = c.settle.new.self in record {
       fit = fit g i;
       placed = search rules;
+      known = search rules;
       counted = counted g i;
       once = all_none_twice s.merged.nodes.kept.keys s.merged.roots.entries
           (masks_in (keys s.merged.roots) c.batch_of.new.self.batches.items);
@@ -44,6 +46,7 @@ invariant_of-self-2 g c =
     let s = c.settle.new.self in record {
       fit = fit g i;
       placed = search rules;
+      known = λ l i is at. absurd (none-some i at);
       counted = counted g i;
       once = all_none_twice s.merged.nodes.kept.keys s.merged.roots.entries
           (masks_in (keys s.merged.roots) c.batch_of.new.self.batches.items);

@@ -90,6 +90,7 @@ invariant_of-self-in-Break-1 g c =
       fit = record { within = within g p is; covers = covers g p is };
       counted = s.counted ∙ sym (ap length (still g p is));
       placed = search rules;
+      known = search rules;
       once = all_none_twice m.nodes.kept.keys m.roots.entries (masks_in (keys m.roots) s.gathered.batches.items);
     }
 
@@ -118,6 +119,7 @@ invariant_of-self-2 g c =
       counted = s.counted ∙ sym (ap length (cleared g at.After-clear (takes g p is)
           (λ t h. c.in_ok-put_all.ensures.all t (subst (λ es. Member t (mask_edges (masks_of (keys s.merged.roots) es))) is h))));
       placed = search rules;
+      known = search rules;
       once = all_none_twice ns rs (masks_in (keys m.roots) cs);
     }
 

@@ -41,6 +41,7 @@ invariant_of-self g c =
       };
       counted = s.counted ∙ sym (ap length (same g i));
       placed = search rules;
+      known = search rules;
       once = all_none_twice m.nodes.kept.keys m.roots.entries (masks_in (keys m.roots) bs);
     }
 

@@ -22,6 +22,7 @@ invariant_of-result g c =
       };
       counted = sym (ap length (no_members ns rs ps c.new-2.ensures (ap (λ bs. mask_edges (masks_in diagrams bs)) c.new.ensures)));
       placed = search rules;
+      known = search rules;
       once = all_none_twice ns rs ps;
     }
 
