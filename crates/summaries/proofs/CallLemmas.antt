@@ -1,5 +1,5 @@
 -- The step of a table at an edge that calls.
-use Rattle.std.proofs.Common.{◌≡◌, ℕ, Some, List, [], ◌∷◌, ◌++◌, ◌⊎◌, Bool, true, false, inl, inr, refl}
+use Rattle.std.proofs.Common.{Option, ◌≡◌, ℕ, Some, List, [], ◌∷◌, ◌++◌, ◌⊎◌, Bool, true, false, inl, inr, refl}
 use Rattle.std.proofs.Common.{sym, ap, ◌∙◌, subst, slice_get, get_or, map, if◌then◌else◌, true≢false}
 use Rattle.std.specs.Bool.{OnTrue, OnFalse}
 use Rattle.std.specs.List.{list_any}
@@ -21,6 +21,7 @@ use Rattle.summaries.specs.declared.due.Caller.TheVariants.{Proc}
 use Rattle.summaries.specs.declared.due.Due.TheVariants.{Entry}
 use Rattle.summaries.specs.declared.edge.CallKey.{CallKey}
 use Rattle.summaries.specs.declared.edge.PathEdge.{PathEdge}
+use Rattle.summaries.specs.declared.exits.Place.{Place}
 use Rattle.summaries.specs.declared.found.Found.{Found}
 use Rattle.summaries.specs.declared.outbox.Outbox.{Outbox}
 use Rattle.summaries.specs.declared.outbox.Outgoing.{Outgoing}
@@ -31,7 +32,7 @@ use Rattle.summaries.specs.contracts.edge.CallKeyEq.TheImpl.Laws.{laws-law}
 use Rattle.summaries.specs.Under.{under}
 use Rattle.summaries.specs.Mails.{mail}
 use Rattle.summaries.specs.Dues.{due_of}
-use Rattle.summaries.specs.Found.{call, call_eq, path_edge, calls_in, entry_mail, mail_of, mails_in, TookMessage, HasSite, IsPlaced}
+use Rattle.summaries.specs.Found.{call, call_eq, path_edge, calls_in, pairs_in, entry_mail, mail_of, mails_in, TookMessage, HasSite, IsPlaced}
 use Rattle.summaries.specs.Found.{IsIndexed}
 use Rattle.summaries.specs.Found.{IsOwed, IsGrounded}
 use Rattle.summaries.specs.Grows.{EntersAt, Grows, AddsTo, OfSome, IsBehind, triple_of}
@@ -41,7 +42,7 @@ use Rattle.summaries.proofs.StepLemmas.{Step, taken_as}
 use Rattle.path_sets.proofs.KeyLemmas.{is_found}
 use Rattle.path_sets.proofs.PlaceLemmas.{last_or}
 use Rattle.summaries.proofs.Mails.{none_twice_with}
-use Rattle.summaries.proofs.PlaceLemmas.{HasMoreBehind, none_behind, placed_still, mails_still}
+use Rattle.summaries.proofs.PlaceLemmas.{HasMoreBehind, none_moved, placed_still, mails_still}
 use Rattle.summaries.proofs.TellLemmas.{gives_kept, gives_one, gives_known}
 
 module _ {A G : Type 0} (graph : Graph G) (q : ℕ) (f : Found A) (given : Outbox A) (sites : Groups CallKey PathEdge A)
@@ -53,7 +54,6 @@ module _ {A G : Type 0} (graph : Graph G) (q : ℕ) (f : Found A) (given : Outbo
     summaries = f.summaries;
     sites = sites;
     exits = f.exits;
-    pairs = f.pairs;
     outbox = given;
     expanded = f.expanded;
     pending = pending;
@@ -198,7 +198,7 @@ was_given q f ds k at added here old m =
     sym (get_or_append_left cs more.0 (call 0 0) at (old.placed (EntryFor at) m)) ∙ ap (λ l. get_or l at (call 0 0)) (sym more.1)
     ∙ get_or_from_slice_get ds at k (call 0 0) here in
     subst (λ c. Member (entry_mail q c) (mails_in q f)) same
-    (member_map (mail_of cs f.pairs.keys q) f.outbox.sent.items (EntryFor at) m)
+    (member_map (mail_of cs (pairs_in f) q) f.outbox.sent.items (EntryFor at) m)
 
 -- The entry of a call at its place among the calls is given, unless the call was known.
 module _ {A : Type 0} (q : ℕ) (f : Found A) (given : Outbox A) (sites : Groups CallKey PathEdge A) (pending : Vec PathEdge A) (k : CallKey)
@@ -209,14 +209,14 @@ module _ {A : Type 0} (q : ℕ) (f : Found A) (given : Outbox A) (sites : Groups
   abbrev there : Found A
   there = record f { sites = sites; outbox = given; pending = pending }
 
-  abbrev ps : List Pair
-  ps = f.pairs.keys
+  abbrev ps : Place → Option Pair
+  ps = pairs_in f
 
   abbrev ds : List CallKey
   ds = keys sites.by_key
 
   still : (x : Outgoing) → Member x f.outbox.sent.items → IsPlaced ds ps x
-  still x m = placed_still q (calls_in f) ps ds ps (calls_more (calls_in f) ds k added) (none_behind ps) x (old.placed x m)
+  still x m = placed_still q (calls_in f) ps ds ps (calls_more (calls_in f) ds k added) (none_moved ps) x (old.placed x m)
 
   placed_in : (b : Bool) → OnTrue b (given.sent.items ≡ f.outbox.sent.items)
       → OnFalse b (given.sent.items ≡ f.outbox.sent.items ++ EntryFor at ∷ []) → (x : Outgoing) → Member x given.sent.items
@@ -233,14 +233,11 @@ module _ {A : Type 0} (q : ℕ) (f : Found A) (given : Outbox A) (sites : Groups
     placed = placed_in known same more;
     calls_once = calls_stay_once (calls_in f) ds k added old.calls_once;
     pairs_once = old.pairs_once;
-    exits_once = old.exits_once;
-    exit = old.exit;
-    listed = old.listed;
   }
 
   mails_before : map (mail_of ds ps q) f.outbox.sent.items ≡ mails_in q f
   mails_before =
-      mails_still q (calls_in f) ps ds ps (calls_more (calls_in f) ds k added) (none_behind ps) f.outbox.sent.items old.placed
+      mails_still q (calls_in f) ps ds ps (calls_more (calls_in f) ds k added) (none_moved ps) f.outbox.sent.items old.placed
 
   gave_in : (b : Bool) → OnTrue b (given.sent.items ≡ f.outbox.sent.items)
       → OnFalse b (given.sent.items ≡ f.outbox.sent.items ++ EntryFor at ∷ []) → OnTrue b (Member (entry_mail q k) (mails_in q f))

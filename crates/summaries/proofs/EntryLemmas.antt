@@ -1,6 +1,5 @@
 -- The step of a table that takes an entry.
-use Rattle.std.proofs.Common.{◌≡◌, ◌⊎◌, ℕ, List, [], ◌∷◌, ◌++◌, false, nat_eq, inl, inr, refl, sym, ap, subst, map}
-use Rattle.std.proofs.lemmas.Option.{slice_get_within}
+use Rattle.std.proofs.Common.{◌≡◌, ◌<◌, ◌⊎◌, Some, ℕ, List, [], ◌∷◌, ◌++◌, false, nat_eq, inl, inr, refl, sym, ap, subst, map}
 use Rattle.std.specs.Prelude.{Vec}
 use Rattle.std.proofs.lemmas.Map.Views.{exact_unsigned_eq}
 use Rattle.language.specs.Lists.{Member}
@@ -13,22 +12,23 @@ use Rattle.summaries.specs.declared.due.Caller as rust
 use Rattle.summaries.specs.declared.due.Caller.TheVariants.{Proc}
 use Rattle.summaries.specs.declared.due.Due.TheVariants.{Entry}
 use Rattle.summaries.specs.declared.edge.PathEdge.{PathEdge}
+use Rattle.summaries.specs.declared.exits.Place.{Place}
 use Rattle.summaries.specs.declared.found.Found.{Found}
+use Rattle.summaries.specs.Exits.{place}
 use Rattle.summaries.specs.declared.outbox.Outbox.{Outbox}
 use Rattle.summaries.specs.declared.outbox.Outgoing.{Outgoing}
 use Rattle.summaries.specs.declared.groups.Groups.{Groups}
 use Rattle.summaries.specs.Under.{under}
 use Rattle.summaries.specs.Mails.{AddressedMail, mail, summary_due}
 use Rattle.summaries.specs.Dues.{caller_of, due_of}
-use Rattle.summaries.specs.Found.{pair, calls_in, mail_of, mails_in, TookMessage, HasExit, IsOwed, IsPlaced, IsIndexed, IsGrounded}
-use Rattle.summaries.specs.Grows.{Grows, AddsTo, OfSome, IsTold, IsSummaryTold}
+use Rattle.summaries.specs.Found.{pair, calls_in, pairs_in, mail_of, mails_in, TookMessage, HasExit, IsOwed, IsPlaced, IsIndexed, IsGrounded}
+use Rattle.summaries.specs.Grows.{Grows, AddsTo, IsTold, IsToldOf, IsSummaryTold}
 use Rattle.summaries.specs.Tables.{TookAlso}
 use Rattle.summaries.proofs.AddLemmas.{added_or, added_keeps, added_is, added_once}
 use Rattle.summaries.proofs.Dues.{who, who_is, due_told, same_entry, apart}
 use Rattle.summaries.proofs.StepLemmas.{Step, grown_to, grown_reached, grown_step}
 use Rattle.summaries.proofs.PlaceLemmas.{adds_mapped}
 use Rattle.summaries.proofs.TellLemmas.{gives_kept, gives_as, told_mail, mail_told}
-use Rattle.path_sets.proofs.PlaceLemmas.{at_index}
 
 -- a message is the summary of an exit of this entry, for the caller
 abbrev pub IsExitTold : {A : Type 0} → ℕ → Found A → ℕ → rust.Caller → AddressedMail → Type 0
@@ -101,7 +101,7 @@ module _ {A G : Type 0} (graph : Graph G) (q : ℕ) (f : Found A) (entries : Gro
 
     pub enter_step : (Member from (under nat_eq f.entries.by_key a) → ⊥)
         → Grows (λ t. t ≡ triple a graph.start a) es ds f.pending.items pending.items
-        → ((x : Outgoing) → IsIndexed f → Member x given.sent.items → IsPlaced (calls_in f) f.pairs.keys x)
+        → ((x : Outgoing) → IsIndexed f → Member x given.sent.items → IsPlaced (calls_in f) (pairs_in f) x)
         → AddsTo (IsExitTold q f a from) (mails_in q f) (mails_in q entered_to) → Step graph q f entered_to es ds
     enter_step new grown placed gave =
         grown_step graph q f entries f.summaries given pending es ds (λ t. t ≡ triple a graph.start a) taken_entered start_reached grown
@@ -124,44 +124,48 @@ module _ {A G : Type 0} (graph : Graph G) (q : ℕ) (f : Found A) (entries : Gro
         added others new)
         placed
 
--- a new caller has been told nothing yet
-pub none_told : {A G : Type 0} (graph : Graph G) (q : ℕ) (f : Found A) (es : List Triple) → IsGrounded graph q f es →
-    (a : ℕ) (from : rust.Caller) (exits : List ℕ) → exits ≡ under nat_eq f.exits.by_key a →
-    (Member from (under nat_eq f.entries.by_key a) → ⊥) →
-    (x : Outgoing) → OfSome (λ at. IsTold at from) exits x → Member x f.outbox.sent.items → ⊥
-none_told graph q f es sound a from exits same new x (at, m, told) given =
-    let cs = calls_in f in
-    let (b, here) = sound.indexed.exit a at (subst (Member at) same m) in
-    let (c, is, mailed) = told_mail q cs f.pairs.keys a b at here from x told in
-    let (own, left, taken) = sound.given c (numbered_summary q a b)
-    (subst (λ y. Member y (mails_in q f)) mailed (member_map (mail_of cs f.pairs.keys q) f.outbox.sent.items x given)) in
-    new (subst (λ d. Member d (under nat_eq f.entries.by_key a)) (sym is) taken)
-
--- The places of an entry's exits are told to a caller, by messages that have places.
-module _ {A : Type 0} (q : ℕ) (f : Found A) (old : IsIndexed f) (given : Outbox A) (a : ℕ) (from : rust.Caller) (exits : List ℕ)
-    (same : exits ≡ under nat_eq f.exits.by_key a)
-    (told : AddsTo (OfSome (λ at. IsTold at from) exits) f.outbox.sent.items given.sent.items) where
-  pub exits_placed : (x : Outgoing) → Member x given.sent.items → IsPlaced (calls_in f) f.pairs.keys x
-  exits_placed x m = elim (told.only x m) [
-    | inl w ↦
-        let (b, here) = old.exit a w.0 (subst (Member w.0) same w.1) in
-        subst (IsPlaced (calls_in f) f.pairs.keys) (sym w.2.2) (slice_get_within f.pairs.keys w.0 (pair a b) here)
-    | inr was ↦ old.placed x was
-  ]
-
-  -- so the summaries of all exits are given
-  pub exits_told : AddsTo (IsExitTold q f a from) (mails_in q f) (map (mail_of (calls_in f) f.pairs.keys q) given.sent.items)
-  exits_told =
+-- the pairs of an entry are at these places
+module _ {A : Type 0} (f : Found A) (a entry count : ℕ)
+    (each : (k : ℕ) → k < count → (b : Exit) × (pairs_in f (place entry k) ≡ Some (pair a b))) where
+  -- a new caller has been told nothing yet
+  pub none_told : {G : Type 0} (graph : Graph G) (q : ℕ) (es : List Triple) → IsGrounded graph q f es
+      → (from : rust.Caller) → (Member from (under nat_eq f.entries.by_key a) → ⊥)
+      → (x : Outgoing) → IsToldOf entry count from x → Member x f.outbox.sent.items → ⊥
+  none_told graph q es sound from new x (k, less, told) given =
       let cs = calls_in f in
-      gives_as _ (IsExitTold q f a from) _ _
-      (λ m (x, (at, is_in, w), is).
-      let (b, here) = old.exit a at (subst (Member at) same is_in) in (
-        b,
-        at_index f.pairs.keys (pair a b) at here,
-        subst (IsSummaryTold q a b from) (sym is) (told_mail q cs f.pairs.keys a b at here from x w),
-      ))
-      (λ m (b, exit, w).
-      let (at, listed, here) = old.listed a b exit in
-      let (x, is_told, is) = mail_told q cs f.pairs.keys a b at here from m w in
-      (x, (at, subst (Member at) (sym same) listed, is_told), is))
-      (adds_mapped (mail_of cs f.pairs.keys q) (OfSome (λ at. IsTold at from) exits) f.outbox.sent.items given.sent.items told)
+      let ps = pairs_in f in
+      let (b, here) = each k less in
+      let (c, is, mailed) = told_mail q cs ps a b (place entry k) here from x told in
+      let (own, left, taken) = sound.given c (numbered_summary q a b)
+      (subst (λ y. Member y (mails_in q f)) mailed (member_map (mail_of cs ps q) f.outbox.sent.items x given)) in
+      new (subst (λ d. Member d (under nat_eq f.entries.by_key a)) (sym is) taken)
+
+  -- They are told to a caller, by messages that have places.
+  module _ (q : ℕ) (given : Outbox A) (from : rust.Caller)
+      (told : AddsTo (IsToldOf entry count from) f.outbox.sent.items given.sent.items) where
+    pub exits_placed : IsIndexed f → (x : Outgoing) → Member x given.sent.items → IsPlaced (calls_in f) (pairs_in f) x
+    exits_placed old x m = elim (told.only x m) [
+      | inl w ↦
+          let (b, here) = each w.0 w.1 in
+          subst (IsPlaced (calls_in f) (pairs_in f)) (sym w.2.2) (pair a b, here)
+      | inr was ↦ old.placed x was
+    ]
+
+    -- so the summaries of all exits are given, if these are all
+    pub exits_told : ((at : Place) (b : Exit) → pairs_in f at ≡ Some (pair a b) → (at.entry ≡ entry) × (at.exit < count))
+        → AddsTo (IsExitTold q f a from) (mails_in q f) (map (mail_of (calls_in f) (pairs_in f) q) given.sent.items)
+    exits_told all =
+        let cs = calls_in f in
+        let ps = pairs_in f in
+        gives_as _ (IsExitTold q f a from) _ _
+        (λ m (x, (k, less, w), is).
+        let (b, here) = each k less in (
+          b,
+          (place entry k, here),
+          subst (IsSummaryTold q a b from) (sym is) (told_mail q cs ps a b (place entry k) here from x w),
+        ))
+        (λ m (b, (at, here), w).
+        let (x, is_told, is) = mail_told q cs ps a b at here from m w in
+        let (same, less) = all at b here in
+        (x, (at.exit, less, subst (λ (p : Place). IsTold p from x) (λ i. place (same i) at.exit) is_told), is))
+        (adds_mapped (mail_of cs ps q) (IsToldOf entry count from) f.outbox.sent.items given.sent.items told)

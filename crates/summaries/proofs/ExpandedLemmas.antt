@@ -82,7 +82,7 @@ module _ {A G : Type 0} (graph : Graph G) (q : ℕ) (f g : Found A) (es : List T
     tells = λ a b c m h. inl (m, h);
     callers_once = λ old. old;
     led = led;
-    indexed = λ old. indexed_as f remembered_to refl refl (λ a. refl) old.placed old;
+    indexed = λ old. indexed_as f remembered_to refl (λ at. refl) old.placed old;
   }
 
 -- a key among those of a set to which one is added is one from before, or the one added

@@ -7,6 +7,7 @@ pub mod ReachLemmas
 pub mod Dues
 pub mod TellLemmas
 pub mod AddLemmas
+pub mod PairLemmas
 pub mod GroupLemmas
 pub mod StepLemmas
 pub mod CallLemmas

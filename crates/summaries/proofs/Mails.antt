@@ -22,19 +22,27 @@ same_caller (Proc c) (Proc d) e = ap Proc (exact_unsigned_eq c d e)
 same_caller Starter (Proc d) e = absurd (true≢false (sym e))
 same_caller (Proc c) Starter e = absurd (true≢false (sym e))
 
--- by a search of callers
-module _ (c : Caller) (cs ds : List Caller) (same : cs ≡ ds) (found : Bool)
-    (is : found ≡ list_any (λ x. eq-value.it x c) cs) where
-  there : list_any (λ x. eq-value.it x c) ds ≡ found
-  there = ap (list_any (λ x. eq-value.it x c)) (sym same) ∙ sym is
+-- by a search
+module _ {K : Type 0} (eq : K → K → Bool) (one : (x y : K) → eq x y ≡ true → x ≡ y) (itself : (x : K) → eq x x ≡ true)
+    (c : K) (cs ds : List K) (same : cs ≡ ds) (found : Bool) (is : found ≡ list_any (λ x. eq x c) cs) where
+  there : list_any (λ x. eq x c) ds ≡ found
+  there = ap (list_any (λ x. eq x c)) (sym same) ∙ sym is
 
-  -- one that is found is among them
+  -- what is found is there
+  pub search_known : found ≡ true → Member c ds
+  search_known e = found_is_in (λ k x. eq x k) (λ k x e. sym (one x k e)) c ds (there ∙ e)
+
+  -- and what is not is new
+  pub search_new : found ≡ false → Member c ds → ⊥
+  search_new e m = true≢false (sym (is_found (λ k x. eq x k) itself c ds m) ∙ there ∙ e)
+
+-- so of callers
+module _ (c : Caller) (cs ds : List Caller) (same : cs ≡ ds) (found : Bool) (is : found ≡ list_any (λ x. eq-value.it x c) cs) where
   pub caller_known : found ≡ true → Member c ds
-  caller_known e = found_is_in (λ k x. eq-value.it x k) (λ k x e. sym (same_caller x k e)) c ds (there ∙ e)
+  caller_known = search_known eq-value.it same_caller laws-law.refl c cs ds same found is
 
-  -- one that is not is new
   pub caller_new : found ≡ false → Member c ds → ⊥
-  caller_new e m = true≢false (sym (is_found (λ k x. eq-value.it x k) laws-law.refl c ds m) ∙ there ∙ e)
+  caller_new = search_new eq-value.it same_caller laws-law.refl c cs ds same found is
 
 module _ {K : Type 0} (eq : K → K → Bool) (k : K) (ks after : List K) (added : Bool) (tells : added ≡ not (list_any (eq k) ks))
     (keys : after ≡ insert_key eq ks k) where

@@ -27,13 +27,3 @@ module _ {A : Type 0} where
       let (zs, long, others) = without x ys (all x (inl refl)) in
       let rest = no_longer xs zs once.1 (apart xs ys zs x once all others) in
       omega (arith, long, rest)
-
-  -- a list with nothing twice that has only members of one that is not longer has all of them
-  pub all_there : (xs ys : List A) → NoneTwice xs → ((x : A) → Member x xs → Member x ys) → length ys ≤ length xs
-      → (y : A) → Member y ys → Member y xs
-  all_there [] [] once all short y m = m
-  all_there [] (z ∷ ys) once all short y m = absurd (omega (arith, short))
-  all_there (x ∷ xs) ys once all short y m =
-      let (zs, long, others) = without x ys (all x (inl refl)) in
-      let rest = all_there xs zs once.1 (apart xs ys zs x once all others) (omega (arith, long, short)) in
-      elim (others y m) [ inl e ↦ inl e | inr k ↦ inr (rest y k) ]

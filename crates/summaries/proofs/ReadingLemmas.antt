@@ -1,24 +1,42 @@
 -- Pairs that are read entry by entry.
 use Rattle.std.proofs.Common.{◌≡◌, ◌≤◌, ◌<◌, ◌+◌, ◌↔◌, ◌⊎◌, ℕ, zero, suc, nat_eq, Bool, true, false, IsTrue, Ordering, List, [], ◌∷◌, ◌++◌}
-use Rattle.std.proofs.Common.{Option, None, Some, length, slice_get, get_or, take, drop}
-use Rattle.std.proofs.Common.{inl, inr, refl, sym, ap, ◌∙◌, subst, arith, true≢false}
-use Rattle.std.specs.List.{AllAdjacentBelow, IsAllAdjacentAnswer, cons_option}
+use Rattle.std.proofs.Common.{length, map, slice_get, get_or, take, drop, Option, None, Some, cond}
+use Rattle.std.proofs.Common.{◌&&◌, ap₂, inl, inr, refl, sym, ap, ◌∙◌, subst, arith, true≢false}
+use Rattle.std.specs.List.{AllAdjacentBelow, IsAllAdjacentAnswer}
 use Rattle.std.specs.declared.cmp.Ordering.TheVariants.{Less, Equal, Greater}
 use Rattle.std.proofs.lemmas.Cmp.{ranked}
 use Rattle.std.proofs.lemmas.List.{append-nil, take_all, take_more, drop_all}
-use Rattle.std.proofs.lemmas.List.Elements.{filter_map-append}
 use Rattle.std.proofs.lemmas.Grind.{flat_map-append}
-use Rattle.summaries.specs.Under.{under}
 use Rattle.summaries.specs.Found.{pair, left}
-use Rattle.std.specs.Ordering.{is_lt, MatchOrdering, nat_cmp, bool_cmp, ordering_then}
-use Rattle.language.specs.Lists.{Member, NoneTwice}
-use Rattle.language.proofs.Members.{member_append}
-use Rattle.path_sets.proofs.PlaceLemmas.{at_index}
+use Rattle.summaries.specs.Exits.{exits_of, pair_at, listed_if_any}
+use Rattle.flow_graph.specs.declared.exit.Exit.{Exit}
+use Rattle.summaries.specs.declared.exits.ExitList.{ExitList}
+use Rattle.summaries.specs.declared.exits.Place.{Place}
+use Rattle.indexmap.specs.IndexMap.{keys, get, IsUnique}
+use Rattle.std.specs.Map.{lookup}
+use Rattle.std.specs.List.{dedup, Contains}
+use Rattle.std.specs.Cmp.{IsEquivalence}
+use Rattle.std.specs.List.Sorted.{IsStrictlySortedBy}
+use Rattle.std.proofs.lemmas.List.Kept.{Contains-dedup, Contains-from_dedup, IsStrictlySortedBy-dedup}
+use Rattle.std.proofs.lemmas.List.Filters.{dedup_is}
+use Rattle.std.specs.Cmp.{IsTotalOrder, on_total, then_total, bool_cmp_total, unsigned_ties, tied_then}
+use Rattle.std.proofs.lemmas.Cmp.{nat_cmp_total, eq_by_cmp_equiv}
+use Rattle.std.specs.Bool.{beq}
+use Rattle.std.specs.List.Sorted.{IsPermutation, IsSorted}
+use Rattle.std.specs.List.Retain.{IsFiltered, DiffersFromLast}
+use Rattle.std.proofs.lemmas.Option.{none-some, same_Some, slice_get_within, get_or_from_slice_get, slice_get-get_or}
+use Rattle.std.proofs.lemmas.Map.Views.{exact_unsigned_eq, All-after_first}
+use Rattle.std.proofs.lemmas.Map.Keys.{sorted_tail}
+use Rattle.summaries.proofs.PairLemmas.{got_pair, listed_place, pair_is_left}
+use Rattle.summaries.specs.declared.exits.Exits.{Exits}
+use Rattle.std.specs.Ordering.{is_lt, is_eq, eq_by_cmp, MatchOrdering, nat_cmp, bool_cmp, ordering_then}
+use Rattle.language.specs.Lists.{Member}
+use Rattle.language.proofs.Members.{member_append, member_left, member_right, member_map, map_member}
+use Rattle.path_sets.proofs.PlaceLemmas.{at_index, index_of, get_map}
 use Rattle.summaries.specs.declared.pair.Pair.{Pair}
-use Rattle.summaries.specs.declared.found.Found.{Found}
 use Rattle.summaries.specs.Tabulated.{IsPairBefore, ArePairsAscending}
-use Rattle.summaries.specs.Readings.{items_at, pairs_of}
-use Rattle.summaries.proofs.SortedLemmas.{pair_cmp}
+use Rattle.summaries.specs.Readings.{pairs_of}
+use Rattle.summaries.proofs.SortedLemmas.{pair_cmp, pair_eq, same_members}
 
 -- what compares less by a number, or by what comes after it
 first_less : (m n : ℕ) (behind : Ordering)
@@ -92,72 +110,14 @@ ascend_if_each_less xs false (k, within, not_less) = (
   λ up. absurd (true≢false (sym (next_less xs up k within (pair 0 (left 0 false))) ∙ sym (not_less (pair 0 (left 0 false))))),
 )
 
--- a pair is not before itself, and what is before one is before what that is before
-not_before_itself : (x : Pair) → IsPairBefore x x → ⊥
-not_before_itself x (inl less) = omega (arith, less)
-not_before_itself x (inr (same, inl less)) = omega (arith, less)
-not_before_itself x (inr (same, inr last)) = true≢false (sym last.2 ∙ last.1)
-
-before_trans : (x y z : Pair) → IsPairBefore x y → IsPairBefore y z → IsPairBefore x z
-before_trans x y z (inl h) (inl k) = inl (omega (arith, h, k))
-before_trans x y z (inl h) (inr k) = inl (omega (arith, h, k.0))
-before_trans x y z (inr h) (inl k) = inl (omega (arith, h.0, k))
-before_trans x y z (inr (e, inl h)) (inr (f, inl k)) = inr (e ∙ f, inl (omega (arith, h, k)))
-before_trans x y z (inr (e, inl h)) (inr (f, inr k)) = inr (e ∙ f, inl (omega (arith, h, k.0)))
-before_trans x y z (inr (e, inr h)) (inr (f, inl k)) = inr (e ∙ f, inl (omega (arith, h.0, k)))
-before_trans x y z (inr (e, inr h)) (inr (f, inr k)) = inr (e ∙ f, inr (h.0 ∙ k.0, h.1, k.2))
-
--- a pair is before all that come after it
-before_all : (x : Pair) (ys : List Pair) → ArePairsAscending (x ∷ ys) → (z : Pair) → Member z ys → IsPairBefore x z
-before_all x [] up z m = absurd m
-before_all x (y ∷ ys) up z (inl e) = subst (IsPairBefore x) (sym e) up.0
-before_all x (y ∷ ys) up z (inr m) = before_trans x y z up.0 (before_all y ys up.1 z m)
-
--- none of the pairs that ascend occurs twice
-pub ascending_none_twice : (xs : List Pair) → ArePairsAscending xs → NoneTwice xs
-ascending_none_twice [] up = tt
-ascending_none_twice (x ∷ []) up = (λ m. m, tt)
-ascending_none_twice (x ∷ y ∷ zs) up = (
-  λ m. not_before_itself x (before_all x (y ∷ zs) up x m),
-  ascending_none_twice (y ∷ zs) up.1,
-)
-
--- items at places of a list are in it
-module _ {X : Type 0} (items : List X) where
-  at_places : (places : List ℕ) (x : X) → Member x (items_at items places) → Member x items
-  at_places [] x m = absurd m
-  at_places (place ∷ places) x m = by (slice_get items place) refl m (at_places places x)
-    where
-      by : (found : Option X) → slice_get items place ≡ found → Member x (cons_option found (items_at items places))
-          → (Member x (items_at items places) → Member x items) → Member x items
-      by None e n rest = rest n
-      by (Some y) e (inl same) rest = at_index items x place (e ∙ ap Some (sym same))
-      by (Some y) e (inr n) rest = rest n
-
--- pairs of entries are pairs
-pub of_entries : {Alloc : Type 0} (found : Found Alloc) (entries : List ℕ) (x : Pair) → Member x (pairs_of found entries)
-    → Member x found.pairs.keys
-of_entries found [] x m = absurd m
-of_entries found (own ∷ entries) x m =
-    let places = under nat_eq found.exits.by_key own in
-    elim (member_append x (items_at found.pairs.keys places) (pairs_of found entries) m) [
-      | inl here ↦ at_places found.pairs.keys places x here
-      | inr later ↦ of_entries found entries x later
-    ]
-
--- a list is read in order, one item after those that are read
-pub items_more : {X : Type 0} (items : List X) (places : List ℕ) (i : ℕ) (here : i < length places)
-    → items_at items (take (i + 1) places) ≡ items_at items (take i places) ++ cons_option (slice_get items (get_or places i 0)) []
-items_more items places i here =
-    ap (items_at items) (take_more places i 0 here) ∙ filter_map-append (slice_get items) (take i places) (get_or places i 0 ∷ [])
-
-pub pairs_more : {Alloc : Type 0} (found : Found Alloc) (entries : List ℕ) (i : ℕ) (here : i < length entries)
-    → pairs_of found (take (i + 1) entries)
-    ≡ pairs_of found (take i entries) ++ items_at found.pairs.keys (under nat_eq found.exits.by_key (get_or entries i 0))
-pairs_more found entries i here =
-    let f : ℕ → List Pair = λ own. items_at found.pairs.keys (under nat_eq found.exits.by_key own) in
-    ap (pairs_of found) (take_more entries i 0 here) ∙ flat_map-append f (take i entries) (get_or entries i 0 ∷ [])
-    ∙ ap (λ l. pairs_of found (take i entries) ++ l) (append-nil (f (get_or entries i 0)))
+-- one entry after those that are read
+pub pairs_more : {Alloc : Type 0} (exits : Exits Alloc) (entries : List ℕ) (i : ℕ) (here : i < length entries)
+    → pairs_of exits (take (i + 1) entries)
+    ≡ pairs_of exits (take i entries) ++ map (pair (get_or entries i 0)) (exits_of exits (get_or entries i 0))
+pairs_more exits entries i here =
+    let f : ℕ → List Pair = λ own. map (pair own) (exits_of exits own) in
+    ap (pairs_of exits) (take_more entries i 0 here) ∙ flat_map-append f (take i entries) (get_or entries i 0 ∷ [])
+    ∙ ap (λ l. pairs_of exits (take i entries) ++ l) (append-nil (f (get_or entries i 0)))
 
 -- what is written over a list of the same length
 pub written_over : {X : Type 0} (n : ℕ) (xs ys : List X) → length ys ≡ length xs → length xs ≤ n
@@ -165,3 +125,141 @@ pub written_over : {X : Type 0} (n : ℕ) (xs ys : List X) → length ys ≡ len
 written_over n xs ys long within =
     ap (λ l. take n (ys ++ l)) (drop_all (length ys) xs (omega (arith, long))) ∙ ap (take n) (append-nil ys)
     ∙ take_all n ys (omega (arith, long, within))
+
+-- the values that are looked up stand at some index
+lookup_place : {X : Type 0} (es : List (ℕ × X)) (own : ℕ) (v : X) → lookup (nat_eq own) es ≡ Some v
+    → (n : ℕ) × (slice_get es n ≡ Some (own, v))
+lookup_place [] own v is = absurd (none-some v is)
+lookup_place (e ∷ es) own v is = by (nat_eq own e.0) refl is (lookup_place es own v)
+  where
+    by : (b : Bool) → nat_eq own e.0 ≡ b → cond b (Some e.1) (lookup (nat_eq own) es) ≡ Some v
+        → (lookup (nat_eq own) es ≡ Some v → (n : ℕ) × (slice_get es n ≡ Some (own, v)))
+        → (n : ℕ) × (slice_get (e ∷ es) n ≡ Some (own, v))
+    by true f at rest = (0, λ i. Some (sym (exact_unsigned_eq own e.0 f) i, same_Some e.1 v at i))
+    by false f at rest = let (n, there) = rest at in (suc n, there)
+
+module _ {A : Type 0} (exits : Exits A) where
+  -- the exits of an entry have places
+  left_is_pair : (own : ℕ) (b : Exit) → Member b (exits_of exits own) → (at : Place) × (pair_at exits at ≡ Some (pair own b))
+  left_is_pair own b m = by (get nat_eq exits.by_entry own) refl m
+    where
+      by : (o : Option (ExitList A)) → get nat_eq exits.by_entry own ≡ o → Member b (listed_if_any o)
+          → (at : Place) × (pair_at exits at ≡ Some (pair own b))
+      by None is m = absurd m
+      by (Some l) is m =
+          let (n, here) = lookup_place exits.by_entry.entries own l is in
+          listed_place exits.by_entry.entries n own l l here b m
+
+  -- a pair of entries is of one of them
+  of_entries : (entries : List ℕ) (x : Pair) → Member x (pairs_of exits entries)
+      → (own : ℕ) × Member own entries × Member x (map (pair own) (exits_of exits own))
+  of_entries [] x m = absurd m
+  of_entries (own ∷ entries) x m = elim (member_append x (map (pair own) (exits_of exits own)) (pairs_of exits entries) m) [
+    | inl here ↦ (own, inl refl, here)
+    | inr later ↦ let (other, there, is) = of_entries entries x later in (other, inr there, is)
+  ]
+
+  in_entries : (entries : List ℕ) (own : ℕ) (x : Pair) → Member own entries → Member x (map (pair own) (exits_of exits own))
+      → Member x (pairs_of exits entries)
+  in_entries [] own x m is = absurd m
+  in_entries (o ∷ entries) own x (inl e) is =
+      member_left x (map (pair o) (exits_of exits o)) (pairs_of exits entries)
+      (subst (λ n. Member x (map (pair n) (exits_of exits n))) e is)
+  in_entries (o ∷ entries) own x (inr m) is =
+      member_right x (map (pair o) (exits_of exits o)) (pairs_of exits entries) (in_entries entries own x m is)
+
+  -- the pairs of all entries are all pairs
+  pub pairs_are : IsUnique nat_eq exits.by_entry → (entries : List ℕ)
+      → ((a : ℕ) → Member a entries ↔ Member a (keys exits.by_entry))
+      → (x : Pair) → Member x (pairs_of exits entries) ↔ ((at : Place) × (pair_at exits at ≡ Some x))
+  pairs_are unique entries all x = (
+    λ m.
+        let (own, there, is_in) = of_entries entries x m in
+        let (b, left, is) = map_member (pair own) (exits_of exits own) x is_in in
+        let (at, here) = left_is_pair own b left in
+        (at, here ∙ ap Some (sym is)),
+    λ (at, here).
+        let b = left x.b x.r in
+        let (l, entry, exit) = got_pair (slice_get exits.by_entry.entries at.entry) at.exit x.a b here in
+        let key = at_index (keys exits.by_entry) x.a at.entry (get_map (λ e. e.0) exits.by_entry.entries at.entry (x.a, l) entry) in
+        in_entries entries x.a x ((all x.a).1 key)
+        (member_map (pair x.a) (exits_of exits x.a) b (pair_is_left exits x.a b unique (at, here))),
+  )
+
+-- pairs that are sorted, each once, ascend
+pub strict_ascend : (xs : List Pair) → IsStrictlySortedBy pair_cmp xs → ArePairsAscending xs
+strict_ascend [] sorted = tt
+strict_ascend (x ∷ []) sorted = tt
+strict_ascend (x ∷ y ∷ zs) sorted = (
+  (less_is_before x y).0 (ap is_lt (All-after_first pair_cmp x (y ∷ zs) sorted 0 y (omega arith))),
+  strict_ascend (y ∷ zs) (sorted_tail pair_cmp x (y ∷ zs) sorted),
+)
+
+-- pairs compare in a total order, which tells apart what `==` does
+pair_total : IsTotalOrder pair_cmp
+pair_total =
+    then_total (on_total (λ (x : Pair). x.a) nat_cmp_total)
+    (then_total (on_total (λ (x : Pair). x.b) nat_cmp_total) (on_total (λ (x : Pair). x.r) bool_cmp_total))
+
+results_tied : (x y : Bool) → beq x y ≡ is_eq (bool_cmp x y)
+results_tied true true = refl
+results_tied true false = refl
+results_tied false true = refl
+results_tied false false = refl
+
+pair_ties : (x y : Pair) → pair_eq x y ≡ eq_by_cmp pair_cmp x y
+pair_ties x y =
+    ap₂ (λ a b. a && b) (unsigned_ties x.a y.a)
+    (ap₂ (λ a b. a && b) (unsigned_ties x.b y.b) (results_tied x.r y.r) ∙ tied_then (nat_cmp x.b y.b) (bool_cmp x.r y.r))
+    ∙ tied_then (nat_cmp x.a y.a) (ordering_then (nat_cmp x.b y.b) (bool_cmp x.r y.r))
+
+pair_laws : IsEquivalence pair_eq
+pair_laws = subst IsEquivalence (λ i x y. sym (pair_ties x y) i) (eq_by_cmp_equiv pair_total)
+
+both : (x y : Bool) → (x && y) ≡ true → (x ≡ true) × (y ≡ true)
+both true y e = (refl, e)
+both false y e = absurd (true≢false (sym e))
+
+same_result : (x y : Bool) → beq x y ≡ true → x ≡ y
+same_result true true e = refl
+same_result true false e = absurd (true≢false (sym e))
+same_result false true e = absurd (true≢false (sym e))
+same_result false false e = refl
+
+same_pair : (x y : Pair) → pair_eq x y ≡ true → x ≡ y
+same_pair x y e =
+    let (first, rest) = both (nat_eq x.a y.a) (nat_eq x.b y.b && beq x.r y.r) e in
+    let (second, last) = both (nat_eq x.b y.b) (beq x.r y.r) rest in
+    λ i. record {
+      a = exact_unsigned_eq x.a y.a first i;
+      b = exact_unsigned_eq x.b y.b second i;
+      r = same_result x.r y.r last i;
+    }
+
+-- leaving out what occurs again keeps the members
+module _ {X : Type 0} where
+  contains_of : (xs : List X) (x : X) → Member x xs → Contains xs x
+  contains_of xs x m = let (i, at) = index_of xs x m in (i, slice_get_within xs i x at, get_or_from_slice_get xs i x x at)
+
+  member_of : (xs : List X) (x : X) → Contains xs x → Member x xs
+  member_of xs x (j, within, same) = at_index xs x j (slice_get-get_or xs j x within ∙ ap Some same)
+
+  pub dedup_members : (eq : X → X → Bool) → IsEquivalence eq → ((x y : X) → eq x y ≡ true → x ≡ y) → (xs : List X) (x : X)
+      → Member x (dedup eq xs) ↔ Member x xs
+  dedup_members eq laws same xs x = (
+    λ m. member_of xs x (Contains-from_dedup eq xs x (contains_of (dedup eq xs) x m)),
+    λ m. member_of (dedup eq xs) x (Contains-dedup laws same xs x (contains_of xs x m)),
+  )
+
+-- pairs that were sorted and then occur once ascend, and they are the pairs that there were
+pub deduped : (xs sorted ys : List Pair) → IsPermutation xs sorted → IsSorted pair_cmp sorted
+    → IsFiltered (DiffersFromLast pair_eq) [] sorted ys
+    → ArePairsAscending ys × ((x : Pair) → Member x ys ↔ Member x xs)
+deduped xs sorted ys moved up left =
+    let is = dedup_is pair_eq sorted ys left in (
+      subst ArePairsAscending (sym is) (strict_ascend (dedup pair_eq sorted) (IsStrictlySortedBy-dedup pair_total pair_ties sorted up)),
+      λ x.
+          let (kept, all) = dedup_members pair_eq pair_laws same_pair sorted x in
+          let (back, there) = same_members xs sorted moved x in
+          (λ m. back (kept (subst (Member x) is m)), λ m. subst (Member x) (sym is) (all (there m))),
+    )

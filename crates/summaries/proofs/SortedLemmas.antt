@@ -1,22 +1,19 @@
 -- Lists that are sorted, and the members that they keep.
-use Rattle.std.proofs.Common.{◌≡◌, ◌<◌, ◌+◌, ◌↔◌, ◌⊎◌, ℕ, suc, Bool, true, false, not, cond, ◌&&◌, ◌==◌, nat_eq, List, [], ◌∷◌}
-use Rattle.std.proofs.Common.{length, get_or, Some, inl, inr, refl, sym, ap, ◌∙◌, subst, arith, true≢false, Ordering}
+use Rattle.std.proofs.Common.{◌≡◌, ◌<◌, ◌+◌, ◌↔◌, ℕ, suc, Bool, true, false, not, cond, ◌&&◌, ◌==◌, nat_eq, List, [], ◌∷◌}
+use Rattle.std.proofs.Common.{length, get_or, Some, inl, inr, refl, sym, subst, arith, true≢false, Ordering}
 use Rattle.std.specs.List.{filter, IsDistinct, AllByRecursion}
 use Rattle.std.specs.List.Sorted.{IsPermutation, IsSortedBy, IsSorted}
 use Rattle.std.specs.Bool.{beq}
 use Rattle.std.specs.Ordering.{is_lt, nat_cmp, bool_cmp, ordering_then}
-use Rattle.std.specs.declared.cmp.Ordering.TheVariants.{Less, Equal, Greater}
 use Rattle.std.specs.Map.{keys_of, lookup}
 use Rattle.summaries.specs.declared.values.Values.{Values}
 use Rattle.std.proofs.lemmas.List.Sorted.{IsPermutation-sym}
 use Rattle.std.proofs.lemmas.Map.Keys.{IsDistinct-head, IsDistinct-tail, IsDistinct-cons, ge_from_not_lt}
-use Rattle.std.proofs.lemmas.Cmp.{tied_itself, nat_cmp_total}
-use Rattle.std.proofs.lemmas.Map.Lookups.{exact_unsigned}
 use Rattle.std.proofs.lemmas.Map.Views.{exact_unsigned_eq}
 use Rattle.std.proofs.lemmas.Bool.Decides.{nat_tests}
 use Rattle.language.specs.Lists.{Member}
 use Rattle.summaries.specs.declared.pair.Pair.{Pair}
-use Rattle.summaries.specs.Tabulated.{IsAscending, IsPairBefore, ArePairsAscending}
+use Rattle.summaries.specs.Tabulated.{IsAscending}
 use Rattle.summaries.specs.Under.{values_if_any}
 use Rattle.path_sets.proofs.PlaceLemmas.{reordered}
 use Rattle.path_sets.proofs.FilterLemmas.{kept_is, is_kept}
@@ -75,54 +72,6 @@ pair_cmp x y = ordering_then (nat_cmp x.a y.a) (ordering_then (nat_cmp x.b y.b) 
 abbrev pub pair_eq : Pair → Pair → Bool
 pair_eq x y = nat_eq x.a y.a && (nat_eq x.b y.b && beq x.r y.r)
 
--- two that are in order and differ are told apart by their first numbers, or by what comes after them
-first_or_rest : (m n : ℕ) (behind : Ordering) (same : Bool) → is_lt (ordering_then (nat_cmp n m) behind) ≡ false
-    → (nat_eq m n && same) ≡ false → (m < n) ⊎ ((m ≡ n) × (is_lt behind ≡ false) × (same ≡ false))
-first_or_rest m n behind same after apart = by (nat_cmp n m) refl after (nat_eq m n) refl apart
-  where
-    equal : (i j : ℕ) → i ≡ j → nat_eq j i ≡ true
-    equal i j e = grind (arith, nat_tests)
-
-    by : (r : Ordering) → nat_cmp n m ≡ r → is_lt (ordering_then r behind) ≡ false → (b : Bool) → nat_eq m n ≡ b
-        → (b && same) ≡ false
-        → (m < n) ⊎ ((m ≡ n) × (is_lt behind ≡ false) × (same ≡ false))
-    by Less e h b f k = absurd (true≢false h)
-    by Equal e h true f k = inr (exact_unsigned_eq m n f, h, k)
-    by Equal e h false f k = absurd (true≢false (sym (equal n m (exact_unsigned n m e)) ∙ f))
-    by Greater e h true f k =
-        let tied : nat_cmp n m ≡ Equal = ap (λ i. nat_cmp n i) (exact_unsigned_eq m n f) ∙ tied_itself nat_cmp_total n in
-        let no : ⊥ = cc in
-        absurd no
-    by Greater e h false f k = inl (less m n (ap is_lt e) f)
-
-result_less : (x y : Bool) → is_lt (bool_cmp y x) ≡ false → beq x y ≡ false → (x ≡ false) × (y ≡ true)
-result_less true true after apart = absurd (true≢false apart)
-result_less true false after apart = absurd (true≢false after)
-result_less false true after apart = (refl, refl)
-result_less false false after apart = absurd (true≢false apart)
-
-pair_less : (x y : Pair) → is_lt (pair_cmp y x) ≡ false → pair_eq x y ≡ false → IsPairBefore x y
-pair_less x y after apart =
-    elim (first_or_rest x.a y.a (ordering_then (nat_cmp y.b x.b) (bool_cmp y.r x.r)) (nat_eq x.b y.b && beq x.r y.r) after apart) [
-      | inl a ↦ inl a
-      | inr rest ↦
-          inr (
-            rest.0,
-            elim (first_or_rest x.b y.b (bool_cmp y.r x.r) (beq x.r y.r) rest.1 rest.2) [
-              | inl b ↦ inl b
-              | inr last ↦ let (xr, yr) = result_less x.r y.r last.1 last.2 in inr (last.0, xr, yr)
-            ],
-          )
-    ]
-
-pub pairs_ascend : (xs : List Pair) → IsSorted pair_cmp xs → IsDistinct pair_eq xs → ArePairsAscending xs
-pairs_ascend [] sorted once = tt
-pairs_ascend (x ∷ []) sorted once = tt
-pairs_ascend (x ∷ y ∷ zs) sorted once = (
-  pair_less x y (sorted 0 x (omega arith) (omega arith)) (IsDistinct-head pair_eq x (y ∷ zs) once).0,
-  pairs_ascend (y ∷ zs) (sorted_tail (λ a b. is_lt (pair_cmp a b)) x (y ∷ zs) sorted) (IsDistinct-tail pair_eq x (y ∷ zs) once),
-)
-
 -- whether a list has a member
 abbrev pub has_any : {X : Type 0} → List X → Bool
 has_any xs = not (length xs == 0)
@@ -156,15 +105,6 @@ module _ {V A : Type 0} where
       any v [] m = absurd m
       any v (u ∷ us) m = grind (arith, nat_tests)
 
--- whether numbers and pairs are the same does not depend on their order
+-- whether numbers are the same does not depend on their order
 pub nat_eq_flips : (m n : ℕ) → nat_eq m n ≡ nat_eq n m
 nat_eq_flips m n = grind (arith, nat_tests)
-
-beq_flips : (x y : Bool) → beq x y ≡ beq y x
-beq_flips true true = refl
-beq_flips true false = refl
-beq_flips false true = refl
-beq_flips false false = refl
-
-pub pair_eq_flips : (x y : Pair) → pair_eq x y ≡ pair_eq y x
-pair_eq_flips x y = λ j. nat_eq_flips x.a y.a j && (nat_eq_flips x.b y.b j && beq_flips x.r y.r j)

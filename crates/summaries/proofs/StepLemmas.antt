@@ -1,6 +1,7 @@
 -- What a table holds while it takes a step: nothing more than is reached and sent, and nothing left out.
 use Rattle.std.proofs.Common.{◌≡◌, ◌≤◌, ◌⊎◌, ℕ, List, [], ◌∷◌, ◌++◌, length}
-use Rattle.std.proofs.Common.{inl, inr, refl, sym, ap, subst, nat_eq, arith, Result, Ok, Err, Some, slice_get, map}
+use Rattle.std.proofs.Common.{inl, inr, refl, sym, ap, ◌∙◌, subst, nat_eq, arith, Result, Ok, Err, Option, map}
+use Rattle.std.proofs.lemmas.Option.{none-some}
 use Rattle.std.specs.Result.{OnOk}
 use Rattle.std.specs.Prelude.{Vec}
 use Rattle.language.specs.Sequential.{Caller, caller}
@@ -14,6 +15,8 @@ use Rattle.flow_graph.specs.declared.exit.Exit.{Exit}
 use Rattle.flow_graph.proofs.ReachLemmas.{reaches_more}
 use Rattle.summaries.specs.declared.edge.CallKey.{CallKey}
 use Rattle.summaries.specs.declared.edge.PathEdge.{PathEdge}
+use Rattle.summaries.specs.declared.exits.Place.{Place}
+use Rattle.summaries.specs.declared.pair.Pair.{Pair}
 use Rattle.summaries.specs.declared.found.Found.{Found}
 use Rattle.summaries.specs.declared.outbox.Outbox.{Outbox}
 use Rattle.summaries.specs.declared.outbox.Outgoing.{Outgoing}
@@ -22,7 +25,7 @@ use Rattle.summaries.specs.declared.due.Caller as rust
 use Rattle.summaries.specs.Under.{under}
 use Rattle.summaries.specs.Mails.{AddressedMail, mail}
 use Rattle.summaries.specs.Dues.{caller_of, due_of}
-use Rattle.summaries.specs.Found.{call, call_eq, path_edge, pair, mail_of, calls_in, mails_in, TookMessage, HasSite}
+use Rattle.summaries.specs.Found.{call, call_eq, path_edge, pair, mail_of, calls_in, pairs_in, mails_in, TookMessage, HasSite}
 use Rattle.summaries.specs.Found.{HasExit, HasGiven, IsPlaced, IsIndexed, IsOwed, IsPending, IsGrounded, IsWorked, IsSaturated, IsEmpty}
 use Rattle.summaries.specs.Found.{IsExpanded}
 use Rattle.summaries.specs.Grows.{EntersAt, Grows, triple_of}
@@ -174,21 +177,13 @@ taken_as f g entries summaries (numbered_entry from a) h = subst (Member (caller
 taken_as f g entries summaries (numbered_summary s a b) h = subst (Member b) (sym (summaries (call s a))) h
 
 -- what is kept by place is, with other messages given that have a place
-pub indexed_as : {A : Type 0} (f g : Found A) → calls_in g ≡ calls_in f → g.pairs.keys ≡ f.pairs.keys
-    → ((a : ℕ) → under nat_eq g.exits.by_key a ≡ under nat_eq f.exits.by_key a)
-    → ((x : Outgoing) → Member x g.outbox.sent.items → IsPlaced (calls_in f) f.pairs.keys x) → IsIndexed f → IsIndexed g
-indexed_as f g calls pairs exits placed old = record {
-  placed = λ x m. subst (λ ps. IsPlaced (calls_in g) ps x) (sym pairs)
-      (subst (λ cs. IsPlaced cs f.pairs.keys x) (sym calls) (placed x m));
+pub indexed_as : {A : Type 0} (f g : Found A) → calls_in g ≡ calls_in f → ((at : Place) → pairs_in g at ≡ pairs_in f at)
+    → ((x : Outgoing) → Member x g.outbox.sent.items → IsPlaced (calls_in f) (pairs_in f) x) → IsIndexed f → IsIndexed g
+indexed_as f g calls pairs placed old = record {
+  placed = λ x m. subst (λ (ps : Place → Option Pair). IsPlaced (calls_in g) ps x) (λ i at. sym (pairs at) i)
+      (subst (λ cs. IsPlaced cs (pairs_in f) x) (sym calls) (placed x m));
   calls_once = subst NoneTwice (sym calls) old.calls_once;
-  pairs_once = subst NoneTwice (sym pairs) old.pairs_once;
-  exits_once = λ a. subst NoneTwice (sym (exits a)) (old.exits_once a);
-  exit = λ a at m.
-      let (b, here) = old.exit a at (subst (Member at) (exits a) m) in
-      (b, subst (λ ps. slice_get ps at ≡ Some (pair a b)) (sym pairs) here);
-  listed = λ a b m.
-      let (at, there, here) = old.listed a b (subst (Member (pair a b)) pairs m) in
-      (at, subst (Member at) (sym (exits a)) there, subst (λ ps. slice_get ps at ≡ Some (pair a b)) (sym pairs) here);
+  pairs_once = λ x y p at_x at_y. old.pairs_once x y p (sym (pairs x) ∙ at_x) (sym (pairs y) ∙ at_y);
 }
 
 -- g has other entries, summaries, messages given and edges pending than f
@@ -201,7 +196,6 @@ module _ {A G : Type 0} (graph : Graph G) (q : ℕ) (f : Found A) (entries : Gro
     summaries = summaries;
     sites = f.sites;
     exits = f.exits;
-    pairs = f.pairs;
     outbox = given;
     expanded = f.expanded;
     pending = pending;
@@ -232,7 +226,7 @@ module _ {A G : Type 0} (graph : Graph G) (q : ℕ) (f : Found A) (entries : Gro
         TookMessage f (numbered_entry (caller c) a) ⊎ HasGiven grown_to q c (numbered_summary q a b))
         → (((a : ℕ) → NoneTwice (under nat_eq f.entries.by_key a)) → (a : ℕ) →
         NoneTwice (under nat_eq entries.by_key a))
-        → ((x : Outgoing) → IsIndexed f → Member x given.sent.items → IsPlaced (calls_in f) f.pairs.keys x)
+        → ((x : Outgoing) → IsIndexed f → Member x given.sent.items → IsPlaced (calls_in f) (pairs_in f) x)
         → Step graph q f grown_to es ds
     grown_step grown gives given begun ended tells callers_once placed = record {
       taken = taken;
@@ -254,7 +248,7 @@ module _ {A G : Type 0} (graph : Graph G) (q : ℕ) (f : Found A) (entries : Gro
       tells = λ a b c m took. elim (tells a b c m took) [ inl was ↦ inl (m, was) | inr is ↦ inr is ];
       callers_once = callers_once;
       led = λ x m. inl m;
-      indexed = λ old. indexed_as f grown_to refl refl (λ a. refl) (λ x. placed x old) old;
+      indexed = λ old. indexed_as f grown_to refl (λ at. refl) (λ x. placed x old) old;
     }
 
 -- what follows from two facts if the answer is Ok
@@ -264,15 +258,15 @@ both_ok (Err _) f p q = tt
 
 -- g has pairs, messages given and edges pending as f has
 module _ {A G : Type 0} (graph : Graph G) (q : ℕ) (f g : Found A) (es : List Triple)
-    (paired : g.pairs.keys ≡ f.pairs.keys) (gave : g.outbox.sent.items ≡ f.outbox.sent.items)
+    (paired : (at : Place) → pairs_in g at ≡ pairs_in f at) (gave : g.outbox.sent.items ≡ f.outbox.sent.items)
     (pended : g.pending.items ≡ f.pending.items) where
   -- what is found, with these
   abbrev pub same_to : Found A
-  same_to = record f { pairs = g.pairs; outbox = g.outbox; pending = g.pending }
+  same_to = record f { exits = g.exits; outbox = g.outbox; pending = g.pending; last_exit = g.last_exit }
 
   -- the messages given are the same
   pub same_mails : mails_in q same_to ≡ mails_in q f
-  same_mails = λ i. map (mail_of (calls_in f) (paired i) q) (gave i)
+  same_mails = λ i. map (mail_of (calls_in f) (λ at. paired at i) q) (gave i)
 
   -- nothing changes
   pub same_step : Step graph q f same_to es es
@@ -285,17 +279,17 @@ module _ {A G : Type 0} (graph : Graph G) (q : ℕ) (f g : Found A) (es : List T
     pending = λ e m. inl (subst (Member e) pended m);
     sites = λ s x a n v m. m;
     called = λ s x a n v m. inl m;
-    exits = λ a b m. subst (Member (pair a b)) (sym paired) m;
-    exit = λ a b m. inl (subst (Member (pair a b)) paired m);
+    exits = λ a b m. (m.0, paired m.0 ∙ m.1);
+    exit = λ a b m. inl (m.0, sym (paired m.0) ∙ m.1);
     gives = λ s k m. subst (Member (mail s (due_of k))) (sym same_mails) m;
     given = λ s k m. inl (subst (Member (mail s (due_of k))) same_mails m);
     begun = λ from a h. inl h;
     ended = λ s x b a n v back at enters taken. inl (at, taken);
     asks = λ s x a n v m. inl m;
-    tells = λ a b c m h. inl (subst (Member (pair a b)) paired m, h);
+    tells = λ a b c m h. inl ((m.0, sym (paired m.0) ∙ m.1), h);
     callers_once = λ old. old;
     led = λ x m. inl m;
-    indexed = λ old. indexed_as f same_to refl paired (λ a. refl) (λ x m. old.placed x (subst (Member x) gave m)) old;
+    indexed = λ old. indexed_as f same_to refl paired (λ x m. old.placed x (subst (Member x) gave m)) old;
   }
 
 module _ {A G : Type 0} (graph : Graph G) (q : ℕ) (f : Found A) (es : List Triple) (pending : Vec PathEdge A) (e : PathEdge)
@@ -324,7 +318,7 @@ module _ {A G : Type 0} (graph : Graph G) (q : ℕ) (f : Found A) (es : List Tri
         λ a n v m.
         old.pending a n v (subst (Member (path_edge a n v)) (sym popped) (member_left (path_edge a n v) pending.items (e ∷ []) m));
     callers_once = old.callers_once;
-    indexed = indexed_as f popped_to refl refl (λ a. refl) old.indexed.placed old.indexed;
+    indexed = indexed_as f popped_to refl (λ at. refl) old.indexed.placed old.indexed;
   }
     where
       owed : (s : ℕ) (k : NumberedMessage) → IsOwed f q s k → IsOwed popped_to q s k
@@ -362,23 +356,20 @@ module _ {A G : Type 0} (graph : Graph G) (q : ℕ) (f : Found A) (es : List Tri
   no_site s e x m = subst (Member x) (empty.sites (call s e)) m
 
   no_exit : (a : ℕ) (b : Exit) → HasExit f a b → ⊥
-  no_exit a b m = subst (Member (pair a b)) empty.pairs m
+  no_exit a b m = none-some (pair a b) (sym (empty.pairs m.0) ∙ m.1)
 
   pub no_message : (k : NumberedMessage) → TookMessage f k → ⊥
   no_message (numbered_entry from a) h = subst (Member (caller_of from)) (empty.entries a) h
   no_message (numbered_summary s a b) h = subst (Member b) (empty.summaries (call s a)) h
 
   no_mail : (m : AddressedMail) → Member m (mails_in q f) → ⊥
-  no_mail m there = subst (λ xs. Member m (map (mail_of (calls_in f) f.pairs.keys q) xs)) empty.given there
+  no_mail m there = subst (λ xs. Member m (map (mail_of (calls_in f) (pairs_in f) q) xs)) empty.given there
 
   empty_indexed : IsIndexed f
   empty_indexed = record {
     placed = λ x m. absurd (subst (Member x) empty.given m);
     calls_once = subst NoneTwice (sym empty.calls) tt;
-    pairs_once = subst NoneTwice (sym empty.pairs) tt;
-    exits_once = λ a. subst NoneTwice (sym (empty.exits a)) tt;
-    exit = λ a at m. absurd (subst (Member at) (empty.exits a) m);
-    listed = λ a b m. absurd (no_exit a b m);
+    pairs_once = λ x y p at_x at_y. absurd (none-some p (sym (empty.pairs x) ∙ at_x));
   }
 
   pub empty_grounded : IsGrounded graph q f es

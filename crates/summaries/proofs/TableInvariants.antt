@@ -1,5 +1,5 @@
 -- What a table promises, between its calls.
-use Rattle.std.proofs.Common.{◌≡◌, ℕ, None, List, [], ◌∷◌, ◌++◌, inl, refl, sym, ap, ◌∙◌, subst, take, drop, map}
+use Rattle.std.proofs.Common.{◌≡◌, ℕ, Option, None, List, [], ◌∷◌, ◌++◌, inl, refl, sym, ap, ◌∙◌, subst, take, drop, map}
 use Rattle.std.proofs.lemmas.List.{take-append-drop, take-map, map-append}
 use Rattle.language.specs.Lists.{Member, NoneTwice}
 use Rattle.language.proofs.Members.{member_left, member_right}
@@ -9,11 +9,13 @@ use Rattle.flow_graph.proofs.ReachLemmas.{reaches_more}
 use Rattle.summaries.specs.declared.edge.CallKey.{CallKey}
 use Rattle.summaries.specs.declared.found.Found.{Found}
 use Rattle.summaries.specs.declared.outbox.Outgoing.{Outgoing}
+use Rattle.summaries.specs.declared.exits.Place.{Place}
 use Rattle.summaries.specs.declared.pair.Pair.{Pair}
+use Rattle.summaries.specs.Exits.{ArePairsOnce}
 use Rattle.summaries.specs.declared.table.Table.{Table}
 use Rattle.summaries.specs.Mails.{mail}
 use Rattle.summaries.specs.Dues.{due_of}
-use Rattle.summaries.specs.Found.{mail_of, mails_in, TookMessage, IsPlaced, IsGrounded, IsSaturated}
+use Rattle.summaries.specs.Found.{mail_of, pairs_in, mails_in, TookMessage, IsPlaced, IsGrounded, IsSaturated}
 use Rattle.summaries.specs.Tables as tables
 use Rattle.summaries.specs.Tables.{answers_of, IsReached, IsTable, KeepsTable}
 use Rattle.summaries.proofs.Mails.{next_new}
@@ -22,7 +24,7 @@ use Rattle.summaries.proofs.Quiet.{is_exact, is_left}
 use Rattle.summaries.proofs.StepLemmas.{same_to, same_step, still_holds}
 
 module _ {G A S : Type 0} (members : S → List Triple) (t : Table G A S) (g : Found A)
-    (paired : g.pairs.keys ≡ t.found.pairs.keys) (gave : g.outbox.sent.items ≡ t.found.outbox.sent.items)
+    (paired : (at : Place) → pairs_in g at ≡ pairs_in t.found at) (gave : g.outbox.sent.items ≡ t.found.outbox.sent.items)
     (pended : g.pending.items ≡ t.found.pending.items) where
   abbrev there : Found A
   there = same_to t.graph.now t.procedure t.found g (members t.edges) paired gave pended
@@ -51,7 +53,7 @@ module _ {G A S : Type 0} (members : S → List Triple) (t : Table G A S) (g : F
   }
 
 module _ {G A S : Type 0} (members : S → List Triple) (t : Table G A S) (g : Found A)
-    (paired : g.pairs.keys ≡ t.found.pairs.keys) (gave : g.outbox.sent.items ≡ t.found.outbox.sent.items)
+    (paired : (at : Place) → pairs_in g at ≡ pairs_in t.found at) (gave : g.outbox.sent.items ≡ t.found.outbox.sent.items)
     (pended : g.pending.items ≡ t.found.pending.items) where
   -- and keeps what it has taken
   pub same_keeps : IsTable members t → t.fault ≡ None →
@@ -71,7 +73,7 @@ module _ {G A S : Type 0} (members : S → List Triple) (t : Table G A S) (g : F
   }
 
 -- the message that is answered next comes after those answered, and is not one of them
-module _ (q : ℕ) (cs : List CallKey) (ps : List Pair) (xs : List Outgoing) (n m : ℕ) (x : Outgoing)
+module _ (q : ℕ) (cs : List CallKey) (ps : Place → Option Pair) (xs : List Outgoing) (n m : ℕ) (x : Outgoing)
     (next : take m xs ≡ take n xs ++ x ∷ []) where
   pub next_behind : take m (map (mail_of cs ps q) xs) ≡ take n (map (mail_of cs ps q) xs) ++ mail_of cs ps q x ∷ []
   next_behind =
@@ -84,7 +86,7 @@ module _ (q : ℕ) (cs : List CallKey) (ps : List Pair) (xs : List Outgoing) (n 
       subst (Member x) (take-append-drop m xs)
       (member_left x (take m xs) (drop m xs) (subst (Member x) (sym next) (member_right x (take n xs) (x ∷ []) (inl refl))))
 
-  pub next_once : NoneTwice cs → NoneTwice ps → ((y : Outgoing) → Member y xs → IsPlaced cs ps y) → NoneTwice xs
+  pub next_once : NoneTwice cs → ArePairsOnce ps → ((y : Outgoing) → Member y xs → IsPlaced cs ps y) → NoneTwice xs
       → Member (mail_of cs ps q x) (take n (map (mail_of cs ps q) xs)) → ⊥
   next_once calls pairs placed once =
       next_new (map (mail_of cs ps q) xs) n m (mail_of cs ps q x) next_behind (mails_once q cs ps calls pairs xs placed once)

@@ -14,7 +14,7 @@ use Rattle.summaries.specs.declared.table.Table.{Table}
 use Rattle.summaries.specs.declared.table_fault.TableFault.TheVariants.{EdgeLimit}
 use Rattle.summaries.specs.Mails.{AddressedMail, mail}
 use Rattle.summaries.specs.Dues.{due_of}
-use Rattle.summaries.specs.Found.{calls_in, mails_in, TookMessage}
+use Rattle.summaries.specs.Found.{calls_in, pairs_in, mails_in, TookMessage}
 use Rattle.summaries.specs.Tables.{answers_of, IsReached, IsAnswer, IsTable}
 use Rattle.summaries.specs.Tabulated.{HasMoreEdges}
 use Rattle.summaries.specs.Together.{IsTableOf}
@@ -29,7 +29,7 @@ pub answers_once : {G A S : Type 0} (members : S → List Triple) (t : Table G A
 answers_once members t is whole =
     let kept = (is.holds whole).0.indexed in
     none_twice_first t.found.outbox.answered (mails_in t.procedure t.found)
-    (mails_once t.procedure (calls_in t.found) t.found.pairs.keys kept.calls_once kept.pairs_once t.found.outbox.sent.items kept.placed
+    (mails_once t.procedure (calls_in t.found) (pairs_in t.found) kept.calls_once kept.pairs_once t.found.outbox.sent.items kept.placed
     t.found.outbox.once)
 
 module _ {G A S : Type 0} (members : S → List Triple) (p : Program) (q : ℕ) (t : Table G A S) (is : IsTableOf members p q t) where

@@ -22,7 +22,7 @@ use Rattle.summaries.specs.declared.table.Table.{Table}
 use Rattle.summaries.specs.Under.{under}
 use Rattle.summaries.specs.Mails.{mail}
 use Rattle.summaries.specs.Dues.{caller_of, due_of}
-use Rattle.summaries.specs.Found.{pair, TookMessage}
+use Rattle.summaries.specs.Found.{pair, HasExit, TookMessage}
 use Rattle.summaries.specs.Tables.{graph_of, IsQuiet}
 use Rattle.summaries.specs.Effects.{Effect}
 use Rattle.summaries.specs.Tabulated.{IsSummary, HasMoreEdges}
@@ -108,7 +108,7 @@ module _ {G A S : Type 0} (members : S → List Triple) (p : Program) (ts : List
           (entries_taken p (map graph_of ts) T are.drawn.0 are.drawn.2 started sent_taken is_due q a)
 
       -- the pairs that it keeps are those of its procedure
-      pub table_pairs : (a : ℕ) (b : Exit) → Member (pair a b) t.found.pairs.keys ↔ AreNumbersOfPair p q a b
+      pub table_pairs : (a : ℕ) (b : Exit) → HasExit t.found a b ↔ AreNumbersOfPair p q a b
       table_pairs a b =
           let pairs : Leaves t.graph.now (TookMessage t.found) a b ↔ AreNumbersOfPair p q a b =
           subst (λ (o : Option (Table G A S)). Leaves t.graph.now (IsTaken o) a b ↔ AreNumbersOfPair p q a b) is
@@ -141,7 +141,7 @@ module _ {G A S : Type 0} (members : S → List Triple) (p : Program) (ts : List
 
     -- some pair is bad if some pair that the first table keeps has the bit
     pub table_bad : (t : Table G A S) → slice_get ts 0 ≡ Some t → (bad : ℕ)
-        → SomeBad p bad ↔ ((a : ℕ) × (b : Exit) × Member (pair a b) t.found.pairs.keys × (bit_of b.globals bad ≡ true))
+        → SomeBad p bad ↔ ((a : ℕ) × (b : Exit) × HasExit t.found a b × (bit_of b.globals bad ≡ true))
     table_bad t is bad =
         let bits =
         bad_left p (map graph_of ts) T are.drawn.0 are.drawn.2 (opening t is) sent_taken is_due are.drawn.1 t.graph.now

@@ -1,9 +1,8 @@
 -- How messages come to be given, one by one.
 use Rattle.std.proofs.Common.{◌≡◌, ◌<◌, ◌+◌, ℕ, false, List, [], ◌∷◌, ◌++◌, ◌⊎◌, Some, take, length, get_or}
-use Rattle.std.proofs.Common.{slice_get}
+use Rattle.std.proofs.Common.{Option, unwrap_or}
 use Rattle.std.proofs.Common.{inl, inr, refl, sym, subst, ap, ◌∙◌, arith}
 use Rattle.std.proofs.lemmas.List.{append-nil, append_assoc, length-map, take_more}
-use Rattle.std.proofs.lemmas.Option.{get_or_from_slice_get}
 use Rattle.std.proofs.Math.Seq.{take-length}
 use Rattle.language.specs.Lists.{Member, NoneTwice}
 use Rattle.language.proofs.Members.{member_left, member_right}
@@ -13,10 +12,12 @@ use Rattle.summaries.specs.declared.due.Caller.TheVariants.{Proc}
 use Rattle.summaries.specs.declared.edge.CallKey.{CallKey}
 use Rattle.summaries.specs.declared.outbox.Outgoing.{Outgoing}
 use Rattle.summaries.specs.declared.outbox.Outgoing.TheVariants.{EntryFor, SummaryFor}
+use Rattle.summaries.specs.declared.exits.Place.{Place}
 use Rattle.summaries.specs.declared.pair.Pair.{Pair}
+use Rattle.summaries.specs.Exits.{place}
 use Rattle.summaries.specs.Mails.{AddressedMail, mail, summary_due}
 use Rattle.summaries.specs.declared.found.Found.{Found}
-use Rattle.summaries.specs.Found.{pair, left, summary_mail, mail_of, calls_in, mails_in, answers_in}
+use Rattle.summaries.specs.Found.{pair, left, summary_mail, mail_of, calls_in, pairs_in, mails_in, answers_in}
 use Rattle.summaries.specs.Grows.{AddsTo, OfSome, IsTold, IsSummaryTold}
 use Rattle.summaries.proofs.Eaches.{each_at, each_left, each_last, each_or_last}
 use Rattle.summaries.proofs.Mails.{next_new, answers_still}
@@ -96,36 +97,36 @@ module _ {X T : Type 0} (W : X → T → Type 0) (xs : List X) (i : ℕ) (old mi
   pub gives_all : i ≡ length xs → AddsTo (OfSome W xs) old mid
   gives_all end = subst (λ l. AddsTo (OfSome W l) old mid) (ap (λ n. take n xs) end ∙ take-length xs) first
 
--- the caller that a message is told to, and the place of the pair
+-- the caller that a message is told to, and the place of the pair told
 to_in : Outgoing → ℕ
 to_in (EntryFor call) = 0
-to_in (SummaryFor to pair) = to
+to_in (SummaryFor to at) = to
 
-pair_in : Outgoing → ℕ
-pair_in (EntryFor call) = 0
-pair_in (SummaryFor to pair) = pair
+place_in : Outgoing → Place
+place_in (EntryFor call) = place 0 0
+place_in (SummaryFor to at) = at
 
 -- a summary is told to no two callers
-pub one_caller : (pair : ℕ) (y z : Caller) (x : Outgoing) → IsTold pair y x → IsTold pair z x → y ≡ z
+pub one_caller : (at : Place) (y z : Caller) (x : Outgoing) → IsTold at y x → IsTold at z x → y ≡ z
 unfolding to_in
-one_caller pair y z x (c, is_c, by_c) (d, is_d, by_d) = is_c ∙ ap (λ m. Proc (to_in m)) (sym by_c ∙ by_d) ∙ sym is_d
+one_caller at y z x (c, is_c, by_c) (d, is_d, by_d) = is_c ∙ ap (λ m. Proc (to_in m)) (sym by_c ∙ by_d) ∙ sym is_d
 
 -- and is one pair's
-pub one_pair : (from : Caller) (y z : ℕ) (x : Outgoing) → IsTold y from x → IsTold z from x → y ≡ z
-unfolding pair_in
-one_pair from y z x (c, is_c, by_c) (d, is_d, by_d) = ap pair_in (sym by_c ∙ by_d)
+pub one_pair : (from : Caller) (y z : Place) (x : Outgoing) → IsTold y from x → IsTold z from x → y ≡ z
+unfolding place_in
+one_pair from y z x (c, is_c, by_c) (d, is_d, by_d) = ap place_in (sym by_c ∙ by_d)
 
 -- with more messages appended, those that were answered are the same
 pub answers_kept : {A : Type 0} (q : ℕ) (f g : Found A) (W : AddressedMail → Type 0) → g.outbox.answered ≡ f.outbox.answered
     → AddsTo W (mails_in q f) (mails_in q g) → answers_in q g ≡ answers_in q f
 answers_kept q f g W same gave =
-    let long = length-map f.outbox.sent.items (mail_of (calls_in f) f.pairs.keys q) in
+    let long = length-map f.outbox.sent.items (mail_of (calls_in f) (pairs_in f) q) in
     let within = f.outbox.within in
     answers_still (mails_in q f) (mails_in q g) f.outbox.answered g.outbox.answered (omega (arith, long, within)) same gave.behind
 
-module _ (q : ℕ) (cs : List CallKey) (ps : List Pair) (a : ℕ) (b : Exit) (at : ℕ) (here : slice_get ps at ≡ Some (pair a b)) where
+module _ (q : ℕ) (cs : List CallKey) (ps : Place → Option Pair) (a : ℕ) (b : Exit) (at : Place) (here : ps at ≡ Some (pair a b)) where
   told_of : (c : ℕ) → mail_of cs ps q (SummaryFor c at) ≡ mail c (summary_due q a b)
-  told_of c = ap (summary_mail q c) (get_or_from_slice_get ps at (pair a b) (pair 0 (left 0 false)) here)
+  told_of c = ap (λ p. summary_mail q c (unwrap_or p (pair 0 (left 0 false)))) here
 
   -- what is told of the pair at a place is its summary
   pub told_mail : (from : Caller) (x : Outgoing) → IsTold at from x → IsSummaryTold q a b from (mail_of cs ps q x)

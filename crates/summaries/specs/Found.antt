@@ -1,8 +1,7 @@
 -- What a table holds is reached and sent, and nothing that is reached or sent is missing, except what pending
 -- edges still lead to.
-use Rattle.std.specs.Bool.{beq}
 use Rattle.std.specs.Prelude.{◌≡◌, ◌≤◌, ◌<◌, ◌⊎◌, ◌↔◌, ◌&&◌, ℕ, Bool, false, List, [], Some, nat_eq}
-use Rattle.std.specs.Prelude.{slice_get, take}
+use Rattle.std.specs.Prelude.{Option, None, unwrap_or, slice_get, take}
 use Rattle.std.specs.Prelude.{get_or, length, map}
 use Rattle.indexmap.specs.IndexMap.{keys}
 use Rattle.language.specs.Sequential.{Caller, caller}
@@ -24,7 +23,10 @@ use Rattle.summaries.specs.declared.found.Found.{Found}
 use Rattle.summaries.specs.declared.outbox.Outgoing.{Outgoing}
 use Rattle.summaries.specs.declared.outbox.Outgoing.TheVariants.{EntryFor, SummaryFor}
 use Rattle.summaries.specs.declared.due.Caller.TheVariants.{Proc}
+use Rattle.summaries.specs.declared.exits.Place.{Place}
 use Rattle.summaries.specs.Under.{under}
+pub use Rattle.summaries.specs.Exits.{pair}
+use Rattle.summaries.specs.Exits.{pair_at, ArePairsOnce}
 use Rattle.summaries.specs.Mails.{AddressedMail, mail, summary_due}
 use Rattle.summaries.specs.Dues.{due_of}
 use Rattle.summaries.specs.Grows.{EntersAt}
@@ -33,10 +35,6 @@ use Rattle.summaries.specs.Grows.{EntersAt}
 abbrev pub call_eq : CallKey → CallKey → Bool
 call_eq x y = nat_eq x.callee y.callee && nat_eq x.entered y.entered
 
--- whether two pairs are the same
-abbrev pub pair_eq : Pair → Pair → Bool
-pair_eq x y = nat_eq x.a y.a && (nat_eq x.b y.b && beq x.r y.r)
-
 -- the path edge of these three; a call stands at one, its site
 abbrev pub path_edge : ℕ → ℕ → ℕ → PathEdge
 path_edge entry point values = record { entry = entry; point = point; values = values }
@@ -44,10 +42,6 @@ path_edge entry point values = record { entry = entry; point = point; values = v
 -- the call of this procedure with this entry valuation
 abbrev pub call : ℕ → ℕ → CallKey
 call callee entered = record { callee = callee; entered = entered }
-
--- this is left if the entry valuation was this
-abbrev pub pair : ℕ → Exit → Pair
-pair entry exit = record { a = entry; b = exit.globals; r = exit.result }
 
 -- what is left: these globals, and this result
 abbrev pub left : ℕ → Bool → Exit
@@ -61,25 +55,29 @@ entry_mail procedure entered = mail entered.callee (Entry (Proc procedure) enter
 abbrev pub summary_mail : ℕ → ℕ → Pair → AddressedMail
 summary_mail procedure to found = mail to (summary_due procedure found.a (left found.b found.r))
 
-module _ (calls : List CallKey) (pairs : List Pair) where
+module _ (calls : List CallKey) (pairs : Place → Option Pair) where
   -- the message that a procedure of these calls and pairs has given by this
   abbrev pub mail_of : ℕ → Outgoing → AddressedMail
   mail_of procedure (EntryFor at) = entry_mail procedure (get_or calls at (call 0 0))
-  mail_of procedure (SummaryFor to at) = summary_mail procedure to (get_or pairs at (pair 0 (left 0 false)))
+  mail_of procedure (SummaryFor to at) = summary_mail procedure to (unwrap_or (pairs at) (pair 0 (left 0 false)))
 
   -- what the message tells of is at its place
   abbrev pub IsPlaced : Outgoing → Type 0
   IsPlaced (EntryFor at) = at < length calls
-  IsPlaced (SummaryFor to at) = at < length pairs
+  IsPlaced (SummaryFor to at) = (told : Pair) × (pairs at ≡ Some told)
 
 module _ {Alloc : Type 0} where
   -- the calls that stand at sites, each once, in the order in which they came
   abbrev pub calls_in : Found Alloc → List CallKey
   calls_in found = keys found.sites.by_key
 
+  -- the pair at a place, if any
+  abbrev pub pairs_in : Found Alloc → Place → Option Pair
+  pairs_in found = pair_at found.exits
+
   -- the messages that the procedure has given, in order
   abbrev pub mails_in : ℕ → Found Alloc → List AddressedMail
-  mails_in procedure found = map (mail_of (calls_in found) found.pairs.keys procedure) found.outbox.sent.items
+  mails_in procedure found = map (mail_of (calls_in found) (pairs_in found) procedure) found.outbox.sent.items
 
   -- those that are answered
   abbrev pub answers_in : ℕ → Found Alloc → List AddressedMail
@@ -102,7 +100,7 @@ module _ {Alloc : Type 0} (found : Found Alloc) where
 
   -- this is left if the entry valuation was this
   abbrev pub HasExit : ℕ → Exit → Type 0
-  HasExit entry exit = Member (pair entry exit) found.pairs.keys
+  HasExit entry exit = (at : Place) × (pairs_in found at ≡ Some (pair entry exit))
 
   -- the message of these numbers was given by a procedure to another
   abbrev pub HasGiven : ℕ → ℕ → NumberedMessage → Type 0
@@ -119,17 +117,11 @@ module _ {Alloc : Type 0} (found : Found Alloc) where
   abbrev pub IsPending : ℕ → ℕ → ℕ → Type 0
   IsPending entry point values = Member (path_edge entry point values) found.pending.items
 
-  -- What is kept by place: each message given has one; no call and no pair has two; an entry's exits are the places of
-  -- its pairs, each once.
+  -- What is kept by place: each message given has one; no call and no pair has two.
   pub record IsIndexed : Type 0 where
-    pub placed : (item : Outgoing) → Member item found.outbox.sent.items → IsPlaced (calls_in found) found.pairs.keys item
+    pub placed : (item : Outgoing) → Member item found.outbox.sent.items → IsPlaced (calls_in found) (pairs_in found) item
     pub calls_once : NoneTwice (calls_in found)
-    pub pairs_once : NoneTwice found.pairs.keys
-    pub exits_once : (own : ℕ) → NoneTwice (under nat_eq found.exits.by_key own)
-    pub exit : (own at : ℕ) → Member at (under nat_eq found.exits.by_key own)
-        → (b : Exit) × (slice_get found.pairs.keys at ≡ Some (pair own b))
-    pub listed : (own : ℕ) (b : Exit) → HasExit own b
-        → (at : ℕ) × Member at (under nat_eq found.exits.by_key own) × (slice_get found.pairs.keys at ≡ Some (pair own b))
+    pub pairs_once : ArePairsOnce (pairs_in found)
 
 -- from some valuation that choice 0 leads to this one each choice leads to an edge
 abbrev pub IsExpanded : {GraphAlloc : Type 0} → Graph GraphAlloc → List Triple → PathEdge → Type 0
@@ -198,8 +190,7 @@ pub record IsEmpty {Alloc : Type 0} (found : Found Alloc) : Type 0 where
   pub summaries : (called : CallKey) → under call_eq found.summaries.by_key called ≡ []
   pub sites : (called : CallKey) → under call_eq found.sites.by_key called ≡ []
   pub calls : calls_in found ≡ []
-  pub exits : (own : ℕ) → under nat_eq found.exits.by_key own ≡ []
-  pub pairs : found.pairs.keys ≡ []
+  pub pairs : (at : Place) → pairs_in found at ≡ None
   pub given : found.outbox.sent.items ≡ []
   pub led : found.expanded.keys ≡ []
   pub pending : found.pending.items ≡ []

@@ -14,12 +14,14 @@ use Rattle.flow_graph.specs.declared.exit.Exit.{Exit}
 use Rattle.summaries.specs.declared.due.Caller.{Caller}
 use Rattle.summaries.specs.declared.due.Caller.TheVariants.{Proc}
 use Rattle.summaries.specs.declared.edge.PathEdge.{PathEdge}
+use Rattle.summaries.specs.declared.exits.Place.{Place}
 use Rattle.summaries.specs.declared.outbox.Outbox.{Outbox}
 use Rattle.summaries.specs.declared.outbox.Outgoing.{Outgoing}
 use Rattle.summaries.specs.declared.outbox.Outgoing.TheVariants.{SummaryFor}
 use Rattle.summaries.specs.declared.table_fault.TableFault.{TableFault}
 use Rattle.summaries.specs.declared.table_fault.TableFault.TheVariants.{EdgeLimit}
 use Rattle.summaries.specs.Mails.{AddressedMail, mail, summary_due}
+use Rattle.summaries.specs.Exits.{place}
 
 -- the path edge as a triple
 abbrev pub triple_of : PathEdge → Triple
@@ -106,8 +108,12 @@ pub record AddsTo {Item : Type 0} (W : Item → Type 0) (old new : List Item) : 
   pub behind : (more : List Item) × (new ≡ old ++ more)
 
 -- What is given is the summary of the pair at this place for this caller, which is not the starter.
-abbrev pub IsTold : ℕ → Caller → Outgoing → Type 0
-IsTold pair from sent = (caller : ℕ) × (from ≡ Proc caller) × (sent ≡ SummaryFor caller pair)
+abbrev pub IsTold : Place → Caller → Outgoing → Type 0
+IsTold at from sent = (caller : ℕ) × (from ≡ Proc caller) × (sent ≡ SummaryFor caller at)
+
+-- What is given is the summary of one of the first `count` pairs of the entry at this index for this caller.
+abbrev pub IsToldOf : ℕ → ℕ → Caller → Outgoing → Type 0
+IsToldOf entry count from sent = (exit : ℕ) × (exit < count) × IsTold (place entry exit) from sent
 
 -- A message is the summary of the procedure for this caller, which is not the starter.
 abbrev pub IsSummaryTold : ℕ → ℕ → Exit → Caller → AddressedMail → Type 0

@@ -19,7 +19,7 @@ use Rattle.summaries.specs.declared.table_fault.TableFault.TheVariants.{EdgeLimi
 use Rattle.summaries.specs.Grows.{Adds, AddsOnly, IsFoundBy, IsNext, beside}
 use Rattle.summaries.specs.Mails.{AddressedMail, mail}
 use Rattle.summaries.specs.Dues.{due_of}
-use Rattle.summaries.specs.Found.{pair, answers_in, TookMessage, HasSite, HasExit, IsGrounded, IsSaturated}
+use Rattle.summaries.specs.Found.{answers_in, TookMessage, HasSite, HasExit, IsGrounded, IsSaturated}
 use Rattle.path_sets.specs.EdgeLimits.{most_of}
 
 module _ {GraphAlloc Alloc Edges : Type 0} where
@@ -219,4 +219,4 @@ module _ {GraphAlloc Alloc Edges : Type 0} (members : Edges → List Triple) whe
         Sends table.graph.now table.procedure (TookMessage table.found) other message
         ↔ Member (mail other (due_of message)) (answers_of table)
     pub leaves : (own : ℕ) (exit : Exit)
-        → Member (pair own exit) table.found.pairs.keys ↔ Leaves table.graph.now (TookMessage table.found) own exit
+        → HasExit table.found own exit ↔ Leaves table.graph.now (TookMessage table.found) own exit

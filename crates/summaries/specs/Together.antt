@@ -11,12 +11,13 @@ use Rattle.summaries.specs.declared.due.Caller.{Caller}
 use Rattle.summaries.specs.declared.due.Caller.TheVariants.{Starter}
 use Rattle.summaries.specs.declared.due.Due.TheVariants.{Entry}
 use Rattle.summaries.specs.declared.found.Found.{Found}
+use Rattle.summaries.specs.declared.exits.Place.{Place}
 use Rattle.summaries.specs.declared.pair.Pair.{Pair}
 use Rattle.summaries.specs.declared.table.Table.{Table}
 use Rattle.summaries.specs.Under.{under}
 use Rattle.summaries.specs.Mails.{AddressedMail, mail}
 use Rattle.summaries.specs.Dues.{due_of}
-use Rattle.summaries.specs.Found.{TookMessage}
+use Rattle.summaries.specs.Found.{pairs_in, TookMessage}
 use Rattle.summaries.specs.Tables.{graph_of, procedure_of, limit_of, failure, answers_of, IsTable, IsNew, IsQuiet}
 use Rattle.summaries.specs.Effects.{Effect}
 use Rattle.summaries.specs.Tabulated.{IsAscending, ArePairsAscending}
@@ -44,7 +45,7 @@ pub record IsReadOff {Alloc : Type 0} (found : Found Alloc) (summary : Effect) :
   pub ascend : IsAscending summary.entries
   pub entries : (own : ℕ) → Member own summary.entries ↔ ((from : Caller) × Member from (under nat_eq found.entries.by_key own))
   pub pairs_ascend : ArePairsAscending summary.pairs
-  pub pairs : (item : Pair) → Member item summary.pairs ↔ Member item found.pairs.keys
+  pub pairs : (item : Pair) → Member item summary.pairs ↔ ((at : Place) × (pairs_in found at ≡ Some item))
 
 module _ {GraphAlloc Alloc Edges : Type 0} where
   -- The summaries are those of the tables, one for each, in their order.

@@ -4,11 +4,11 @@ ghost use Rattle.std.specs.Prelude.{◌≡◌};
 
 use crate::due::{Caller, Due};
 use crate::edge::PathEdge;
+use crate::exits::Exits;
 use crate::groups::Groups;
 use crate::kept_call::KeptCall;
 use crate::kept_edge::KeptEdge;
 use crate::kept_exit::KeptExit;
-use crate::kept_pair::KeptPair;
 use crate::outbox::{Outbox, Outgoing};
 use indexmap::IndexSet;
 use language::Word;
@@ -24,10 +24,8 @@ pub(crate) struct Found<A: Allocator> {
     pub(crate) summaries: Groups<KeptCall, KeptExit, A>,
     /// Where calls stand, by call.
     pub(crate) sites: Groups<KeptCall, KeptEdge, A>,
-    /// The pairs of the procedure.
-    pub(crate) pairs: IndexSet<KeptPair, BuildHasherDefault<FoldHasher>, A>,
-    /// The places of the pairs, by the valuation on entry.
-    pub(crate) exits: Groups<Word, u32, A>,
+    /// The pairs of the procedure: what is left, by the valuation on entry.
+    pub(crate) exits: Exits<A>,
     /// The messages given.
     pub(crate) outbox: Outbox<A>,
     /// The edges with many choices that were expanded, so that all of these have led on, each by where choice 0 led:
@@ -43,7 +41,7 @@ pub(crate) struct Found<A: Allocator> {
 
 impl<A: Allocator + Copy> Found<A> {
     ghost use Rattle.summaries.specs.Mails.{mail};
-    ghost use Rattle.summaries.specs.Found.{calls_in, mail_of, IsPlaced, IsEmpty};
+    ghost use Rattle.summaries.specs.Found.{calls_in, pairs_in, mail_of, IsPlaced, IsEmpty};
 
     /// Nothing is found; this takes no memory yet.
     pub(crate) fn new(alloc: A) -> Self
@@ -53,8 +51,7 @@ impl<A: Allocator + Copy> Found<A> {
             entries: Groups::new(alloc),
             summaries: Groups::new(alloc),
             sites: Groups::new(alloc),
-            pairs: IndexSet::new(alloc),
-            exits: Groups::new(alloc),
+            exits: Exits::new(alloc),
             outbox: Outbox::new(alloc),
             expanded: IndexSet::new(alloc),
             pending: Vec::new(alloc),
@@ -65,9 +62,9 @@ impl<A: Allocator + Copy> Found<A> {
 
     /// A message given, by the number of the table's procedure, and the procedure that it goes to.
     pub(crate) fn mail(&self, procedure: u8, message: Outgoing) -> (u8, Due)
-        requires { IsPlaced (calls_in self.now) self.now.pairs.keys message }
+        requires { IsPlaced (calls_in self.now) (pairs_in self.now) message }
         ensures { mail result.0 result.1
-            ≡ mail_of (calls_in self.now) self.now.pairs.keys procedure message }
+            ≡ mail_of (calls_in self.now) (pairs_in self.now) procedure message }
     {
         match message {
             Outgoing::EntryFor { call } => {
@@ -79,8 +76,8 @@ impl<A: Allocator + Copy> Found<A> {
                 };
                 (call.callee, due)
             }
-            Outgoing::SummaryFor { to, pair } => {
-                let pair = self.pairs.as_slice()[pair as usize].pair();
+            Outgoing::SummaryFor { to, at } => {
+                let pair = self.exits.pair(at);
                 let due = Due::Summary {
                     p: procedure,
                     r: pair.r,

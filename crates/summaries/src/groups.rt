@@ -82,17 +82,6 @@ impl<K: Eq + Hash + Copy, V: Copy, A: Allocator + Copy> Groups<K, V, A> {
         }
     }
 
-    /// Whether a key is the one at an index.
-    #[inline(always)]
-    fn is_at(&self, at: usize, key: K) -> bool
-        ensures { IsTrue result ↔ IsKeyAt K.eq (keys self.now.by_key) key at }
-    {
-        match self.by_key.get_index(at) {
-            Some((known, _)) => key == *known,
-            None => false,
-        }
-    }
-
     /// The values of a key. The key at the index `last` is tried first, and `last` becomes the index of this one.
     #[inline(always)]
     pub(crate) fn of_near(&self, key: K, last: &mut usize) -> &[V]
@@ -111,28 +100,5 @@ impl<K: Eq + Hash + Copy, V: Copy, A: Allocator + Copy> Groups<K, V, A> {
             }
             None => &[],
         }
-    }
-
-    /// Adds a value to those of a key. The key at the index `last` is tried first, and `last` becomes the index of this
-    /// one. If memory is refused, each key has the values that it had.
-    #[inline(always)]
-    pub(crate) fn add_near(&mut self, key: K, value: V, last: &mut usize) -> Result<(), AllocError>
-        requires { FitsInMemory V.row }
-        ensures keys { OnOk result
-            (keys self.new.by_key ≡ insert_key K.eq (keys self.old.by_key) key) }
-        ensures added { OnOk result
-            (under K.eq self.new.by_key key ≡ under K.eq self.old.by_key key ++ value ∷ []) }
-        ensures others { OnOk result (OthersStay K.eq key self.old.by_key self.new.by_key) }
-        ensures err { OnErr result (AllStay K.eq self.old.by_key self.new.by_key) }
-    {
-        if !self.is_at(*last, key) {
-            *last = self.add(key, value)?.at;
-            return Ok(());
-        }
-        let alloc = *self.by_key.allocator();
-        if let Some(values) = self.by_key.get_index_mut(*last) {
-            values.add(alloc, value)?;
-        }
-        Ok(())
     }
 }

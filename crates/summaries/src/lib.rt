@@ -4,6 +4,7 @@
 
 mod due;
 mod edge;
+mod exits;
 mod expanding;
 mod fitting;
 mod found;
@@ -12,7 +13,6 @@ mod groups;
 mod kept_call;
 mod kept_edge;
 mod kept_exit;
-mod kept_pair;
 mod laws;
 mod no_verdict;
 mod outbox;

@@ -5,6 +5,7 @@ ghost use Rattle.std.specs.Prelude.{IfSome, IfNone};
 ghost use Rattle.std.specs.Bool.{OnTrue, OnFalse};
 ghost use Rattle.language.specs.Lists.{Member, NoneTwice, NoneTwice-prop};
 
+use crate::exits::Place;
 use std::alloc::{AllocError, Allocator};
 
 /// A message sent, by the indexes of what its table holds.
@@ -12,8 +13,8 @@ use std::alloc::{AllocError, Allocator};
 pub(crate) enum Outgoing {
     /// The entry of a call that stands at a site: the index of the call.
     EntryFor { call: u32 },
-    /// The summary of a pair, for a caller: the index of the pair.
-    SummaryFor { to: u8, pair: u32 },
+    /// The summary of a pair, for a caller: the place of the pair.
+    SummaryFor { to: u8, at: Place },
 }
 
 /// The messages sent, each once, in order; the first of them are answered.

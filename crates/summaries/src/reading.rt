@@ -1,27 +1,29 @@
 //! What tables found, as summaries.
 
-ghost use Rattle.std.specs.Prelude.{◌↔◌, ◌++◌, ℕ, OnOk, IfOk, IsTrue, nat_eq};
+ghost use Rattle.std.specs.Prelude.{◌≡◌, ◌↔◌, ◌++◌, ℕ, map, Some, OnOk, IfOk, IsTrue, nat_eq};
 ghost use Rattle.std.specs.List.Sorted.{IsPermutation};
 ghost use Rattle.language.specs.Lists.{Member};
 ghost use Rattle.summaries.specs.declared.due.Caller.{Caller};
 ghost use Rattle.summaries.specs.declared.pair.Pair.{Pair};
 ghost use Rattle.summaries.specs.Under.{under};
-ghost use Rattle.summaries.specs.Readings.{items_at, pairs_of};
+ghost use Rattle.indexmap.specs.IndexMap.{keys, IsUnique};
+ghost use Rattle.summaries.specs.declared.exits.Place.{Place};
+ghost use Rattle.summaries.specs.Exits.{pair, pair_at};
+ghost use Rattle.summaries.specs.Readings.{pairs_of};
 ghost use Rattle.summaries.specs.Tabulated.{IsAscending, ArePairsAscending};
 ghost use Rattle.summaries.specs.Together.{AreReadOff, IsReadOff};
 
 use crate::due;
+use crate::exits::Exits;
 use crate::found::Found;
 use crate::groups::Groups;
-use crate::kept_pair::KeptPair;
+use crate::kept_exit::KeptExit;
 use crate::pair::Pair;
 use crate::summaries::Summary;
 use crate::table::Table;
-use indexmap::IndexSet;
 use language::Word;
 use path_sets::PathSet;
 use std::alloc::{AllocError, Allocator};
-use std::hash::{BuildHasherDefault, FoldHasher};
 
 /// The valuations with which a procedure is entered, ascending.
 fn entries<A: Allocator + Copy>(
@@ -43,36 +45,52 @@ fn entries<A: Allocator + Copy>(
     Ok(entries)
 }
 
-/// Adds the pairs at some places, in their order among themselves.
-fn add_pairs_at<A: Allocator>(
+/// Adds the pairs of an entry, in their order among themselves.
+fn add_pairs_of<A: Allocator>(
     pairs: &mut Vec<Pair, A>,
-    found: &IndexSet<KeptPair, BuildHasherDefault<FoldHasher>, A>,
-    places: &[u32],
+    entry: Word,
+    exits: &[KeptExit],
 ) -> Result<(), AllocError>
-    ensures { OnOk result (IsPermutation
-        (pairs.old.items ++ items_at found.now.keys places.now) pairs.new.items) }
+    ensures { OnOk result (IsPermutation (pairs.old.items ++ map (pair entry) exits.now) pairs.new.items) }
 {
     let first = pairs.len();
-    for place in places {
-        if let Some(kept) = found.get_index(*place as usize) {
-            pairs.push(kept.pair())?;
-        }
+    for kept in exits {
+        let left = kept.exit();
+        pairs.push(Pair {
+            a: entry,
+            b: left.globals,
+            r: left.result,
+        })?;
     }
     pairs[first..].sort_unstable();
     Ok(())
 }
 
+/// The entries that are known to have exits, ascending.
+fn entries_left<A: Allocator + Copy>(alloc: A, exits: &Exits<A>) -> Result<Vec<Word, A>, AllocError>
+    ensures entries { IfOk result (λ v. (a : ℕ) → Member a v.items ↔ Member a (keys exits.now.by_entry)) }
+    ensures once { OnOk result (IsUnique nat_eq exits.now.by_entry) }
+{
+    let mut entries = Vec::with_capacity(alloc, exits.by_entry.len())?;
+    let keys = exits.by_entry.keys();
+    for entry in keys.as_slice() {
+        entries.push(*entry)?;
+    }
+    entries.sort_unstable();
+    Ok(entries)
+}
+
 /// The pairs of these entries, entry by entry.
 fn pairs_by_entry<A: Allocator + Copy>(
     alloc: A,
-    found: &Found<A>,
+    exits: &Exits<A>,
     entries: &[Word],
 ) -> Result<Vec<Pair, A>, AllocError>
-    ensures { IfOk result (λ v. IsPermutation (pairs_of found.now entries.now) v.items) }
+    ensures { IfOk result (λ v. IsPermutation (pairs_of exits.now entries.now) v.items) }
 {
-    let mut pairs = Vec::with_capacity(alloc, found.pairs.len())?;
+    let mut pairs = Vec::with_capacity(alloc, exits.count())?;
     for entry in entries {
-        add_pairs_at(&mut pairs, &found.pairs, found.exits.of(*entry))?;
+        add_pairs_of(&mut pairs, *entry, exits.of(*entry))?;
     }
     Ok(pairs)
 }
@@ -84,39 +102,22 @@ fn are_ascending(pairs: &[Pair]) -> bool
     pairs.is_sorted_by(|pair, next| pair < next)
 }
 
-/// The pairs, ascending, sorted as a whole.
-fn sorted_pairs<A: Allocator + Copy>(
-    alloc: A,
-    found: &IndexSet<KeptPair, BuildHasherDefault<FoldHasher>, A>,
-) -> Result<Vec<Pair, A>, AllocError>
-    ensures ascend { IfOk result (λ v. ArePairsAscending v.items) }
-    ensures pairs { IfOk result (λ v. (x : Pair) → Member x v.items ↔ Member x found.now.keys) }
-{
-    let mut pairs = Vec::with_capacity(alloc, found.len())?;
-    for kept in found.as_slice() {
-        pairs.push(kept.pair())?;
-    }
-    pairs.sort_unstable();
-    Ok(pairs)
-}
-
 /// The pairs, ascending.
-// The few pairs of each entry are sorted alone, which is faster than all at once. Each pair is at a place of its entry, so
-// they are all there; but no invariant says so, so they are counted.
-fn pairs<A: Allocator + Copy>(
-    alloc: A,
-    found: &Found<A>,
-    entries: &[Word],
-) -> Result<Vec<Pair, A>, AllocError>
+// The few pairs of each entry are sorted alone, which is faster than all at once. They ascend then, since no exit of an entry
+// occurs twice; but nothing that is known of any table says so, so it is looked at.
+fn pairs<A: Allocator + Copy>(alloc: A, exits: &Exits<A>) -> Result<Vec<Pair, A>, AllocError>
     ensures ascend { IfOk result (λ v. ArePairsAscending v.items) }
-    ensures pairs { IfOk result (λ v. (x : Pair) → Member x v.items ↔ Member x found.now.pairs.keys) }
+    ensures pairs { IfOk result (λ v. (x : Pair) → Member x v.items
+        ↔ ((at : Place) × (pair_at exits.now at ≡ Some x))) }
 {
-    let pairs = pairs_by_entry(alloc, found, entries)?;
-    if pairs.len() == found.pairs.len() && are_ascending(&pairs) {
+    let entries = entries_left(alloc, exits)?;
+    let mut pairs = pairs_by_entry(alloc, exits, &entries)?;
+    if are_ascending(&pairs) {
         return Ok(pairs);
     }
-    drop(pairs);
-    sorted_pairs(alloc, &found.pairs)
+    pairs.sort_unstable();
+    pairs.dedup();
+    Ok(pairs)
 }
 
 /// What is found, as a summary.
@@ -124,7 +125,7 @@ fn summary_of<A: Allocator + Copy>(alloc: A, found: &Found<A>) -> Result<Summary
     ensures { IfOk result (IsReadOff found.now) }
 {
     let entries = entries(alloc, &found.entries)?;
-    let pairs = pairs(alloc, found, &entries)?;
+    let pairs = pairs(alloc, &found.exits)?;
     Ok(Summary { entries, pairs })
 }
 

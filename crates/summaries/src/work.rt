@@ -24,9 +24,6 @@ use crate::frontier::Frontier;
 use crate::kept_call::KeptCall;
 use crate::kept_edge::KeptEdge;
 use crate::kept_exit::KeptExit;
-use crate::kept_pair::KeptPair;
-use crate::outbox::index_in_32_bits;
-use crate::pair::Pair;
 use crate::sending::{send_summaries, send_summary_to_all};
 use crate::table::Table;
 use crate::table_fault::TableFault;
@@ -50,20 +47,12 @@ impl<'g, G: Allocator, A: Allocator + Copy, S: PathSet<A>> Table<'g, G, A, S> {
         ensures stays { StaysAs self.old self.new }
         ensures fault { self.new.fault ≡ self.old.fault }
     {
-        let left = self.graph.left(values);
-        let pair = Pair {
-            a: entry,
-            b: left.globals,
-            r: left.result,
-        };
-        let (at, new) = self.found.pairs.insert_full(KeptPair::new(pair))?;
-        if new {
-            let exit = index_in_32_bits(at)?;
-            let last = &mut self.found.last_exit;
-            self.found.exits.add_near(entry, exit, last)?;
+        let exit = KeptExit::new(self.graph.left(values));
+        let last = &mut self.found.last_exit;
+        if let Some(at) = self.found.exits.insert_near(entry, exit, last)? {
             let last = &mut self.found.last_entry;
             let callers = self.found.entries.of_near(entry, last);
-            send_summary_to_all(&mut self.found.outbox, exit, callers)?;
+            send_summary_to_all(&mut self.found.outbox, at, callers)?;
         }
         Ok(())
     }
@@ -105,7 +94,7 @@ impl<'g, G: Allocator, A: Allocator + Copy, S: PathSet<A>> Table<'g, G, A, S> {
         ensures worked { Worked S.members (λ t. t ≡ triple entry point values) result self.old self.new }
         ensures asked { OnOk result (HasAsked self.new (path_edge entry point values) call.now) }
         ensures taken { TookSame self.old.found self.new.found }
-        ensures pairs { self.new.found.pairs ≡ self.old.found.pairs }
+        ensures exits { self.new.found.exits ≡ self.old.found.exits }
         ensures less { OnOk result (IsLess S.members self.old self.new) }
     {
         let edge = PathEdge {
@@ -327,8 +316,8 @@ impl<'g, G: Allocator, A: Allocator + Copy, S: PathSet<A>> Table<'g, G, A, S> {
             limit: self.limit,
         };
         frontier.reach(start)?;
-        let exits = self.found.exits.of(a);
-        send_summaries(&mut self.found.outbox, exits, caller)?;
+        let (at, count) = self.found.exits.places_of(a)?;
+        send_summaries(&mut self.found.outbox, at, count, caller)?;
         Ok(())
     }
 

@@ -19,13 +19,13 @@ number c to e = ap the e
 
 -- the summary is given to the caller
 are_given : (g : Over) (c : In_ok-send g)
-    → AddsTo (IsTold c.args.pair c.args.caller) c.args.outbox.now.sent.items c.send.new.self.sent.items
+    → AddsTo (IsTold c.args.at c.args.caller) c.args.outbox.now.sent.items c.send.new.self.sent.items
 are_given g c =
-    let told = SummaryFor c.in-Proc.to c.args.pair in
+    let told = SummaryFor c.in-Proc.to c.args.at in
     let one = gives_one told c.args.outbox.now.sent.items c.send.new.self.sent.items c.in_ok-send.ensures.ok in
-    gives_as (λ x. x ≡ told) (IsTold c.args.pair c.args.caller) c.args.outbox.now.sent.items c.send.new.self.sent.items
+    gives_as (λ x. x ≡ told) (IsTold c.args.at c.args.caller) c.args.outbox.now.sent.items c.send.new.self.sent.items
     (λ x e. (c.in-Proc.to, c.in-Proc.is, e))
-    (λ x w. w.2 ∙ ap (λ to. SummaryFor to c.args.pair) (number w.0 c.in-Proc.to (sym w.1 ∙ c.in-Proc.is)))
+    (λ x w. w.2 ∙ ap (λ to. SummaryFor to c.args.at) (number w.0 c.in-Proc.to (sym w.1 ∙ c.in-Proc.is)))
     one
 
 pub returns-in_ok-send : goal.returns-in_ok-send
@@ -34,4 +34,4 @@ returns-in_ok-send g c =
     record { ok = gives; only = gives.only; answered = c.in_ok-send.ensures.answered }
 
 pub send-requires : goal.send-requires
-send-requires g c = c.requires (SummaryFor c.in-Proc.to c.args.pair) (c.in-Proc.to, c.in-Proc.is, refl)
+send-requires g c = c.requires (SummaryFor c.in-Proc.to c.args.at) (c.in-Proc.to, c.in-Proc.is, refl)

@@ -2,7 +2,7 @@ use Rattle.std.proofs.Common.{◌≡◌, ◌++◌, ◌∷◌, [], refl, sym, ap,
 use Rattle.language.specs.Lists.{Member}
 use Rattle.language.proofs.Members.{member_map}
 use Rattle.summaries.specs.Mails.{mail}
-use Rattle.summaries.specs.Found.{mail_of, calls_in, mails_in}
+use Rattle.summaries.specs.Found.{mail_of, calls_in, pairs_in, mails_in}
 use Rattle.summaries.proofs.Quiet.{owed_sent}
 use Rattle.summaries.proofs.TableInvariants.{same_keeps, next_behind, next_given, next_once}
 use Rattle.summaries.proofs.table.Table.answer.Given.{Over}
@@ -12,7 +12,7 @@ use Rattle.summaries.proofs.table.Table.answer.Goals.{In_ok-message}
 pub returns-in_err-message-clause-keeps : goal.returns-in_err-message-clause-keeps
 returns-in_err-message-clause-keeps g c =
     let f = c.args.self.now.found in
-    same_keeps g.S.PathSet.members c.args.self.now (record f { outbox = c.next.new.self }) refl c.next.ensures.sent refl
+    same_keeps g.S.PathSet.members c.args.self.now (record f { outbox = c.next.new.self }) (λ at. refl) c.next.ensures.sent refl
     c.requires.table c.requires.fault
 
 -- the message comes after those answered
@@ -27,13 +27,13 @@ mail-requires g c =
     let f = self.found in
     (c.requires.table.holds c.requires.fault).0.indexed.placed c.in_ok-message.message
     (next_given self.procedure
-    (calls_in f) f.pairs.keys f.outbox.sent.items f.outbox.answered c.next.new.self.answered c.in_ok-message.message
+    (calls_in f) (pairs_in f) f.outbox.sent.items f.outbox.answered c.next.new.self.answered c.in_ok-message.message
     (next g (goal.at.mail-requires g c).In_ok-message))
 
 pub returns-clause-keeps : goal.returns-clause-keeps
 returns-clause-keeps g c =
     let f = c.args.self.now.found in
-    same_keeps g.S.PathSet.members c.args.self.now (record f { outbox = c.next.new.self }) refl c.next.ensures.sent refl
+    same_keeps g.S.PathSet.members c.args.self.now (record f { outbox = c.next.new.self }) (λ at. refl) c.next.ensures.sent refl
     c.requires.table c.requires.fault
 
 pub returns-clause-some : goal.returns-clause-some
@@ -42,7 +42,7 @@ returns-clause-some g c =
     let f = self.found in
     let q = self.procedure in
     let cs = calls_in f in
-    let ps = f.pairs.keys in
+    let ps = pairs_in f in
     let xs = f.outbox.sent.items in
     let n = f.outbox.answered in
     let m = c.next.new.self.answered in

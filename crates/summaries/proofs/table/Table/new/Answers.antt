@@ -2,7 +2,7 @@ use Rattle.std.proofs.Common.{◌≡◌, ℕ, [], length, map, refl, sym, ap, �
 use Rattle.std.proofs.lemmas.Option.{none-some}
 use Rattle.language.specs.Lists.{Member}
 use Rattle.summaries.specs.declared.found.Found.{Found}
-use Rattle.summaries.specs.Found.{mail_of, calls_in, mails_in, IsEmpty}
+use Rattle.summaries.specs.Found.{mail_of, calls_in, pairs_in, mails_in, IsEmpty}
 use Rattle.summaries.proofs.Mails.{answers_none}
 use Rattle.summaries.proofs.StepLemmas.{no_message, empty_grounded, empty_complete}
 use Rattle.summaries.proofs.TableInvariants.{quiet_table}
@@ -10,7 +10,7 @@ use Rattle.summaries.proofs.table.Table.new.Goals as goal
 
 -- no message is given
 none_sent : {A : Type 0} (q : ℕ) (f : Found A) → IsEmpty f → mails_in q f ≡ []
-none_sent q f empty = ap (map (mail_of (calls_in f) f.pairs.keys q)) empty.given
+none_sent q f empty = ap (map (mail_of (calls_in f) (pairs_in f) q)) empty.given
 
 pub returns-clause-new : goal.returns-clause-new
 returns-clause-new g c =

@@ -2,7 +2,7 @@ use Rattle.std.proofs.Common.{◌≡◌, ◌<◌, ◌^◌, ℕ, [], sym, ◌∙�
 use Rattle.std.specs.Bool.{OnFalse}
 use Rattle.std.proofs.lemmas.List.{length-map}
 use Rattle.summaries.specs.declared.found.Found.{Found}
-use Rattle.summaries.specs.Found.{mail_of, calls_in, mails_in, answers_in}
+use Rattle.summaries.specs.Found.{mail_of, calls_in, pairs_in, mails_in, answers_in}
 use Rattle.summaries.proofs.Mails.{answers_few}
 use Rattle.summaries.proofs.TableInvariants.{quiet_table}
 use Rattle.summaries.proofs.table.Table.next.Goals as goal
@@ -21,7 +21,7 @@ returns-then-not-branch-clause-quiet g c =
 -- fewer than 2^64 messages are answered
 few : {A : Type 0} (q : ℕ) (f : Found A) → length (answers_in q f) < 2 ^ 64
 few q f =
-    let long = length-map f.outbox.sent.items (mail_of (calls_in f) f.pairs.keys q) in
+    let long = length-map f.outbox.sent.items (mail_of (calls_in f) (pairs_in f) q) in
     let within = f.outbox.within in
     answers_few (mails_in q f) f.outbox.answered (2 ^ 64) (omega (arith, long, within)) f.outbox.few
 

@@ -9,7 +9,7 @@ returns-in_default-clause-keeps g c =
     let self = c.args.self.now in
     let f = self.found in
     let h = grown_to self.graph.now self.procedure f f.entries f.summaries f.outbox c.pop.new.self in
-    same_keeps g.S.PathSet.members self h refl refl (sym (c.in_default.ensures.items ∙ append-nil c.pop.new.self.items))
+    same_keeps g.S.PathSet.members self h (λ at. refl) refl (sym (c.in_default.ensures.items ∙ append-nil c.pop.new.self.items))
     c.requires.table c.requires.fault
 
 pub follow-worked-requires-clause-edge : goal.follow-worked-requires-clause-edge
