@@ -32,7 +32,8 @@ use Rattle.summaries.specs.contracts.edge.CallKeyEq.TheImpl.Laws.{laws-law}
 use Rattle.summaries.specs.Under.{under}
 use Rattle.summaries.specs.Mails.{mail}
 use Rattle.summaries.specs.Dues.{due_of}
-use Rattle.summaries.specs.Found.{call, call_eq, path_edge, calls_in, pairs_in, entry_mail, mail_of, mails_in, TookMessage, HasSite, IsPlaced}
+use Rattle.summaries.specs.Found.{call, call_eq, path_edge, calls_in, pairs_in, entry_mail, mail_of, mails_in, TookMessage, HasSite}
+use Rattle.summaries.specs.Found.{IsPlaced}
 use Rattle.summaries.specs.Found.{IsIndexed}
 use Rattle.summaries.specs.Found.{IsOwed, IsGrounded}
 use Rattle.summaries.specs.Grows.{EntersAt, Grows, AddsTo, OfSome, IsBehind, triple_of}

@@ -21,7 +21,8 @@ use Rattle.summaries.specs.declared.groups.Groups.{Groups}
 use Rattle.summaries.specs.Under.{under}
 use Rattle.summaries.specs.Mails.{AddressedMail, mail, summary_due}
 use Rattle.summaries.specs.Dues.{caller_of, due_of}
-use Rattle.summaries.specs.Found.{pair, calls_in, pairs_in, mail_of, mails_in, TookMessage, HasExit, IsOwed, IsPlaced, IsIndexed, IsGrounded}
+use Rattle.summaries.specs.Found.{pair, calls_in, pairs_in, mail_of, mails_in, TookMessage, HasExit, IsOwed, IsPlaced, IsIndexed}
+use Rattle.summaries.specs.Found.{IsGrounded}
 use Rattle.summaries.specs.Grows.{Grows, AddsTo, IsTold, IsToldOf, IsSummaryTold}
 use Rattle.summaries.specs.Tables.{TookAlso}
 use Rattle.summaries.proofs.AddLemmas.{added_or, added_keeps, added_is, added_once}

@@ -1,5 +1,6 @@
 -- Exits by their places.
-use Rattle.std.proofs.Common.{◌≡◌, ◌<◌, ◌⊎◌, ℕ, zero, suc, Bool, true, false, not, cond, List, [], ◌∷◌, ◌++◌, length, ◌+◌, if◌then◌else◌, Result, Ok, Err}
+use Rattle.std.proofs.Common.{◌≡◌, ◌<◌, ◌⊎◌, ℕ, zero, suc, Bool, true, false, not, cond, List, [], ◌∷◌, ◌++◌, length, ◌+◌, if◌then◌else◌}
+use Rattle.std.proofs.Common.{Result, Ok, Err}
 use Rattle.std.proofs.Common.{nat_eq, is_some, Option, None, Some, slice_get, inl, inr, refl, sym, ap, ◌∙◌, subst, arith, true≢false, ◌||◌}
 use Rattle.std.specs.List.{list_any, position_or_len}
 use Rattle.std.specs.Option.{option_map}
@@ -164,7 +165,8 @@ pub nat_laws : IsEquivalence nat_eq
 nat_laws = record { refl = nat_itself; symm = λ x y. grind (arith, nat_tests); congr = λ x y z h. grind (arith, nat_tests, h) }
 
 -- what was added, by an answer
-pub inserted_some : (E : Type 0) (e : Exit) (r : Option ℕ) (at : ℕ) (old new : List Exit) → r ≡ Some at → IsInserted {E = E} e (Ok r) old new
+pub inserted_some : (E : Type 0) (e : Exit) (r : Option ℕ) (at : ℕ) (old new : List Exit) → r ≡ Some at
+    → IsInserted {E = E} e (Ok r) old new
     → (Member e old → ⊥) × (at ≡ length old) × (new ≡ old ++ e ∷ [])
 inserted_some E e r at old new is told = subst (λ s. IsInserted {E = E} e (Ok s) old new) is told
 
@@ -258,7 +260,8 @@ one_index (x ∷ xs) k (suc i) (suc j) once at_i at_j = ap suc (one_index xs k i
 
 -- what stands at a place, by its entry
 module _ {A : Type 0} where
-  pub exit_there : (es : List (ℕ × ExitList A)) (at : Place) (found : Pair) (own : ℕ) (l : ExitList A) → Some (own, l) ≡ slice_get es at.entry
+  pub exit_there : (es : List (ℕ × ExitList A)) (at : Place) (found : Pair) (own : ℕ) (l : ExitList A)
+      → Some (own, l) ≡ slice_get es at.entry
       → pair_among es at ≡ Some found → (slice_get (listed_in l) at.exit ≡ Some (left found.b found.r)) × (own ≡ found.a)
   exit_there es at found own l here is =
       let (k, same, there) = got_pair (Some (own, l)) at.exit found.a (left found.b found.r) (ap (pair_in at.exit) here ∙ is) in
@@ -268,7 +271,8 @@ module _ {A : Type 0} where
       )
 
   -- the places of an entry's pairs are its index, with each index of its exits
-  module _ (exits : Exits A) (own n : ℕ) (unique : IsUnique nat_eq exits.by_entry) (key : slice_get (keys exits.by_entry) n ≡ Some own) where
+  module _ (exits : Exits A) (own n : ℕ) (unique : IsUnique nat_eq exits.by_entry)
+      (key : slice_get (keys exits.by_entry) n ≡ Some own) where
     pub each_place : (k : ℕ) → k < length (exits_of exits own) → (b : Exit) × (pair_at exits (place n k) ≡ Some (pair own b))
     each_place k less =
         let es = exits.by_entry.entries in
@@ -278,7 +282,8 @@ module _ {A : Type 0} where
         let (b, at) = item_there (listed_in e.1) k (subst (λ l. k < length l) same less) in
         (b, ap (pair_in k) there ∙ ap (option_map (pair own)) at)
 
-    pub all_places : (at : Place) (b : Exit) → pair_at exits at ≡ Some (pair own b) → (at.entry ≡ n) × (at.exit < length (exits_of exits own))
+    pub all_places : (at : Place) (b : Exit) → pair_at exits at ≡ Some (pair own b)
+        → (at.entry ≡ n) × (at.exit < length (exits_of exits own))
     all_places at b is =
         let es = exits.by_entry.entries in
         let (l, here, there) = got_pair (slice_get es at.entry) at.exit own b is in

@@ -15,7 +15,8 @@ pub returns-in_default-2-clause-known : goal.returns-in_default-2-clause-known
 returns-in_default-2-clause-known g c =
     let (known, key, same) = c.in_ok-find.ensures.at in
     let exits = c.in-Some.exits.now in
-    let (there, is) = inserted_none AllocError c.args.exit c.in_ok-at.field-0 (listed_in exits) (listed_in c.insert.new.self) c.in_default-2.is
+    let (there, is) =
+    inserted_none AllocError c.args.exit c.in_ok-at.field-0 (listed_in exits) (listed_in c.insert.new.self) c.in_default-2.is
     c.in_ok-at.ensures in
     near_known c.args.self.now c.find.new.self c.find.new.last c.args.entry known exits c.find.ensures.stay key same
     (sym c.in-Some.ensures.value) c.args.exit there
@@ -24,7 +25,8 @@ pub returns-in_default-2-clause-stay : goal.returns-in_default-2-clause-stay
 returns-in_default-2-clause-stay g c =
     let (known, key, same) = c.in_ok-find.ensures.at in
     let exits = c.in-Some.exits.now in
-    let (there, is) = inserted_none AllocError c.args.exit c.in_ok-at.field-0 (listed_in exits) (listed_in c.insert.new.self) c.in_default-2.is
+    let (there, is) =
+    inserted_none AllocError c.args.exit c.in_ok-at.field-0 (listed_in exits) (listed_in c.insert.new.self) c.in_default-2.is
     c.in_ok-at.ensures in
     near_stay c.args.self.now c.find.new.self c.find.new.last c.args.entry known exits c.find.ensures.stay key same
     (sym c.in-Some.ensures.value) c.insert.new.self is
@@ -33,7 +35,8 @@ pub returns-clause-new : goal.returns-clause-new
 returns-clause-new g c =
     let (known, key, same) = c.in_ok-find.ensures.at in
     let exits = c.in-Some.exits.now in
-    let (new, at, more) = inserted_some AllocError c.args.exit c.in_ok-at.field-0 c.in-Some-2.at (listed_in exits) (listed_in c.insert.new.self)
+    let (new, at, more) =
+    inserted_some AllocError c.args.exit c.in_ok-at.field-0 c.in-Some-2.at (listed_in exits) (listed_in c.insert.new.self)
     c.in-Some-2.is c.in_ok-at.ensures in
     near_added c.args.self.now c.find.new.self c.find.new.last c.args.entry known exits c.find.ensures.stay key same
     (sym c.in-Some.ensures.value) c.insert.new.self c.args.exit c.in_ok-index_in_32_bits.field-0 c.in_ok-index_in_32_bits-2.field-0

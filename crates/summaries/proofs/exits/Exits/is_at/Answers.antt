@@ -21,5 +21,6 @@ returns-in-None g c = (
   λ no. absurd (true≢false (sym no)),
   λ (other, at, same).
       absurd (none-some other
-      (ap (option_map (λ e. e.0)) c.in-None.ensures.entry ∙ sym (slice_get-map (λ e. e.0) c.args.self.now.by_entry.entries c.args.at) ∙ at)),
+      (ap (option_map (λ e. e.0)) c.in-None.ensures.entry ∙ sym (slice_get-map (λ e. e.0) c.args.self.now.by_entry.entries c.args.at)
+      ∙ at)),
 )
