@@ -9,12 +9,58 @@ use language::Word;
 use std::hash::{Hash, Hasher};
 use std::marker::Model;
 
-/// A valuation in two halves of 64 bits, for values that are kept many times: it need not be aligned to 16 bytes, so
-/// that less memory is lost between values. Contracts see it as the valuation.
+/// Half of a valuation: 64 bits in two words of 32, which need not be aligned to 8 bytes.
+#[derive(Clone, Copy)]
+struct Half {
+    low: u32,
+    high: u32,
+}
+
+impl Model for Half {
+    ghost use Rattle.std.specs.Prelude.{◌≡◌, ℕ, ◌+◌, ◌*◌, ◌/◌, ◌%◌, ◌^◌, ◌<◌};
+    ghost use Rattle.std.proofs.Common.{arith};
+
+    ghost Value = { ℕ };
+
+    ghost view = { λ h. h.low + 2 ^ 32 * h.high };
+
+    ghost invariant = { λ h. h.low < 2 ^ 32 };
+
+    ghost inverse = { λ n. record { low = n % 2 ^ 32; high = n / 2 ^ 32 } };
+
+    ghost inverse_ok = { λ h small.
+        let low : (h.low + 2 ^ 32 * h.high) % 2 ^ 32 ≡ h.low = omega (arith, small) in
+        let high : (h.low + 2 ^ 32 * h.high) / 2 ^ 32 ≡ h.high = omega (arith, small) in
+        λ i. record { low = low i; high = high i } };
+}
+
+impl Half {
+    ghost use Rattle.std.specs.Prelude.{◌≡◌, ◌<◌, ◌^◌};
+
+    /// The half with these bits.
+    fn new(bits: u64) -> Self
+        ensures { result ≡ bits }
+    {
+        Half {
+            low: (bits % (1 << 32)) as u32,
+            high: (bits >> 32) as u32,
+        }
+    }
+
+    /// The bits.
+    fn bits(self) -> u64
+        ensures { result ≡ self }
+    {
+        u64::from(self.low) + (u64::from(self.high) << 32)
+    }
+}
+
+/// A valuation in two halves, for values that are kept many times: it need be aligned to 4 bytes only, and not to 16,
+/// so that less memory is lost between values. Contracts see it as the valuation.
 #[derive(Clone, Copy)]
 pub struct Halves {
-    low: u64,
-    high: u64,
+    low: Half,
+    high: Half,
 }
 
 impl Model for Halves {
@@ -44,8 +90,8 @@ impl Halves {
     {
         let wide = word as u128;
         Halves {
-            low: (wide % (1 << 64)) as u64,
-            high: (wide >> 64) as u64,
+            low: Half::new((wide % (1 << 64)) as u64),
+            high: Half::new((wide >> 64) as u64),
         }
     }
 
@@ -53,7 +99,7 @@ impl Halves {
     pub fn word(self) -> Word
         ensures { result ≡ self }
     {
-        self.low as Word + ((self.high as Word) << 64)
+        self.low.bits() as Word + ((self.high.bits() as Word) << 64)
     }
 }
 

@@ -88,6 +88,21 @@ module _ (g : given.Over) (c : After-gather g) where
       subst (λ p. IsKeyAt c.gather.new.self.batches.items p c.args.values at) (same_Some c.in-Some.last l (sym c.in-Some.is ∙ is))
       (subst (λ o. IfSome o (IsKeyAt c.gather.new.self.batches.items c.in-Some.last c.args.values)) found c.gather.ensures.place)
 
+-- where memory is refused, the members stay
+pub invariant_of-self : goal.invariant_of-self
+invariant_of-self g c =
+    let at = goal.at.invariant_of-self g c in
+    let s = c.turn_to.new.self in
+    record {
+      fit = c.gather.ensures.fit;
+      placed = placed g at.After-gather;
+      known = known g at.After-gather;
+      counted = s.counted
+          ∙ ap (λ l. length (all_edges s.merged.nodes.kept.keys s.merged.roots.entries l)) (sym c.in_err-added.ensures.err);
+      once = all_none_twice s.merged.nodes.kept.keys s.merged.roots.entries
+          (masks_in (keys s.merged.roots) c.gather.new.self.batches.items);
+    }
+
 pub invariant_of-self-then-added : goal.invariant_of-self-then-added
 invariant_of-self-then-added g c =
     let at = goal.at.invariant_of-self-then-added g c in
