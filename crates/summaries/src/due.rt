@@ -1,6 +1,6 @@
 //! What one procedure's table tells another.
 
-use language::Word;
+use path_sets::Halves;
 
 /// Who enters a procedure.
 #[derive(Clone, Copy, PartialEq, Eq, Hash)]
@@ -11,7 +11,8 @@ pub enum Caller {
     Proc(u8),
 }
 
-/// A message to a procedure. Valuations are numbers whose bits are the values of the places.
+/// A message to a procedure, which takes 36 bytes. Valuations are numbers whose bits are the values of the places, kept
+/// as `path_sets::Halves`.
 #[derive(Clone, Copy, PartialEq, Eq, Hash)]
 pub enum Due {
     /// The procedure is entered with the valuation `a`.
@@ -19,7 +20,7 @@ pub enum Due {
         /// Who enters it.
         caller: Caller,
         /// The valuation on entry.
-        a: Word,
+        a: Halves,
     },
     /// A procedure that it calls leaves the globals `b` and the result `r` if it was entered with `a`.
     // The small ones come first, where they share a word.
@@ -29,8 +30,8 @@ pub enum Due {
         /// Its result: 0 if it gives none.
         r: bool,
         /// The valuation on its entry.
-        a: Word,
+        a: Halves,
         /// The globals that it left.
-        b: Word,
+        b: Halves,
     },
 }

@@ -12,6 +12,7 @@ use crate::kept_exit::KeptExit;
 use crate::outbox::{Outbox, Outgoing};
 use indexmap::IndexSet;
 use language::Word;
+use path_sets::Halves;
 use std::alloc::Allocator;
 use std::hash::{BuildHasherDefault, FoldHasher};
 
@@ -72,7 +73,7 @@ impl<A: Allocator + Copy> Found<A> {
                 let call = calls.as_slice()[call as usize].call();
                 let due = Due::Entry {
                     caller: Caller::Proc(procedure),
-                    a: call.entered,
+                    a: Halves::new(call.entered),
                 };
                 (call.callee, due)
             }
@@ -81,8 +82,8 @@ impl<A: Allocator + Copy> Found<A> {
                 let due = Due::Summary {
                     p: procedure,
                     r: pair.r,
-                    a: pair.a,
-                    b: pair.b,
+                    a: Halves::new(pair.a),
+                    b: Halves::new(pair.b),
                 };
                 (to, due)
             }

@@ -4,11 +4,11 @@ use crate::edge::CallKey;
 use path_sets::Halves;
 use std::marker::Model;
 
-/// A call as a table keeps it, which takes 24 bytes instead of 32. Contracts see it as the call. The callee has 64
+/// A call as a table keeps it, which takes 20 bytes instead of 32. Contracts see it as the call. The callee has 32
 /// bits, so that nothing is copied but whole words: a processor waits for a word that was written in parts.
 #[derive(Clone, Copy, PartialEq, Eq, Hash)]
 pub(crate) struct KeptCall {
-    callee: u64,
+    callee: u32,
     entered: Halves,
 }
 
@@ -33,7 +33,7 @@ impl KeptCall {
         ensures { result ≡ call }
     {
         KeptCall {
-            callee: call.callee as u64,
+            callee: call.callee as u32,
             entered: Halves::new(call.entered),
         }
     }

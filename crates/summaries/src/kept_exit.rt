@@ -4,7 +4,7 @@ use flow_graph::Exit;
 use path_sets::Halves;
 use std::marker::Model;
 
-/// What a call leaves, as a table keeps it, which takes 24 bytes instead of 32. Contracts see it as what is
+/// What a call leaves, as a table keeps it, which takes 20 bytes instead of 32. Contracts see it as what is
 /// left.
 #[derive(Clone, Copy, PartialEq, Eq, Hash)]
 pub(crate) struct KeptExit {

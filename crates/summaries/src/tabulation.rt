@@ -19,7 +19,7 @@ use crate::summaries::{Summaries, Summary};
 use crate::table::Table;
 use crate::table_fault::TableFault;
 use flow_graph::Graphs;
-use path_sets::{EdgeLimit, PathSet};
+use path_sets::{EdgeLimit, Halves, PathSet};
 use std::alloc::{AllocError, Allocator};
 
 /// The tables of all procedures, by number, which have taken nothing yet.
@@ -48,8 +48,8 @@ pub fn deliver<G: Allocator, A: Allocator + Copy, S: PathSet<A>>(
     ensures { TableTakes S.members due result table.old table.new }
 {
     match due {
-        Due::Entry { caller, a } => table.take_entry(caller, a),
-        Due::Summary { p, a, b, r } => table.take_summary(p, a, b, r),
+        Due::Entry { caller, a } => table.take_entry(caller, a.word()),
+        Due::Summary { p, a, b, r } => table.take_summary(p, a.word(), b.word(), r),
     }
 }
 
@@ -74,7 +74,7 @@ fn run<G: Allocator, A: Allocator + Copy, S: PathSet<A>>(
     }
     let opening = Due::Entry {
         caller: Caller::Starter,
-        a: 0,
+        a: Halves::new(0),
     };
     *last = 0;
     deliver(&mut tables[0], opening)?;

@@ -9,7 +9,7 @@ use Rattle.summaries.specs.declared.due.Due.TheVariants.{Entry}
 use Rattle.summaries.specs.declared.table_fault.TableFault.TheVariants.{EdgeLimit}
 use Rattle.summaries.specs.Mails.{mail}
 use Rattle.summaries.specs.Dues.{due_of}
-use Rattle.summaries.specs.Tables.{answers_of, IsQuiet, IsAnswer}
+use Rattle.summaries.specs.Tables.{answers_of, IsQuiet, IsAnswer, TookAlso, TookOnly}
 use Rattle.summaries.specs.Together.{opening, AreTables}
 use Rattle.summaries.proofs.SweepLemmas.{limits_stay}
 use Rattle.summaries.proofs.Steps.{answered, answered_none, delivered, opening_due, mail_due, mail_receiver, only_due, too_many}
@@ -53,9 +53,10 @@ returns-in_err-deliver-clause-limit g c = λ e n h.
     let told = fault_of _ c.from_residual.result EdgeLimit c.from_residual.ensures.1 e in
     let ts = c.args.tables.now.items in
     let a = (goal.at.returns-in_err-deliver-clause-limit g c).After-index_mut in
+    let only = subst (λ w. TookOnly (Entry Starter w) c.index_mut.result.now.found c.deliver.new.table.found) c.new.ensures delivers.only in
     let due =
     only_due g.S.PathSet.members g.program (λ x. x ≡ opening) ts asked.1.1 0
-    (Entry Starter 0) c.index_mut.result.now c.deliver.new.table (first_is g a) delivers.only (opened_due g a) in
+    (Entry Starter 0) c.index_mut.result.now c.deliver.new.table (first_is g a) only (opened_due g a) in
     too_many g.S.PathSet.members g.program (λ x. x ≡ opening) ts asked.1.1 0 c.index_mut.result.now c.deliver.new.table
     (first_is g a) delivers.table delivers.stays (delivers.fault ∙ ap Some (sym told)) due n h
 
@@ -65,9 +66,13 @@ loop-at-init g c = record {
       let a = (goal.at.loop-at-init g c).After-index_mut in
       let delivers = c.in_ok-deliver.ensures in
       let asked = c.requires.1 in
+      let only =
+      subst (λ w. TookOnly (Entry Starter w) c.index_mut.result.now.found c.deliver.new.table.found) c.new.ensures delivers.only in
+      let taken =
+      subst (λ w. TookAlso (Entry Starter w) c.index_mut.result.now.found c.deliver.new.table.found) c.new.ensures delivers.taken in
       delivered g.S.PathSet.members g.program 0 (Entry Starter 0) c.args.tables.now.items asked.1.1
       c.index_mut.result.now c.deliver.new.table (first_is g a) delivers.table delivers.fault delivers.stays
-      delivers.taken delivers.only delivers.answers (opened_due g a);
+      taken only delivers.answers (opened_due g a);
   quiet = λ q t below is. absurd (omega (arith, below));
   within = omega arith;
   limits = λ n h.
