@@ -16,7 +16,7 @@ use crate::kinds::{CrewBoard, CrewSet};
 use checked::Checked;
 use flow_graph::{Graphs, graphs};
 use jobs::{Always, Hire};
-use path_sets::DiagramEdges;
+use path_sets::{DiagramEdges, Halves};
 use post_ledger::Ledger;
 use procedure_worker::{Context, Gate};
 use round_rewrite::{RewriteFault, Rounds, rewrite};
@@ -77,7 +77,7 @@ where
 {
     let opening = Due::Entry {
         caller: Caller::Starter,
-        a: 0,
+        a: Halves::new(0),
     };
     let boxes = graphs.len() as u8;
     let (board, passes) = B::open_with_budget(heap, graphs, boxes, 0, opening, budget)?;

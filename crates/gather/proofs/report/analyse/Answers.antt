@@ -1,6 +1,10 @@
 -- From a board that is opened to what its workers have found.
-use Rattle.std.proofs.Common.{◌∙◌, map}
+use Rattle.std.proofs.Common.{◌∙◌, ap, map, subst, sym}
 use Rattle.std.proofs.lemmas.Result.{err_from_is_err_and}
+use Rattle.switchboard.specs.Sights.{fresh_sights, opened}
+use Rattle.summaries.specs.declared.due.Caller.TheVariants.{Starter}
+use Rattle.summaries.specs.declared.due.Due.TheVariants.{Entry}
+use Rattle.summaries.specs.Fitting.{FitsIn}
 use Rattle.summaries.proofs.Steps.{opening_fits}
 use Rattle.gather.proofs.Crews.{new_crew, all_left, all_passes}
 use Rattle.gather.proofs.ReportLemmas.{split_results, of_board, found, limit_passed, not_wide}
@@ -11,13 +15,16 @@ use Rattle.gather.proofs.report.analyse.Goals as goal
 use Rattle.gather.proofs.report.analyse.Goals.{After-back-2-1}
 
 pub open_with_budget-requires-clause-fits : goal.open_with_budget-requires-clause-fits
-open_with_budget-requires-clause-fits g c = opening_fits c.args.graphs.now c.requires.within.0
+open_with_budget-requires-clause-fits g c =
+    subst (λ w. FitsIn c.args.graphs.now 0 (Entry Starter w)) (sym c.new.ensures) (opening_fits c.args.graphs.now c.requires.within.0)
 
 pub work_all-requires-after_bounds : goal.work_all-requires-after_bounds
 work_all-requires-after_bounds g c κs within =
     new_crew c.args.graphs.now c.args.limit (g.B-Board.identity c.in_ok-board.board) c.args.budget c.len-boxes.result c.requires.drawn
     c.len-boxes.ensures (map g.B-Board.sight c.in_ok-board.passes.items)
-    c.in_ok-board.ensures.1
+    (c.in_ok-board.ensures.1
+    ∙ ap (λ w. fresh_sights (g.B-Board.identity c.in_ok-board.board) c.args.budget
+    (opened c.args.graphs.now c.len-boxes.result 0 (Entry Starter w)) 0 c.len-boxes.result) c.new.ensures)
 
 -- what the lanes returned, split into passes and findings
 lanes : (g : Over) (c : After-back-2-1 g) → HaveLeft g.S.PathSet.members c.args.graphs.now c.args.limit
