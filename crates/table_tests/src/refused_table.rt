@@ -72,15 +72,10 @@ impl Seen {
 }
 
 /// The call that takes a message.
-fn call_of(due: Due) -> Call {
+fn call_of(due: &Due) -> Call {
     match due {
-        Due::Entry { caller: _, a: _ } => Call::Entry,
-        Due::Summary {
-            p: _,
-            a: _,
-            b: _,
-            r: _,
-        } => Call::Summary,
+        Due::Entry { .. } => Call::Entry,
+        Due::Summary { .. } => Call::Summary,
     }
 }
 
@@ -166,8 +161,9 @@ fn worked<G: Allocator, A: Allocator + Copy, S: PathSet<A>>(
     let mut at = 0usize;
     'words: for word in words.split_whitespace() {
         let due = message_of(word);
+        let call = call_of(&due);
         if let Err(fault) = take(table, due) {
-            return Err((call_of(due), fault));
+            return Err((call, fault));
         }
         match answers(table, wanted, &mut at) {
             Ok(true) => {}

@@ -8,7 +8,7 @@ use crate::refused_table::write_both;
 use cases::{Sweep, first, first_word};
 use flow_graph::{Graphs, graphs};
 use language::Word;
-use path_sets::{OrderedEdges, PathSet};
+use path_sets::{Halves, OrderedEdges, PathSet};
 use std::alloc::{AllocError, Allocator, Global};
 use summaries::{Caller, Due, EdgeLimit, Table, TableFault};
 
@@ -27,14 +27,14 @@ pub fn message_of(word: &str) -> Due {
             let (b, result) = first(numbers);
             Due::Summary {
                 p,
-                a: a as Word,
-                b: b as Word,
+                a: Halves::new(a as Word),
+                b: Halves::new(b as Word),
                 r: result == "1",
             }
         }
         None => {
             let (caller, a) = word.split_once('.').unwrap_or((word, ""));
-            let a = first(a).0 as Word;
+            let a = Halves::new(first(a).0 as Word);
             match caller.parse::<u8>() {
                 Ok(p) => Due::Entry {
                     caller: Caller::Proc(p),
@@ -52,15 +52,15 @@ pub fn message_of(word: &str) -> Due {
 /// A message after its receiver, in the words of the cases.
 fn word_of(alloc: Global, to: u8, due: Due) -> Result<String, AllocError> {
     match due {
-        Due::Entry {
-            caller: Caller::Starter,
-            a,
-        } => format!(in alloc; "{to}<S.{a}"),
-        Due::Entry {
-            caller: Caller::Proc(p),
-            a,
-        } => format!(in alloc; "{to}<{p}.{a}"),
+        Due::Entry { caller, a } => {
+            let a = a.word();
+            match caller {
+                Caller::Starter => format!(in alloc; "{to}<S.{a}"),
+                Caller::Proc(p) => format!(in alloc; "{to}<{p}.{a}"),
+            }
+        }
         Due::Summary { p, a, b, r } => {
+            let (a, b) = (a.word(), b.word());
             let result = if r { ".1" } else { "" };
             format!(in alloc; "{to}<s{p}.{a}.{b}{result}")
         }
@@ -76,8 +76,8 @@ pub fn take<G: Allocator, A: Allocator + Copy, S: PathSet<A>>(
     ensures { IsTable S.members table.new }
 {
     match due {
-        Due::Entry { caller, a } => table.take_entry(caller, a),
-        Due::Summary { p, a, b, r } => table.take_summary(p, a, b, r),
+        Due::Entry { caller, a } => table.take_entry(caller, a.word()),
+        Due::Summary { p, a, b, r } => table.take_summary(p, a.word(), b.word(), r),
     }
 }
 
