@@ -9,7 +9,7 @@ use Rattle.atomic_table.specs.Seated.{TableId}
 use Rattle.ticket_lock.specs.declared.view.View.{View}
 use Rattle.ticket_lock.specs.Count.{times, without}
 use Rattle.atomic_table.specs.Table.{Me}
-use Rattle.std.specs.Prelude.{Option}
+use Rattle.std.specs.Prelude.{Option, None}
 use Rattle.std.proofs.lemmas.List.{append-nil}
 use Rattle.ticket_lock.specs.History.{StartsWith, longer}
 use Rattle.ticket_lock.specs.Turns.{enters}
@@ -101,7 +101,7 @@ module _ {T Part : Type 0} (before : T → T → Type 0) (part : ℕ → T → P
   -- a lane that drew and entered
   pub came_is : (id id' : TableId) (number left ticket : ℕ) (a : Standing T) (v w : Me (Option T) (View T)) (x : T)
       → standing id number left v.0 ≡ a → id' ≡ id → (left ≡ 0 → ⊥) → ((o : T) × (v.0.own ≡ (number, o) ∷ []))
-      → Came (hand_of 0) (TellsHistory before part 0) 0 v ticket x w
+      → Came (hand_of 0) (TellsHistory before part 0) 0 v ticket x None w
       → EnteredLock before part record { value = x; number = ticket } a (standing id' number (left - 1) w.0)
   came_is id id' number left ticket a v w x is same some_of one came =
       let d : Me (Option T) (View T) = came.0 in

@@ -67,6 +67,12 @@ module _ {T V : Type 0} (see : V → Hand T) (tells : StepKind T → V → V →
   Loaded slot ticket before number after = (number ≡ ticket → (value : T) × WentInside slot ticket value (Some value) before after)
       × (number ≢ ticket → Waited ticket before after)
 
+  -- the same, with whether it is this ticket's turn
+  abbrev pub FoundTurn : ℕ → ℕ → Me (Option T) V → Bool → Me (Option T) V → Type 0
+  FoundTurn slot ticket before is_turn after =
+      (is_turn ≡ true → (value : T) × WentInside slot ticket value (Some value) before after)
+      × (is_turn ≡ false → Waited ticket before after)
+
   -- a look, which takes the value out if it is this ticket's turn
   abbrev pub LookedAtTurn : ℕ → ℕ → Me (Option T) V → Option T → Me (Option T) V → Type 0
   LookedAtTurn slot ticket before answer after =
@@ -78,14 +84,20 @@ module _ {T V : Type 0} (see : V → Hand T) (tells : StepKind T → V → V →
       × EndsIn (see before.0).seen found
       × (see after.0 ≡ with_leave added (see before.0)) × tells (passes found added) before.0 after.0
 
-  -- a draw, and then a look in turn: the seat is inside with this ticket, and has the value out
-  abbrev pub Came : ℕ → Me (Option T) V → ℕ → T → Me (Option T) V → Type 0
-  Came slot before ticket value after = (drawn : Me (Option T) V) × Drew before ticket drawn × WentInside slot ticket value None drawn after
+  -- a draw, and then a look in turn: the seat is inside with this ticket and holds the slot, with the answer in it
+  abbrev pub Came : ℕ → Me (Option T) V → ℕ → T → Option T → Me (Option T) V → Type 0
+  Came slot before ticket value answer after =
+      (drawn : Me (Option T) V) × Drew before ticket drawn × WentInside slot ticket value answer drawn after
 
   -- the value was left after the last, and the seat is outside
   abbrev pub Left : T → Me (Option T) V → Me (Option T) V → Type 0
   Left added before after = (after.1 ≡ rest before.1) × (see after.0 ≡ with_leave added (see before.0))
       × ((found : T) × EndsIn (see before.0).seen found × tells (passes found added) before.0 after.0)
+
+-- the seat is inside, and a value, which may be left after the value found, lies in the slot that it took last
+abbrev pub MayPass : {T V : Type 0} → (V → Hand T) → (StepKind T → V → Type 0) → ℕ → Me (Option T) V → Type 0
+MayPass {T} see asks slot me = (value : T) × (me.1 ≡ (slot, Some value) ∷ rest me.1) × ((ticket : ℕ) × ((see me.0).inside ≡ ticket ∷ []))
+    × ((found : T) → EndsIn (see me.0).seen found → asks (passes found value) me.0)
 
 -- the lock asks nothing of a seat that draws, looks or enters, and a look too early changes no view
 abbrev pub IsFree : {T V : Type 0} → (StepKind T → V → Type 0) → (StepKind T → V → V → Type 0) → Type 0

@@ -22,6 +22,6 @@ pub use law::LaneLaw;
 pub use lock::TicketLock;
 pub use one::{at_most_one_guard, no_number_twice};
 pub use open::MOST_TICKETS;
-pub use place::{draw_at, enter_at, enter_when_free_at, leave_at, look_at};
+pub use place::{come_when_free_at, draw_at, enter_at, leave_at, look_at, serve_next_at, value_at};
 pub use rule::LockRule;
 pub use view::{Opening, View};

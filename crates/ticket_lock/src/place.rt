@@ -1,12 +1,17 @@
 //! The calls of a lock at a place of a table, under any rule that allows it there.
-ghost use Rattle.std.specs.Prelude.{◌≡◌, ℕ, ◌*◌, ◌^◌, ◌<◌, [], ◌∷◌, length, None};
+ghost use Rattle.std.specs.Prelude.{◌≡◌, ℕ, ◌*◌, ◌^◌, ◌<◌, [], ◌∷◌, length, Some, None, IsSome};
+ghost use Rattle.std.specs.Borrow.{Lends, sem};
+ghost use Rattle.std.specs.contracts.option.Option.{the_row as option_row};
+ghost use Rattle.std.specs.Option.Follows.{option_follows_value};
 ghost use Rattle.atomic_table.specs.Table.{rest};
+ghost use Rattle.atomic_table.specs.Lent.{seat_with};
+ghost use Rattle.atomic_table.specs.contracts.shared.Seat.{the_row as seat_row};
 ghost use Rattle.ticket_lock.specs.Count.{times};
 ghost use Rattle.ticket_lock.specs.History.{EndsIn};
 ghost use Rattle.ticket_lock.specs.Turns.{draws, waits, enters, passes};
 ghost use Rattle.ticket_lock.specs.Calls.{IsSameSeat, IsRoom, StandsAt, IsFree, Drew, DrewIf};
-ghost use Rattle.ticket_lock.specs.Calls.{LookedAtTurn};
-ghost use Rattle.ticket_lock.specs.Calls.{Came, Left, WentInside};
+ghost use Rattle.ticket_lock.specs.Calls.{FoundTurn, LookedAtTurn};
+ghost use Rattle.ticket_lock.specs.Calls.{WentInside, Came, MayPass, Passed, Left};
 
 use crate::plays::{Draws, DrawsIfNext, Looks, Passes};
 use crate::rule::{At, LockRule};
@@ -72,13 +77,13 @@ pub fn draw_at<T, V, K, P: LockRule<T, V, K>>(
     draw_step::<Brand, T, V, K, P>(shared, seat, word, slot)
 }
 
-fn look_step<J: At, T, V, K, P: LockRule<T, V, K>>(
+fn turn_step<J: At, T, V, K, P: LockRule<T, V, K>>(
     shared: &Shared<Option<T>, V, K, P>,
     seat: &mut Seat<Option<T>, V>,
     word: usize,
     slot: usize,
     ticket: u64,
-) -> Option<T>
+) -> bool
     requires table { (seat.old.table_id ≡ shared.now.table_id)
         × IsRoom word J.slot shared.now.table_id
         × P.is_place shared.now.key word J.slot × (J.slot ≡ slot) × (J.ticket ≡ ticket) }
@@ -86,13 +91,29 @@ fn look_step<J: At, T, V, K, P: LockRule<T, V, K>>(
     requires waits { P.asks J.slot waits seat.old.me.0 }
     requires enters { (x : T) → P.asks J.slot (enters x) seat.old.me.0 }
     ensures { IsSameSeat seat.old seat.new
-        × LookedAtTurn (P.see J.slot)
+        × FoundTurn (P.see J.slot)
         (P.tells J.slot) J.slot J.ticket seat.old.me result seat.new.me }
 {
-    if shared.load::<Looks<J, K, P>>(seat, word) != ticket {
-        return None;
-    }
-    shared.exchange(seat, slot, None)
+    shared.load::<Looks<J, K, P>>(seat, word) == ticket
+}
+
+/// Whether it is this ticket's turn: one load. If it is, the seat is inside, and the value lies in the slot still.
+fn is_turn<T, V, K, P: LockRule<T, V, K>>(
+    shared: &Shared<Option<T>, V, K, P>,
+    seat: &mut Seat<Option<T>, V>,
+    word: usize,
+    slot: usize,
+    ticket: u64,
+) -> bool
+    requires table { StandsAt P.is_place seat.old.table_id shared.now.table_id shared.now.key word
+        slot }
+    requires held { 0 < times ticket (P.see slot seat.old.me.0).tickets }
+    requires waits { P.asks slot waits seat.old.me.0 }
+    requires enters { (x : T) → P.asks slot (enters x) seat.old.me.0 }
+    ensures { IsSameSeat seat.old seat.new
+        × FoundTurn (P.see slot) (P.tells slot) slot ticket seat.old.me result seat.new.me }
+{
+    turn_step::<Brand, T, V, K, P>(shared, seat, word, slot, ticket)
 }
 
 /// Looks whether it is this ticket's turn: one load, and if it is, one exchange that takes the value out. If it is
@@ -112,7 +133,10 @@ pub fn look_at<T, V, K, P: LockRule<T, V, K>>(
     ensures { IsSameSeat seat.old seat.new
         × LookedAtTurn (P.see slot) (P.tells slot) slot ticket seat.old.me result seat.new.me }
 {
-    look_step::<Brand, T, V, K, P>(shared, seat, word, slot, ticket)
+    if !is_turn(shared, seat, word, slot, ticket) {
+        return None;
+    }
+    shared.exchange(seat, slot, None)
 }
 
 fn draw_if_next_step<J: At, T, V, K, P: LockRule<T, V, K>>(
@@ -188,7 +212,7 @@ fn draw_when_free<T, V, K, P: LockRule<T, V, K>>(
 }
 
 /// Looks whether it is this ticket's turn until it is, with a pause between two looks, and after some looks yields
-/// between two. The value is taken out then.
+/// between two. The value lies in the slot then.
 fn wait_with<R: Wait, T, V, K, P: LockRule<T, V, K>>(
     rt: &R,
     shared: &Shared<Option<T>, V, K, P>,
@@ -196,19 +220,19 @@ fn wait_with<R: Wait, T, V, K, P: LockRule<T, V, K>>(
     word: usize,
     slot: usize,
     ticket: u64,
-) -> T
+)
     requires table { StandsAt P.is_place seat.old.table_id shared.now.table_id shared.now.key word
         slot }
     requires held { 0 < times ticket (P.see slot seat.old.me.0).tickets }
     requires free { IsFree (P.asks slot) (P.tells slot) }
     ensures { IsSameSeat seat.old seat.new
-        × WentInside (P.see slot)
-        (P.tells slot) slot ticket result None seat.old.me seat.new.me }
+        × (value : T) × WentInside (P.see slot)
+        (P.tells slot) slot ticket value (Some value) seat.old.me seat.new.me }
 {
     let mut looks = 0u32;
     for _ in rt.forever() {
-        if let Some(value) = look_at(shared, seat, word, slot, ticket) {
-            return value;
+        if is_turn(shared, seat, word, slot, ticket) {
+            return;
         }
         if looks < LOOKS {
             looks += 1;
@@ -236,55 +260,98 @@ pub fn enter_at<R: Wait, T, V, K, P: LockRule<T, V, K>>(
         < (P.see slot seat.old.me.0).parts * 2 ^ 56 }
     requires free { IsFree (P.asks slot) (P.tells slot) }
     ensures { IsSameSeat seat.old seat.new
-        × Came (P.see slot) (P.tells slot) slot seat.old.me result.0 result.1 seat.new.me }
+        × Came (P.see slot) (P.tells slot) slot seat.old.me result.0 result.1 None seat.new.me }
 {
     let ticket = draw_at(shared, seat, word, slot);
-    let value = wait_with(rt, shared, seat, word, slot, ticket);
+    wait_with(rt, shared, seat, word, slot, ticket);
+    let found = shared.exchange(seat, slot, None);
+    let Some(value) = found else { unreachable!() };
     (ticket, value)
 }
 
-/// Like `enter_at`, but a ticket is drawn as soon as it is served at once, and only after some tries one to wait with. So
-/// seats do not enter in the order in which they come, but seldom does one wait for another whose thread has no processor.
-pub fn enter_when_free_at<R: Wait, T, V, K, P: LockRule<T, V, K>>(
+/// Like `enter_at`, but the value stays in its slot, and a ticket is drawn as soon as it is served at once, and only
+/// after some tries one to wait with: the ticket's number. So seats do not enter in the order in which they come, but
+/// seldom does one wait for another whose thread has no processor.
+pub fn come_when_free_at<R: Wait, T, V, K, P: LockRule<T, V, K>>(
     rt: &R,
     shared: &Shared<Option<T>, V, K, P>,
     seat: &mut Seat<Option<T>, V>,
     word: usize,
     slot: usize,
-) -> (u64, T)
+) -> u64
     requires table { StandsAt P.is_place seat.old.table_id shared.now.table_id shared.now.key word
         slot }
     requires room { length (P.see slot seat.old.me.0).drawn
         < (P.see slot seat.old.me.0).parts * 2 ^ 56 }
     requires free { IsFree (P.asks slot) (P.tells slot) }
     ensures { IsSameSeat seat.old seat.new
-        × Came (P.see slot) (P.tells slot) slot seat.old.me result.0 result.1 seat.new.me }
+        × (value : T) × Came (P.see slot)
+        (P.tells slot) slot seat.old.me result value (Some value) seat.new.me }
 {
     let ticket = draw_when_free(shared, seat, word, slot);
-    let value = wait_with(rt, shared, seat, word, slot, ticket);
-    (ticket, value)
+    wait_with(rt, shared, seat, word, slot, ticket);
+    ticket
 }
 
-fn leave_step<J: At, T, V, K, P: LockRule<T, V, K>>(
+/// The value of an option that has one.
+fn value_in<T>(home: &mut Option<T>) -> &mut T
+    requires { IsSome home.old }
+    ensures* writes_back { sem 𝓛 (option_follows_value T.row home.entry result) }
+    ensures value { home.old ≡ Some result.now }
+{
+    match home {
+        Some(value) => value,
+        None => unreachable!(),
+    }
+}
+
+/// The value that lies in the slot that the seat took last, to be read or changed in place.
+// The seat comes first, since Rattle proves by itself only what the first argument lends.
+pub fn value_at<'a, T, V, K, P: LockRule<T, V, K>>(
+    seat: &'a mut Seat<Option<T>, V>,
+    shared: &'a Shared<Option<T>, V, K, P>,
+    slot: usize,
+) -> &'a mut T
+    requires table { seat.old.table_id ≡ shared.now.table_id }
+    requires lies { (value : T) × (seat.old.me.1 ≡ (slot, Some value) ∷ rest seat.old.me.1) }
+    ensures* writes_back { sem 𝓛 (Lends (seat_row (option_row T.row) V.row) T.row seat.entry result
+        (λ value. seat_with seat.old slot (Some value))) }
+    ensures value { seat.old.me.1 ≡ (slot, Some result.now) ∷ rest seat.old.me.1 }
+{
+    value_in(seat.slot_mut(shared, slot))
+}
+
+fn serve_step<J: At, T, V, K, P: LockRule<T, V, K>>(
     shared: &Shared<Option<T>, V, K, P>,
     seat: &mut Seat<Option<T>, V>,
     word: usize,
     slot: usize,
-    value: T,
 )
     requires table { (seat.old.table_id ≡ shared.now.table_id)
         × IsRoom word J.slot shared.now.table_id
         × P.is_place shared.now.key word J.slot × (J.slot ≡ slot) }
-    requires out { seat.old.me.1 ≡ (J.slot, None) ∷ rest seat.old.me.1 }
-    requires inside { (t : ℕ) × ((P.see J.slot seat.old.me.0).inside ≡ t ∷ []) }
-    requires asks { (x : T) → EndsIn (P.see J.slot seat.old.me.0).seen x
-        → P.asks J.slot (passes x value) seat.old.me.0 }
+    requires inside { MayPass (P.see J.slot) (P.asks J.slot) J.slot seat.old.me }
     ensures { IsSameSeat seat.old seat.new
-        × Left (P.see J.slot) (P.tells J.slot) value seat.old.me seat.new.me }
+        × Passed (P.see J.slot) (P.tells J.slot) J.slot seat.old.me seat.new.me }
 {
-    let found = shared.exchange(seat, slot, Some(value));
-    let None = found else { unreachable!() };
     shared.fetch_add::<Passes<J, K, P>>(seat, word, 1);
+}
+
+/// Serves the next ticket: one fetch_add. The value that lies in the slot is the last one of the history then. The seat
+/// must be inside.
+pub fn serve_next_at<T, V, K, P: LockRule<T, V, K>>(
+    shared: &Shared<Option<T>, V, K, P>,
+    seat: &mut Seat<Option<T>, V>,
+    word: usize,
+    slot: usize,
+)
+    requires table { StandsAt P.is_place seat.old.table_id shared.now.table_id shared.now.key word
+        slot }
+    requires inside { MayPass (P.see slot) (P.asks slot) slot seat.old.me }
+    ensures { IsSameSeat seat.old seat.new
+        × Passed (P.see slot) (P.tells slot) slot seat.old.me seat.new.me }
+{
+    serve_step::<Brand, T, V, K, P>(shared, seat, word, slot);
 }
 
 /// Puts a value back as the last one of the history: one exchange that brings it home, and then one fetch_add that
@@ -305,5 +372,7 @@ pub fn leave_at<T, V, K, P: LockRule<T, V, K>>(
     ensures { IsSameSeat seat.old seat.new
         × Left (P.see slot) (P.tells slot) value seat.old.me seat.new.me }
 {
-    leave_step::<Brand, T, V, K, P>(shared, seat, word, slot, value);
+    let found = shared.exchange(seat, slot, Some(value));
+    let None = found else { unreachable!() };
+    serve_next_at(shared, seat, word, slot);
 }

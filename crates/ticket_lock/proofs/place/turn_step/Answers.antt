@@ -1,7 +1,7 @@
-use Rattle.std.proofs.Common.{sym, ◌∙◌, arith, Some}
+use Rattle.std.proofs.Common.{sym, ◌∙◌, arith, eqb-true}
+use Rattle.std.proofs.lemmas.Bool.{eqb-false}
 use Rattle.ticket_lock.proofs.Places.{looks_allowed}
-use Rattle.ticket_lock.proofs.Carried.{holds_it}
-use Rattle.ticket_lock.proofs.place.look_step.Goals as goal
+use Rattle.ticket_lock.proofs.place.turn_step.Goals as goal
 
 pub load-requires : goal.load-requires
 load-requires g c =
@@ -15,8 +15,10 @@ load-requires g c =
           c.requires.waits c.requires.enters,
     )
 
-pub exchange-requires : goal.exchange-requires
-exchange-requires g c =
-    let t = c.requires.table in
-    let e = c.load.ensures.2.0 (c.if-load-ticket.false ∙ sym t.4) in
-    (c.load.ensures.0 ∙ t.0, (Some e.0, holds_it _ _ _ _ _ e.1.0 t.3))
+pub returns : goal.returns
+returns g c =
+    let same = c.requires.table.4 in
+    let did = c.load.ensures in (
+      (did.0, did.1),
+      ((λ yes. did.2.0 (eqb-true _ _ yes ∙ sym same)), (λ no. did.2.1 (λ e. eqb-false _ _ no (e ∙ same)))),
+    )
