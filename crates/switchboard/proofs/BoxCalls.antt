@@ -82,7 +82,7 @@ module _ {M W : Type 0} (fits : W → ℕ → M → Type 0) where
   pub record Visit (q : ℕ) (x y : List (Event M)) (b in_it v out : Seat M W) : Type 0 where
     pub inside : IsInside fits q x b in_it
     pub hands : v.0.hands ≡ in_it.0.hands
-    pub slots : v.1 ≡ in_it.1
+    pub slots : table.rest v.1 ≡ table.rest in_it.1
     pub left : lock.Left (hand_at q) (TellsOrder fits q) y v out
 
   module _ (q : ℕ) (x y : List (Event M)) (b in_it v out : Seat M W) (visit : Visit q x y b in_it v out) where
@@ -96,7 +96,7 @@ module _ {M W : Type 0} (fits : W → ℕ → M → Type 0) where
         subst (λ z. TellsOrder fits q (passes z y) v.0 out.0) (EndsIn-same (hand_at q in_it.0).seen t.0 x ends visit.inside.found) t.2
 
     pub visit_out : out.1 ≡ b.1
-    visit_out = visit.left.0 ∙ (ap table.rest visit.slots ∙ ap table.rest visit.inside.out)
+    visit_out = visit.left.0 ∙ (visit.slots ∙ ap table.rest visit.inside.lies)
 
     -- it has one ticket fewer to draw in that lock, and is ready again
     pub visit_hands : (left boxes : ℕ) → (left ≡ 0 → ⊥) → ((k : ℕ) → k < boxes → IsIdleHand left (hand_at k b.0))

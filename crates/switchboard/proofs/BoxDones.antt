@@ -1,7 +1,8 @@
 -- What a completion and an abort of the board with a lock for each mailbox promise.
-use Rattle.std.proofs.Common.{◌≡◌, inr, ℕ, ◌+◌, ◌-◌, ◌<◌, ◌≤◌, Bool, true, false, List, [], ◌∷◌, ◌++◌, map, length, Contains}
+use Rattle.std.proofs.Common.{◌≡◌, inr, ℕ, ◌+◌, ◌-◌, ◌<◌, ◌≤◌, Bool, true, false, List, [], ◌∷◌, ◌++◌, map, length, Contains, Some}
 use Rattle.std.proofs.Common.{refl, sym, ap, ◌∙◌, subst, arith}
 use Rattle.std.specs.Prelude.{IsSome, is_some}
+use Rattle.atomic_table.specs.Table.{rest}
 use Rattle.atomic_table.specs.Seated.{TableId}
 use Rattle.ticket_lock.specs.History.{EndsIn}
 use Rattle.ticket_lock.specs.Turns.{passes}
@@ -22,6 +23,7 @@ use Rattle.switchboard.specs.PerBox.{SeatView, LeavesOneEvent, TellsOrder, IsIns
 use Rattle.switchboard.specs.BoxPasses.{IsIdleHand, box_sight, IsBoxPass}
 use Rattle.switchboard.proofs.BoxCalls.{Later, Visit, own_part, first_later, step_later, own_same, goes, pass_on, recorded_is, added_is}
 use Rattle.switchboard.proofs.BoxCalls.{record_on}
+use Rattle.switchboard.proofs.BoxVisits.{lent_is, may_leave, has_left}
 
 module _ {M W : Type 0} (fits : W → ℕ → M → Type 0) (id : TableId) (number left : ℕ) (made : Bool) (w : W) (boxes : ℕ) (m : Seat M W)
     (p : IsBoxPass fits id number left made w boxes m) where
@@ -29,12 +31,16 @@ module _ {M W : Type 0} (fits : W → ℕ → M → Type 0) (id : TableId) (numb
   before = box_sight id number left made w boxes m.0.seen
 
   module _ (x : List (Event M)) (v : Seat M W) (inside : IsInside fits number x m v) (job take : ℕ) (same_job : take ≡ job)
-      (s : Sight M W) (see : before ≡ s) (has : HasJob s.number job s.seen.order) where
+      (s : Sight M W) (see : before ≡ s) (has : HasJob s.number job s.seen.order) (k : ℕ) (slot : k ≡ number)
+      (lent : List (Event M)) (lies : v.1 ≡ (k, Some lent) ∷ rest v.1) where
+    found : lent ≡ x
+    found = lent_is fits number x m v inside k slot lent lies
+
     list : own number v.0.seen.order ≡ own number m.0.seen.order
     list = own_same fits id number left made w boxes m p m.0 v.0.seen.order refl inside.own
 
-    -- the mailbox that is out has the Take, and no Done of it
-    pub may_complete : (take < length (takes x)) × (Contains (dones x) take → ⊥)
+    -- the mailbox has the Take, and no Done of it
+    may_complete : (take < length (takes x)) × (Contains (dones x) take → ⊥)
     may_complete =
         let was : HasJob number job m.0.seen.order = subst (λ (z : Sight M W). HasJob z.number job z.seen.order) (sym see) has in
         let now : HasJob number take v.0.seen.order =
@@ -42,16 +48,30 @@ module _ {M W : Type 0} (fits : W → ℕ → M → Type 0) (id : TableId) (numb
         (job_stays number job m.0.seen.order v.0.seen.order (sym list) was) in
         subst (λ h. (take < length (takes h)) × (Contains (dones h) take → ⊥)) inside.part now
 
-    module _ (y : List (Event M)) (grown : y ≡ x ++ Done take ∷ []) where
+    pub may_complete_lent : (take < length (takes lent)) × (Contains (dones lent) take → ⊥)
+    may_complete_lent = subst (λ h. (take < length (takes h)) × (Contains (dones h) take → ⊥)) (sym found) may_complete
+
+    module _ (y : List (Event M)) (grown_lent : y ≡ lent ++ Done take ∷ []) where
+      grown : y ≡ x ++ Done take ∷ []
+      grown = grown_lent ∙ ap (λ h. h ++ Done take ∷ []) found
+
       lanes : v.0.lanes ≡ m.0.lanes
       lanes = ap (λ (z : SeatView M W). z.lanes) inside.after
 
-      pub done_asks : (z : List (Event M)) → EndsIn (hand_at number v.0).seen z → LeavesOneEvent fits number (passes z y) v.0
+      done_asks : (z : List (Event M)) → EndsIn (hand_at number v.0).seen z → LeavesOneEvent fits number (passes z y) v.0
       done_asks z ends =
           subst (λ k. LeavesOneEvent fits number (passes k y) v.0) (EndsIn-same (hand_at number v.0).seen x z inside.found ends)
           (inr (own_part fits id number left made w boxes m p, Done take, lanes ∙ p.lanes, list, grown, (refl, may_complete)))
 
-      module _ (out : Seat M W) (gone : lock.Left (hand_at number) (TellsOrder fits number) y v out) (some_of : left ≡ 0 → ⊥) where
+      pub done_leaves : lock.MayPass (hand_at number) (LeavesOneEvent fits number) number (v.0, (k, Some y) ∷ rest v.1)
+      done_leaves = may_leave fits number x m v inside k slot y done_asks
+
+      module _ (out : Seat M W)
+          (passed : lock.Passed (hand_at number) (TellsOrder fits number) number (v.0, (k, Some y) ∷ rest v.1) out)
+          (some_of : left ≡ 0 → ⊥) where
+        gone : lock.Left (hand_at number) (TellsOrder fits number) y v out
+        gone = has_left fits number x m v inside k slot y out passed
+
         visit : Visit fits number x y m v v out
         visit = record { inside = inside; hands = refl; slots = refl; left = gone }
 

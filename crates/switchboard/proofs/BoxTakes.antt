@@ -1,6 +1,7 @@
 -- What a take of the board with a lock for each mailbox promises.
 use Rattle.std.proofs.Common.{◌≡◌, inl, inr, ℕ, ◌+◌, ◌-◌, ◌^◌, ◌%◌, ◌<◌, ◌≤◌, Bool, false, List, [], ◌∷◌, ◌++◌, length, slice_get}
 use Rattle.std.proofs.Common.{Some, None, Ok, refl, sym, ap, ◌∙◌, subst, arith, Option, eq-eqb, ne_eqb}
+use Rattle.atomic_table.specs.Table.{rest}
 use Rattle.atomic_table.specs.Seated.{TableId}
 use Rattle.ticket_lock.specs.History.{EndsIn}
 use Rattle.ticket_lock.specs.Turns.{passes}
@@ -24,6 +25,7 @@ use Rattle.switchboard.specs.BoxPasses.{IsIdleHand, box_sight, IsBoxPass}
 use Rattle.switchboard.specs.BoxAnswers.{TookOut}
 use Rattle.switchboard.proofs.Visits.{posted_fits}
 use Rattle.switchboard.proofs.BoxPuts.{not_flagged, flagged}
+use Rattle.switchboard.proofs.BoxVisits.{lent_is, may_leave, has_left}
 use Rattle.switchboard.proofs.BoxCalls.{Later, Visit, own_part, first_later, step_later, own_same, look_on, stays_on, recorded_is, added_is}
 use Rattle.switchboard.proofs.BoxCalls.{record_on}
 
@@ -85,8 +87,13 @@ module _ {M W : Type 0} (fits : W → ℕ → M → Type 0) (id : TableId) (numb
     alive : v.0.seen.aborted ≡ None
     alive = inside.aborted ∙ not_flagged looked.low u.0.seen.aborted (omega (arith, looked.found))
 
-    module _ (r : Taken M) (y : List (Event M)) (took : TookOut r x y) where
-      pub take_asks : (z : List (Event M)) → EndsIn (hand_at number v.0).seen z → LeavesOneEvent fits number (passes z y) v.0
+    -- it took out of the mailbox that it was lent, and leaves that one
+    module _ (k : ℕ) (slot : k ≡ number) (lent : List (Event M)) (lies : v.1 ≡ (k, Some lent) ∷ rest v.1) (r : Taken M)
+        (y : List (Event M)) (took_lent : TookOut r lent y) where
+      took : TookOut r x y
+      took = subst (λ z. TookOut r z y) (lent_is fits number x u v inside k slot lent lies) took_lent
+
+      take_asks : (z : List (Event M)) → EndsIn (hand_at number v.0).seen z → LeavesOneEvent fits number (passes z y) v.0
       take_asks z ends =
           subst (λ k. LeavesOneEvent fits number (passes k y) v.0) (EndsIn-same (hand_at number v.0).seen x z inside.found ends)
           (asks r took)
@@ -98,7 +105,14 @@ module _ {M W : Type 0} (fits : W → ℕ → M → Type 0) (id : TableId) (numb
           asks answer.Closed t = absurd t
           asks answer.Aborted t = absurd t
 
-      module _ (out : Seat M W) (gone : lock.Left (hand_at number) (TellsOrder fits number) y v out) where
+      pub take_leaves : lock.MayPass (hand_at number) (LeavesOneEvent fits number) number (v.0, (k, Some y) ∷ rest v.1)
+      take_leaves = may_leave fits number x u v inside k slot y take_asks
+
+      module _ (out : Seat M W)
+          (passed : lock.Passed (hand_at number) (TellsOrder fits number) number (v.0, (k, Some y) ∷ rest v.1) out) where
+        gone : lock.Left (hand_at number) (TellsOrder fits number) y v out
+        gone = has_left fits number x u v inside k slot y out passed
+
         visit : Visit fits number x y u v v out
         visit = record { inside = inside; hands = refl; slots = refl; left = gone }
 

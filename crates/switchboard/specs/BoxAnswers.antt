@@ -1,5 +1,6 @@
--- What a pass of the board with a lock for each mailbox does while a mailbox is out.
-use Rattle.std.specs.Prelude.{◌≡◌, ℕ, List, [], ◌∷◌, ◌++◌, Some, None, IsSome, Result, Ok, Err, length, slice_get}
+-- What a pass of the board with a lock for each mailbox does while it is inside the lock of one.
+use Rattle.std.specs.Prelude.{◌≡◌, ℕ, List, [], ◌∷◌, ◌++◌, Option, Some, None, IsSome, Result, Ok, Err, length, slice_get}
+use Rattle.atomic_table.specs.Table.{rest}
 use Rattle.post_ledger.specs.declared.event.Event.{Event}
 use Rattle.post_ledger.specs.declared.event.Event.TheVariants.{Post, Take}
 use Rattle.post_ledger.specs.History.{posts, takes}
@@ -8,7 +9,7 @@ use Rattle.switchboard.specs.declared.calls.PostFault.TheVariants as fault
 use Rattle.switchboard.specs.declared.calls.Taken.{Taken}
 use Rattle.switchboard.specs.declared.calls.Taken.TheVariants as answer
 use Rattle.switchboard.specs.Knowing.{with_seen, counted_up}
-use Rattle.switchboard.specs.PerBox.{SeatView, News, HasOwn, Seat}
+use Rattle.switchboard.specs.PerBox.{SeatView, News, HasOwn}
 
 module _ {M : Type 0} where
   -- the oldest message that was not taken is taken out of the mailbox, or every one is
@@ -21,20 +22,30 @@ module _ {M : Type 0} where
   TookOut answer.Closed before after = ⊥
   TookOut answer.Aborted before after = ⊥
 
+  -- a mailbox's history after a post with this answer
+  abbrev pub after_post : ℕ → M → Result (Unit {0}) (PostFault M) → List (Event M) → List (Event M)
+  after_post number message (Ok u) history = history ++ Post number message ∷ []
+  after_post number message (Err f) history = history
+
+  -- the mailbox that lies in the slot that a seat took last lies there after the post
+  abbrev pub LiesAfter : ℕ → ℕ → M → Result (Unit {0}) (PostFault M) → List (ℕ × Option (List (Event M)))
+      → List (ℕ × Option (List (Event M))) → Type 0
+  LiesAfter to number message answer before after = (history : List (Event M)) → before ≡ (to, Some history) ∷ rest before
+      → after ≡ (to, Some (after_post number message answer history)) ∷ rest before
+
 module _ {M W : Type 0} (fits : W → ℕ → M → Type 0) where
   -- the seat has seen more, and its passes made no event
   abbrev pub SawMore : SeatView M W → SeatView M W → Type 0
   SawMore before after = News fits before after.seen × HasOwn fits before after.seen.order
 
-  -- the message is put in, on a board that is not aborted, and is counted up; or it comes back, and the mailbox stays
-  abbrev pub PutIn : ℕ → ℕ → M → Result (Unit {0}) (PostFault M) → List (Event M) → List (Event M) → Seat M W → Seat M W → Type 0
-  PutIn number job message (Ok u) old new before after = SawMore before.0 after.0 × (after.0.seen.aborted ≡ None)
-      × (after ≡ (counted_up job (with_seen after.0.seen before.0), before.1))
-      × (new ≡ old ++ Post number message ∷ [])
-  PutIn number job message (Err (fault.Spent back)) old new before after = ⊥
-  PutIn number job message (Err (fault.Memory back)) old new before after = SawMore before.0 after.0 × (after.0.seen.aborted ≡ None)
-      × (after ≡ (with_seen after.0.seen before.0, before.1))
-      × (new ≡ old) × (back ≡ message)
-  PutIn number job message (Err (fault.Aborted back)) old new before after = SawMore before.0 after.0 × IsSome after.0.seen.aborted
-      × (after ≡ (with_seen after.0.seen before.0, before.1))
-      × (new ≡ old) × (back ≡ message)
+  -- the message is put in, on a board that is not aborted, and is counted up; or it comes back
+  abbrev pub PutIn : ℕ → M → Result (Unit {0}) (PostFault M) → SeatView M W → SeatView M W → Type 0
+  PutIn job message (Ok u) before after = SawMore before after × (after.seen.aborted ≡ None)
+      × (after ≡ counted_up job (with_seen after.seen before))
+  PutIn job message (Err (fault.Spent back)) before after = ⊥
+  PutIn job message (Err (fault.Memory back)) before after = SawMore before after × (after.seen.aborted ≡ None)
+      × (after ≡ with_seen after.seen before)
+      × (back ≡ message)
+  PutIn job message (Err (fault.Aborted back)) before after = SawMore before after × IsSome after.seen.aborted
+      × (after ≡ with_seen after.seen before)
+      × (back ≡ message)

@@ -43,11 +43,11 @@ abbrev pub HasOwnJob : {M W : Type 0} → SeatView M W → ℕ → Type 0
 HasOwnJob {M} view job =
     (lane : Own M) × (view.lanes ≡ lane ∷ []) × (own lane.number view.seen.order ≡ lane.events) × HasJob lane.number job view.seen.order
 
--- a seat of the board's table: what it knows, and the slots that it has emptied
+-- a seat of the board's table: what it knows, and the slots that it holds, with what lies in them
 abbrev pub Seat : Type 0 → Type 0 → Type 0
 Seat M W = table.Me (Option (List (Event M))) (SeatView M W)
 
--- what lies in the slots of the table: a mailbox, or nothing while one is out
+-- what lies in the slots of the table: a mailbox, or nothing while a seat holds the slot
 abbrev pub Slots : Type 0 → Type 0
 Slots M = List (maybe.Option (Option (List (Event M))))
 
@@ -187,10 +187,10 @@ module _ {M W : Type 0} where
         × ((lane : Own M) (event : Event M) → before.lanes ≡ lane ∷ [] → left ≡ found ++ event ∷ []
         → Recorded mailbox lane event found before after)
 
-    -- the seat is inside the lock of a mailbox, whose history is out, and is the part of the order that the seat has
-    -- seen then
+    -- the seat is inside the lock of a mailbox, whose history lies in its slot, and is the part of the order that the
+    -- seat has seen then
     pub record IsInside (mailbox : ℕ) (history : List (Event M)) (earlier later : Seat M W) : Type 0 where
-      pub out : later.1 ≡ (mailbox, None) ∷ earlier.1
+      pub lies : later.1 ≡ (mailbox, Some history) ∷ earlier.1
       pub after : later.0 ≡ with_seen later.0.seen (with_hand mailbox (hand_at mailbox later.0) earlier.0)
       pub inside : (ticket : ℕ) × ((hand_at mailbox later.0).inside ≡ ticket ∷ [])
       pub tickets : (hand_at mailbox later.0).tickets ≡ []

@@ -1,11 +1,13 @@
 //! The board with a lock for each mailbox.
-ghost use Rattle.std.specs.Prelude.{◌≡◌, ℕ, Bool, ◌<◌, ◌≤◌, ◌∷◌, map, [], MatchResult, vec_len};
-ghost use Rattle.std.specs.Prelude.{vec_capacity};
+ghost use Rattle.std.specs.Prelude.{◌≡◌, ℕ, Bool, ◌<◌, ◌≤◌, ◌∷◌, map, [], List, Some, MatchResult};
+ghost use Rattle.std.specs.Prelude.{vec_len, vec_capacity};
+ghost use Rattle.atomic_table.specs.Table.{rest};
 ghost use Rattle.ticket_lock.specs.Calls.{IsSameSeat};
+ghost use Rattle.post_ledger.specs.declared.event.Event.{Event};
 ghost use Rattle.post_ledger.specs.Orders.{HasJob};
 ghost use Rattle.switchboard.specs.Promises.{WasPosted, WasRefused, AreAll, Settles};
 ghost use Rattle.switchboard.specs.PerBox.{IsBoardTable, HasOwnJob};
-ghost use Rattle.switchboard.specs.BoxAnswers.{TookOut, PutIn};
+ghost use Rattle.switchboard.specs.BoxAnswers.{TookOut, PutIn, LiesAfter};
 
 use crate::board::Board;
 use crate::calls::{Cause, Job, PostFault, Taken};
@@ -22,7 +24,7 @@ use atomic_table::Table;
 use post_ledger::{Ledger, Mailbox};
 use std::alloc::{AllocError, Allocator};
 use std::sync::Wait;
-use ticket_lock::Spent;
+use ticket_lock::{Spent, value_at};
 
 pub(crate) type BoxTable<M, W, A> = Table<
     Option<Mailbox<M, A>>,
@@ -53,11 +55,11 @@ fn take_out<M: Copy, A: Allocator>(mailbox: &mut Mailbox<M, A>) -> Taken<M>
     }
 }
 
-/// Puts a message into the mailbox, which is out, if the board is not aborted, and counts it up.
+/// Puts a message into mailbox `to`, whose lock the seat is inside, if the board is not aborted, and counts it up.
 fn put<F: Fn(), W, M: Mail<W>, A: Allocator>(
     shared: &Boards<M, W, A>,
     seat: &mut BoxSeat<M, W, A>,
-    mailbox: &mut Mailbox<M, A>,
+    to: u8,
     number: u8,
     job: &Job,
     message: M,
@@ -67,14 +69,16 @@ fn put<F: Fn(), W, M: Mail<W>, A: Allocator>(
     requires table { (seat.old.table_id ≡ shared.now.table_id) × (0 < shared.now.table_id.words) }
     requires job { HasOwnJob seat.old.me.0 job.now }
     requires budget { 0 < seat.old.me.0.budget }
+    requires lies { (history : List (Event M))
+        × (seat.old.me.1 ≡ (to, Some history) ∷ rest seat.old.me.1) }
     ensures { IsSameSeat seat.old seat.new
-        × PutIn M.fits number job.now message result mailbox.old mailbox.new seat.old.me
-        seat.new.me }
+        × PutIn M.fits job.now message result seat.old.me.0 seat.new.me.0
+        × LiesAfter to number message result seat.old.me.1 seat.new.me.1 }
 {
     if look(shared, seat) >= ABORTED {
         return Err(PostFault::Aborted(message));
     }
-    match mailbox.post(number, message) {
+    match value_at(seat, shared, usize::from(to)).post(number, message) {
         Err(back) => Err(PostFault::Memory(back)),
         Ok(()) => {
             count_up(shared, seat, job);
@@ -108,17 +112,9 @@ impl<M: Mail<W>, W, A: Allocator> LockPerBox<M, W, A> {
         }
         pass.left -= 1;
         let shared = &self.table.shared;
-        let mut mailbox = enter_box(rt, shared, &mut pass.seat, to);
-        let answer = put(
-            shared,
-            &mut pass.seat,
-            &mut mailbox,
-            pass.number,
-            job,
-            message,
-            held,
-        );
-        leave_box(shared, &mut pass.seat, to, mailbox);
+        enter_box(rt, shared, &mut pass.seat, to);
+        let answer = put(shared, &mut pass.seat, to, pass.number, job, message, held);
+        leave_box(shared, &mut pass.seat, to);
         answer
     }
 }
@@ -180,9 +176,9 @@ impl<M: Mail<W>, W, A: Allocator> Board<M, W, A> for LockPerBox<M, W, A> {
         if found >= ABORTED {
             return Ok(Taken::Aborted);
         }
-        let mut mailbox = enter_box(rt, shared, &mut pass.seat, pass.number);
-        let answer = take_out(&mut mailbox);
-        leave_box(shared, &mut pass.seat, pass.number, mailbox);
+        enter_box(rt, shared, &mut pass.seat, pass.number);
+        let answer = take_out(value_at(&mut pass.seat, shared, usize::from(pass.number)));
+        leave_box(shared, &mut pass.seat, pass.number);
         Ok(answer)
     }
 
@@ -198,9 +194,9 @@ impl<M: Mail<W>, W, A: Allocator> Board<M, W, A> for LockPerBox<M, W, A> {
         pass.left -= 1;
         let Job { take } = job;
         let shared = &self.table.shared;
-        let mut mailbox = enter_box(rt, shared, &mut pass.seat, pass.number);
-        mailbox.done(take);
-        leave_box(shared, &mut pass.seat, pass.number, mailbox);
+        enter_box(rt, shared, &mut pass.seat, pass.number);
+        value_at(&mut pass.seat, shared, usize::from(pass.number)).done(take);
+        leave_box(shared, &mut pass.seat, pass.number);
         count_down(shared, &mut pass.seat);
         Ok(())
     }

@@ -1,7 +1,8 @@
-use Rattle.std.proofs.Common.{◌≡◌, ◌∙◌, refl, sym, ap, subst, arith}
+use Rattle.std.proofs.Common.{◌≡◌, [], ◌∷◌, ◌++◌, ◌∙◌, refl, sym, ap, subst, arith}
+use Rattle.post_ledger.specs.declared.event.Event.TheVariants.{Post}
 use Rattle.switchboard.specs.PerBox.{HasOwn, News, Seat}
 use Rattle.switchboard.specs.Knowing.{counted_up, with_seen}
-use Rattle.switchboard.proofs.BoxPuts.{flagged, job_seen, not_flagged}
+use Rattle.switchboard.proofs.BoxPuts.{flagged, job_seen, lies_written, not_flagged}
 use Rattle.switchboard.proofs.lock_per_box.board.put.Goals as goal
 
 pub count_up-requires-clause-job : goal.count_up-requires-clause-job
@@ -24,10 +25,10 @@ returns-then-look-ge-ABORTED g c =
       (
         (seen.news, seen.own),
         flagged seen.low c.look.new.seat.me.0.seen.aborted seen.small (omega (arith, large, seen.found)),
-        seen.after,
-        refl,
+        ap (λ (z : Seat g.row.M.Denot g.row.W.Denot). z.0) seen.after,
         refl,
       ),
+      (λ history lies. ap (λ (z : Seat g.row.M.Denot g.row.W.Denot). z.1) seen.after ∙ lies),
     )
 
 pub returns-in-Err : goal.returns-in-Err
@@ -38,10 +39,12 @@ returns-in-Err g c =
       (
         (seen.news, seen.own),
         not_flagged seen.low c.look.new.seat.me.0.seen.aborted (omega (arith, small, seen.found)),
-        seen.after,
-        c.in-Err.ensures.err.1,
+        ap (λ (z : Seat g.row.M.Denot g.row.W.Denot). z.0) seen.after,
         c.in-Err.ensures.err.0,
       ),
+      (λ history lay.
+          lies_written c.from.result c.args.to c.from.ensures (λ h. h) _ _ history c.look.new.seat.me.1 c.args.seat.now.me.1
+          (ap (λ (z : Seat g.row.M.Denot g.row.W.Denot). z.1) seen.after) c.value_at.ensures.value lay c.in-Err.ensures.err.1),
     )
 
 pub returns-in-Ok : goal.returns-in-Ok
@@ -56,8 +59,13 @@ returns-in-Ok g c =
         (subst (λ s. News g.M.Mail.fits m.0 s) (sym same) seen.news, subst (λ s. HasOwn g.M.Mail.fits m.0 s.order) (sym same) seen.own),
         ap (λ s. s.aborted) same
             ∙ not_flagged seen.low c.look.new.seat.me.0.seen.aborted (omega (arith, small, seen.found)),
-        up.1 ∙ ap (λ (z : Seat g.row.M.Denot g.row.W.Denot). (counted_up c.args.job.now z.0, z.1)) seen.after
-            ∙ ap (λ s. (counted_up c.args.job.now (with_seen s m.0), m.1)) (sym same),
-        c.in-Ok.ensures.ok,
+        ap (λ (z : Seat g.row.M.Denot g.row.W.Denot). z.0) up.1
+            ∙ ap (λ (z : Seat g.row.M.Denot g.row.W.Denot). counted_up c.args.job.now z.0) seen.after
+            ∙ ap (λ s. counted_up c.args.job.now (with_seen s m.0)) (sym same),
       ),
+      (λ history lay.
+          ap (λ (z : Seat g.row.M.Denot g.row.W.Denot). z.1) up.1
+          ∙ lies_written c.from.result c.args.to c.from.ensures (λ h. h ++ Post c.args.number c.args.message ∷ []) _ _ history
+          c.look.new.seat.me.1 m.1 (ap (λ (z : Seat g.row.M.Denot g.row.W.Denot). z.1) seen.after) c.value_at.ensures.value lay
+          c.in-Ok.ensures.ok),
     )

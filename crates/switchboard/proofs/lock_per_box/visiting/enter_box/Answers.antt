@@ -6,12 +6,12 @@ use Rattle.switchboard.proofs.lock_per_box.visiting.enter_box.Goals as goal
 
 pub returns : goal.returns
 returns g c =
-    let did = c.enter_when_free_at-mailbox.ensures in
+    let did = c.come_when_free_at.ensures in
     let m = c.args.seat.now.me in
-    let w = c.enter_when_free_at-mailbox.new.seat.me in
-    let x = c.enter_when_free_at-mailbox.result.1 in
+    let w = c.come_when_free_at.new.seat.me in
     let same = c.from.ensures in (
       did.0,
-      subst (λ q. IsInside g.M.Mail.fits q x m w) same
-          (inside_is g.M.Mail.fits c.from.result _ x m w (subst (λ q. CanDraw (hand_at q m.0)) (sym same) c.requires.ready) did.1),
+      did.1,
+      subst (λ q. IsInside g.M.Mail.fits q did.1 m w) same
+          (inside_is g.M.Mail.fits c.from.result _ did.1 m w (subst (λ q. CanDraw (hand_at q m.0)) (sym same) c.requires.ready) did.2),
     )
