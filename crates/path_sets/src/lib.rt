@@ -13,6 +13,7 @@ mod laws;
 mod ordered;
 mod path_set;
 mod points;
+mod slots;
 
 pub use diagrams::diagram_edges::DiagramEdges;
 pub use edge_limit::{EdgeLimit, MOST_EDGES};
@@ -22,3 +23,4 @@ pub use laws::{
 pub use ordered::ordered_edges::OrderedEdges;
 pub use path_set::PathSet;
 pub use points::halves::Halves;
+pub use slots::slot_edges::SlotEdges;

@@ -8,7 +8,7 @@ use crate::points::halves::Halves;
 use language::{Point, Word};
 
 /// How many points a block has: one for each bit of a mask.
-const BLOCK: usize = 64;
+pub(crate) const BLOCK: usize = 64;
 
 /// The key of a mask: the valuation on entry, the valuation at the points, and the number of their block.
 #[derive(Clone, Copy, PartialEq, Eq, Hash)]

@@ -1,0 +1,22 @@
+use Rattle.std.proofs.Common.{◌≡◌, ℕ, Some, slice_get, slice_index_or, ap, subst}
+use Rattle.path_sets.specs.declared.slots.slot.Slot.{Slot}
+use Rattle.path_sets.specs.Slots.{IsPlaceFor}
+use Rattle.path_sets.proofs.SlotLemmas.{all_alike, none_found, none_there}
+use Rattle.path_sets.proofs.slots.slots.Slots.grow.Given as given
+use Rattle.path_sets.proofs.slots.slots.Slots.grow.Goals as goal
+use Rattle.path_sets.proofs.slots.slots.Slots.grow.Goals.{After-as_slice-slot-items}
+
+-- the slots that are made are free
+free : (g : given.Over) (c : After-as_slice-slot-items g) (j : ℕ) (x : Slot) → slice_get c.in_ok-slots.slots.items j ≡ Some x → x.mask ≡ 0
+free g c j x at =
+    ap (λ (s : Slot). s.mask) (all_alike _ _ j x (subst (λ xs. slice_get xs j ≡ Some x)
+    (c.in_ok-slots.ensures.items_if_clones_equal (λ y same. same)) at))
+
+pub loop-slot-init : goal.loop-slot-init
+loop-slot-init g c = (none_found c.in_ok-slots.slots.items (free g c), none_there c.in_ok-slots.slots.items (free g c))
+
+pub merge-requires-clause-place : goal.merge-requires-clause-place
+merge-requires-clause-place g c =
+    let none : Slot = record { key = 0; mask = 0 } in
+    let slot = slice_index_or c.as_slice-slot-items.result.now c.loop-slot.slot-index none in
+    subst (λ xs. IsPlaceFor xs slot.key c.in-Some.at) c.deref.ensures.value c.in-Some.ensures
