@@ -12,6 +12,7 @@ ghost use Rattle.summaries.specs.Exits.{AllPairsStay, IsInserted, IsPairAdded};
 use crate::kept_exit::KeptExit;
 use crate::outbox::index_in_32_bits;
 use crate::pair::Pair;
+use crate::short_list::append;
 use indexmap::{IndexMap, IndexSet};
 use language::Word;
 use std::alloc::{AllocError, Allocator};
@@ -52,7 +53,7 @@ fn insert_in_few<A: Allocator + Copy>(
         return Ok(None);
     }
     let at = few.len();
-    few.push(exit)?;
+    append(few, exit)?;
     Ok(Some(at))
 }
 

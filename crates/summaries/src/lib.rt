@@ -20,6 +20,7 @@ mod pair;
 mod reading;
 mod resuming;
 mod sending;
+mod short_list;
 mod summaries;
 mod table;
 mod table_fault;

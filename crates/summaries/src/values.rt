@@ -4,6 +4,7 @@ ghost use Rattle.std.specs.Prelude.{◌≡◌, [], ◌∷◌, ◌++◌, OnOk, On
 ghost use Rattle.std.specs.Mem.{FitsInMemory};
 ghost use Rattle.summaries.specs.Under.{values_in};
 
+use crate::short_list::append;
 use std::alloc::{AllocError, Allocator};
 use std::slice;
 
@@ -45,7 +46,7 @@ impl<V: Copy, A: Allocator> Values<V, A> {
                 many.push(value)?;
                 *self = Values::Many(many);
             }
-            Values::Many(many) => many.push(value)?,
+            Values::Many(many) => append(many, value)?,
         }
         Ok(())
     }

@@ -17,5 +17,5 @@ returns g c = (
   search_new exit_eq same_exit laws-law.refl c.args.exit c.as_slice.result.now c.args.few.now.items c.as_slice.ensures.value
       c.contains.result c.contains.ensures.value c.if-contains.false,
   omega arith,
-  c.in_ok-push.ensures.items,
+  c.in_ok-append.ensures.ok,
 )
