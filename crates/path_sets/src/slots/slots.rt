@@ -10,7 +10,7 @@ use crate::slots::slot::{FREE, Slot};
 use std::alloc::{AllocError, Allocator};
 
 /// How many slots a table begins with.
-const FIRST: usize = 4;
+const FIRST: usize = 8;
 
 /// The masks of one entry by their keys, in open addressing with linear probing.
 #[derive(Drop)]
@@ -123,10 +123,10 @@ impl<A: Allocator + Copy> Slots<A> {
         Ok(())
     }
 
-    /// Whether another slot may be used: an eighth of them stay free, so that searches end soon.
+    /// Whether another slot may be used: of sixteen and more an eighth stays free, so that searches end soon.
     #[inline(always)]
     fn has_room(&self) -> bool {
-        self.used < self.slots.len() - self.slots.len() / 8
+        self.used < self.slots.len() - self.slots.len() / 16 * 2
     }
 
     /// The slot for a key: the one that has it, or else a free one, for which more are made if it takes too many.
