@@ -3,7 +3,8 @@
 use crate::many::{agree, takes_each};
 use crate::nodes::counts;
 use crate::refused_nodes::refused_counts;
-use crate::sets::{keeps_each, steps};
+use crate::refused_steps::refused_steps;
+use crate::sets::{Kind, keeps_each, steps};
 use cases::{Sweep, Swept, first_word, sweep_before};
 use std::alloc::{AllocError, Global};
 
@@ -21,6 +22,7 @@ fn plain(alloc: Global, out: &mut String, line: &str) -> Result<(), AllocError> 
         Some(("set", words)) => steps(alloc, out, words),
         Some(("many", numbers)) => agree(alloc, out, numbers),
         Some(("nodes", words)) => counts(alloc, out, words),
+        Some(("refused", words)) => refused_steps(alloc, out, words),
         _ => Ok(()),
     }
 }
@@ -28,13 +30,16 @@ fn plain(alloc: Global, out: &mut String, line: &str) -> Result<(), AllocError> 
 /// Writes the result of a case whose allocations are refused in turn.
 fn refused(alloc: Global, out: &mut String, sweep: Sweep, line: &str) -> Result<(), AllocError> {
     let (head, text) = line.split_once(' ').unwrap_or((line, ""));
-    let (number, _) = first_word(text);
-    match head {
-        "many" => write_swept(out, takes_each(alloc, sweep, false, number), "taken"),
-        "ordered" => write_swept(out, takes_each(alloc, sweep, true, number), "taken"),
-        "set" => write_swept(out, keeps_each(alloc, sweep, true, number), "kept"),
-        "diagrams" => write_swept(out, keeps_each(alloc, sweep, false, number), "kept"),
-        "nodes" => refused_counts(alloc, out, sweep, text),
+    if head == "nodes" {
+        return refused_counts(alloc, out, sweep, text);
+    }
+    let (name, numbers) = text.split_once(' ').unwrap_or((text, ""));
+    match (head, Kind::named(name)) {
+        ("many", Some(kind)) => write_swept(out, takes_each(alloc, sweep, kind, numbers), "taken"),
+        ("set", Some(kind)) => {
+            let (different, _) = first_word(numbers);
+            write_swept(out, keeps_each(alloc, sweep, kind, different), "kept")
+        }
         _ => Ok(()),
     }
 }

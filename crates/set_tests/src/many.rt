@@ -1,10 +1,10 @@
-//! Many path edges in both kinds of sets: so many that sets of diagrams put what they gather into the
+//! Many path edges in all kinds of sets: so many that sets of diagrams put what they gather into the
 //! diagrams.
 
-use crate::sets::{contains, insert};
+use crate::sets::{Kind, contains, insert};
 use cases::{Outcome, Sweep, Swept, first_word};
 use language::Word;
-use path_sets::{DiagramEdges, OrderedEdges, PathSet};
+use path_sets::{DiagramEdges, OrderedEdges, PathSet, SlotEdges};
 use scarce::Scarce;
 use std::alloc::{AllocError, Allocator, Global};
 
@@ -21,15 +21,12 @@ struct Shape {
 /// The path edge of a number, in no order, of one of the eight entries whose turn it is.
 fn scattered(shape: Shape, number: u64) -> (Word, usize, Word) {
     let mixed = number.wrapping_mul(0x9e37_79b9_7f4a_7c15);
-    let values = mixed ^ mixed >> 29;
-    let kept = match shape.width {
-        64 => values,
-        width => values & (1u64 << (width % 64)).wrapping_sub(1),
-    };
+    let values = (mixed as Word) << 64 | (mixed ^ mixed >> 29) as Word;
+    let kept = values & (1u128 << (shape.width % 128)).wrapping_sub(1);
     let point = (mixed >> 40).checked_rem(shape.points).unwrap_or(0);
     let turns = number.checked_div(shape.turn).unwrap_or(0);
     let entry = (turns as Word) << 3 | (mixed >> 61) as Word;
-    (entry, point as usize, kept as Word)
+    (entry, point as usize, kept)
 }
 
 /// Whether two sets have equally many members, and the same for the edges of the numbers below this one.
@@ -93,43 +90,46 @@ fn fill_alike<A: Allocator, B: Allocator, S: PathSet<A>, T: PathSet<B>>(
     Ok(alike && have_alike(&one, &other, shape, shape.count.saturating_mul(2)))
 }
 
-/// Whether a set of diagrams and an ordered set are alike after these edges.
-fn are_alike<A: Allocator + Copy>(
-    alloc: A,
-    ample: Global,
-    shape: Shape,
-) -> Result<bool, AllocError> {
-    fill_alike::<_, _, DiagramEdges<_>, OrderedEdges<_>>(alloc, ample, shape)
-}
-
-/// Writes whether both kinds of sets answer alike.
+/// Writes whether all kinds of sets answer alike.
 pub fn agree(alloc: Global, out: &mut String, numbers: &str) -> Result<(), AllocError> {
     let (count, rest) = first_word(numbers);
     let (width, rest) = first_word(rest);
     let (points, rest) = first_word(rest);
     let shape = Shape {
         count,
-        width: (width % 65) as u32,
+        width: (width % 128) as u32,
         points,
         turn: first_word(rest).0,
     };
-    let alike = are_alike(alloc, alloc, shape)?;
-    write!(out, "{}", if alike { "agree" } else { "differ" })
+    let diagrams = fill_alike::<_, _, DiagramEdges<_>, OrderedEdges<_>>(alloc, alloc, shape)?;
+    let slots = fill_alike::<_, _, SlotEdges<_>, OrderedEdges<_>>(alloc, alloc, shape)?;
+    let text = match (diagrams, slots) {
+        (true, true) => "agree",
+        (false, true) => "diagrams differ",
+        (true, false) => "slots differ",
+        (false, false) => "both differ",
+    };
+    write!(out, "{text}")
 }
 
-/// A set of diagrams, or an ordered one, that takes so many edges, whichever of its allocations is refused.
-pub fn takes_each(alloc: Global, sweep: Sweep, ordered: bool, count: u64) -> Swept {
+/// A set that takes so many edges, whichever of its allocations is refused.
+pub fn takes_each(alloc: Global, sweep: Sweep, kind: Kind, numbers: &str) -> Swept {
+    let (count, width) = first_word(numbers);
     let shape = Shape {
         count,
-        width: 10,
+        width: (first_word(width).0 % 128) as u32,
         points: 150,
         turn: 100,
     };
     sweep.of(alloc, |scarce: &Scarce<Global>| {
-        let alike = if ordered {
-            fill_alike::<_, _, OrderedEdges<_>, DiagramEdges<_>>(scarce, alloc, shape)
-        } else {
-            are_alike(scarce, alloc, shape)
+        let alike = match kind {
+            Kind::Ordered => {
+                fill_alike::<_, _, OrderedEdges<_>, DiagramEdges<_>>(scarce, alloc, shape)
+            }
+            Kind::Diagrams => {
+                fill_alike::<_, _, DiagramEdges<_>, OrderedEdges<_>>(scarce, alloc, shape)
+            }
+            Kind::Slots => fill_alike::<_, _, SlotEdges<_>, OrderedEdges<_>>(scarce, alloc, shape),
         };
         match alike {
             Ok(true) => Outcome::Whole,

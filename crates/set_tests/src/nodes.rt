@@ -55,6 +55,19 @@ pub fn filling<A: Allocator, S: PathSet<A>>(
     }
 }
 
+/// Takes the steps of a text; what they answer is dropped.
+pub fn fill<A: Allocator, S: PathSet<A>>(
+    alloc: Global,
+    set: &mut S,
+    words: &str,
+) -> Result<(), AllocError> {
+    let mut out = String::new(alloc);
+    for word in words.split_whitespace() {
+        filling(set, &mut out, word)?;
+    }
+    Ok(())
+}
+
 /// Writes what a step on a set of diagrams returns.
 fn step_of<A: Allocator + Copy>(
     set: &mut DiagramEdges<A>,

@@ -1,25 +1,12 @@
 //! Inner nodes that are counted if memory is refused.
 
-use crate::nodes::filling;
+use crate::nodes::fill;
 use crate::sets::{Spot, contains, spot_of};
 use cases::{Outcome, Sweep, Swept};
 use language::Word;
 use path_sets::{DiagramEdges, OrderedEdges, PathSet};
 use scarce::Scarce;
 use std::alloc::{AllocError, Allocator, Global};
-
-/// Takes the steps of a text; what they answer is dropped.
-fn fill<A: Allocator, S: PathSet<A>>(
-    alloc: Global,
-    set: &mut S,
-    words: &str,
-) -> Result<(), AllocError> {
-    let mut out = String::new(alloc);
-    for word in words.split_whitespace() {
-        filling(set, &mut out, word)?;
-    }
-    Ok(())
-}
 
 /// Whether two sets have equally many members, and the same for 1,300 valuations at a point and at the next
 /// one.

@@ -1,10 +1,31 @@
 //! Sets of path edges.
 
+use crate::nodes::filling;
 use cases::{Outcome, Sweep, Swept, first};
 use language::Word;
-use path_sets::{DiagramEdges, OrderedEdges, PathSet};
+use path_sets::{DiagramEdges, OrderedEdges, PathSet, SlotEdges};
 use scarce::Scarce;
 use std::alloc::{AllocError, Allocator, Global};
+
+/// A kind of sets.
+#[derive(Clone, Copy, Debug)]
+pub enum Kind {
+    Ordered,
+    Diagrams,
+    Slots,
+}
+
+impl Kind {
+    /// The kind that a row names.
+    pub fn named(name: &str) -> Option<Kind> {
+        match name {
+            "ordered" => Some(Kind::Ordered),
+            "diagrams" => Some(Kind::Diagrams),
+            "slots" => Some(Kind::Slots),
+            _ => None,
+        }
+    }
+}
 
 /// An entry and a point.
 pub type Spot = (Word, usize);
@@ -43,28 +64,29 @@ pub fn contains<A: Allocator, S: PathSet<A>>(set: &S, edge: (Word, usize, Word))
     set.contains(edge.0, edge.1, edge.2)
 }
 
-/// Writes what each step on an empty ordered set returns, and on one of diagrams if that differs.
+/// Writes what each step on an empty ordered set returns, and on one of diagrams and one of slots where that differs.
 pub fn steps(alloc: Global, out: &mut String, words: &str) -> Result<(), AllocError> {
-    let mut other = String::new(alloc);
-    steps_of::<_, OrderedEdges<_>>(alloc, out, words)?;
-    steps_of::<_, DiagramEdges<_>>(alloc, &mut other, words)?;
-    if out.as_str() == other.as_str() {
-        return Ok(());
+    let ordered = steps_of::<OrderedEdges<_>>(alloc, words)?;
+    let diagrams = steps_of::<DiagramEdges<_>>(alloc, words)?;
+    let slots = steps_of::<SlotEdges<_>>(alloc, words)?;
+    out.push_str(ordered.as_str())?;
+    if diagrams.as_str() != ordered.as_str() {
+        write!(out, "diagrams: {}", diagrams.as_str())?;
     }
-    write!(out, "diagrams: {}", other.as_str())
-}
-
-/// Writes what each step on an empty set of the type `S` returns.
-fn steps_of<A: Allocator, S: PathSet<A>>(
-    alloc: A,
-    out: &mut String,
-    words: &str,
-) -> Result<(), AllocError> {
-    let mut set = S::empty(alloc);
-    for word in words.split_whitespace() {
-        step(&mut set, out, word)?;
+    if slots.as_str() != ordered.as_str() {
+        write!(out, "slots: {}", slots.as_str())?;
     }
     Ok(())
+}
+
+/// What each step on an empty set of the type `S` returns.
+fn steps_of<S: PathSet<Global>>(alloc: Global, words: &str) -> Result<String, AllocError> {
+    let mut out = String::new(alloc);
+    let mut set = S::empty(alloc);
+    for word in words.split_whitespace() {
+        filling(&mut set, &mut out, word)?;
+    }
+    Ok(out)
 }
 
 /// Writes what a step on a set returns.
@@ -146,14 +168,11 @@ fn outcome<'a, S: PathSet<&'a Scarce<Global>>>(
     }
 }
 
-/// A set of diagrams, or an ordered one, that keeps a number of different edges, whichever of its allocations is
-/// refused.
-pub fn keeps_each(alloc: Global, sweep: Sweep, ordered: bool, different: u64) -> Swept {
-    sweep.of(alloc, |scarce: &Scarce<Global>| {
-        if ordered {
-            outcome::<OrderedEdges<_>>(scarce, different)
-        } else {
-            outcome::<DiagramEdges<_>>(scarce, different)
-        }
+/// A set that keeps a number of different edges, whichever of its allocations is refused.
+pub fn keeps_each(alloc: Global, sweep: Sweep, kind: Kind, different: u64) -> Swept {
+    sweep.of(alloc, |scarce: &Scarce<Global>| match kind {
+        Kind::Ordered => outcome::<OrderedEdges<_>>(scarce, different),
+        Kind::Diagrams => outcome::<DiagramEdges<_>>(scarce, different),
+        Kind::Slots => outcome::<SlotEdges<_>>(scarce, different),
     })
 }
