@@ -1,6 +1,6 @@
 //! A table of masks: slots that are searched one after another from the home of a key.
 
-ghost use Rattle.std.specs.Prelude.{◌≡◌, ◌≢◌, ◌<◌, ◌≤◌, ℕ, [], length, IfOk, OnErr, OnOk, IsTrue};
+ghost use Rattle.std.specs.Prelude.{◌≡◌, ◌≢◌, ◌<◌, ◌≤◌, ℕ, [], length, IfOk, OnErr};
 ghost use Rattle.path_sets.specs.Masks.{bit_of};
 ghost use Rattle.path_sets.specs.Slots.{home_in, slots_have, AreFound, HasMerged, HaveSame, IsFirst};
 ghost use Rattle.path_sets.specs.Slots.{IsKeyIn, IsPlaceFor, IsSought, PutsPoint};
