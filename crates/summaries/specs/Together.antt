@@ -10,14 +10,17 @@ use Rattle.flow_graph.specs.Numbers.{NumberedMessage, IsNumberOf}
 use Rattle.summaries.specs.declared.due.Caller.{Caller}
 use Rattle.summaries.specs.declared.due.Caller.TheVariants.{Starter}
 use Rattle.summaries.specs.declared.due.Due.TheVariants.{Entry}
+use Rattle.summaries.specs.declared.exits.Exits.{Exits}
 use Rattle.summaries.specs.declared.found.Found.{Found}
+use Rattle.summaries.specs.declared.groups.Groups.{Groups}
 use Rattle.summaries.specs.declared.exits.Place.{Place}
 use Rattle.summaries.specs.declared.pair.Pair.{Pair}
 use Rattle.summaries.specs.declared.table.Table.{Table}
 use Rattle.summaries.specs.Under.{under}
 use Rattle.summaries.specs.Mails.{AddressedMail, mail}
 use Rattle.summaries.specs.Dues.{due_of}
-use Rattle.summaries.specs.Found.{pairs_in, TookMessage}
+use Rattle.summaries.specs.Exits.{pair_at}
+use Rattle.summaries.specs.Found.{TookMessage}
 use Rattle.summaries.specs.Tables.{graph_of, procedure_of, limit_of, failure, answers_of, IsTable, IsNew, IsQuiet}
 use Rattle.summaries.specs.Effects.{Effect}
 use Rattle.summaries.specs.Tabulated.{IsAscending, ArePairsAscending}
@@ -40,12 +43,16 @@ module _ {GraphAlloc Alloc Edges : Type 0} where
   abbrev pub HaveLimit : ℕ → List (Table GraphAlloc Alloc Edges) → Type 0
   HaveLimit limit ts = (number : ℕ) (reached : Table GraphAlloc Alloc Edges) → slice_get ts number ≡ Some reached → limit_of reached ≡ limit
 
--- The summary has the entries that a table has taken, and the pairs that it has found, both ascending.
-pub record IsReadOff {Alloc : Type 0} (found : Found Alloc) (summary : Effect) : Type 0 where
+-- The summary has the entries that have callers, and the pairs of the exits, both ascending.
+pub record IsSummaryOf {Alloc : Type 0} (callers : Groups ℕ Caller Alloc) (exits : Exits Alloc) (summary : Effect) : Type 0 where
   pub ascend : IsAscending summary.entries
-  pub entries : (own : ℕ) → Member own summary.entries ↔ ((from : Caller) × Member from (under nat_eq found.entries.by_key own))
+  pub entries : (own : ℕ) → Member own summary.entries ↔ ((from : Caller) × Member from (under nat_eq callers.by_key own))
   pub pairs_ascend : ArePairsAscending summary.pairs
-  pub pairs : (item : Pair) → Member item summary.pairs ↔ ((at : Place) × (pairs_in found at ≡ Some item))
+  pub pairs : (item : Pair) → Member item summary.pairs ↔ ((at : Place) × (pair_at exits at ≡ Some item))
+
+-- The summary has the entries that a table has taken, and the pairs that it has found.
+abbrev pub IsReadOff : {Alloc : Type 0} → Found Alloc → Effect → Type 0
+IsReadOff found = IsSummaryOf found.entries found.exits
 
 module _ {GraphAlloc Alloc Edges : Type 0} where
   -- The summaries are those of the tables, one for each, in their order.

@@ -11,7 +11,7 @@ ghost use Rattle.summaries.specs.declared.exits.Place.{Place};
 ghost use Rattle.summaries.specs.Exits.{pair, pair_at};
 ghost use Rattle.summaries.specs.Readings.{pairs_of};
 ghost use Rattle.summaries.specs.Tabulated.{IsAscending, ArePairsAscending};
-ghost use Rattle.summaries.specs.Together.{AreReadOff, IsReadOff};
+ghost use Rattle.summaries.specs.Together.{AreReadOff, IsReadOff, IsSummaryOf};
 
 use crate::due;
 use crate::exits::Exits;
@@ -120,16 +120,20 @@ fn pairs<A: Allocator + Copy>(alloc: A, exits: &Exits<A>) -> Result<Vec<Pair, A>
     Ok(pairs)
 }
 
-/// What is found, as a summary.
-fn summary_of<A: Allocator + Copy>(alloc: A, found: &Found<A>) -> Result<Summary<A>, AllocError>
-    ensures { IfOk result (IsReadOff found.now) }
+/// The entries and the exits of a procedure, as a summary.
+fn summary_of<A: Allocator + Copy>(
+    alloc: A,
+    callers: &Groups<Word, due::Caller, A>,
+    exits: &Exits<A>,
+) -> Result<Summary<A>, AllocError>
+    ensures { IfOk result (IsSummaryOf callers.now exits.now) }
 {
-    let entries = entries(alloc, &found.entries)?;
-    let pairs = pairs(alloc, &found.exits)?;
+    let entries = entries(alloc, callers)?;
+    let pairs = pairs(alloc, exits)?;
     Ok(Summary { entries, pairs })
 }
 
-/// What a table found. The table gives back the memory of its path edges first.
+/// What a table found. First the table gives back all memory that this is not read from.
 pub fn read_off<G: Allocator, A: Allocator + Copy, S: PathSet<A>>(
     alloc: A,
     table: Table<'_, G, A, S>,
@@ -144,10 +148,24 @@ pub fn read_off<G: Allocator, A: Allocator + Copy, S: PathSet<A>>(
         found,
         fault: _,
     } = table;
+    let Found {
+        entries,
+        summaries,
+        sites,
+        exits,
+        outbox,
+        expanded,
+        pending,
+        last_exit: _,
+        last_entry: _,
+    } = found;
     drop(edges);
-    let summary = summary_of(alloc, &found);
-    drop(found);
-    summary
+    drop(summaries);
+    drop(sites);
+    drop(outbox);
+    drop(expanded);
+    drop(pending);
+    summary_of(alloc, &entries, &exits)
 }
 
 /// What the tables found, table by table.
@@ -159,7 +177,7 @@ pub fn read<G: Allocator, A: Allocator + Copy, S: PathSet<A>>(
 {
     let mut summaries = Vec::new(alloc);
     for table in tables {
-        summaries.push(summary_of(alloc, &table.found)?)?;
+        summaries.push(summary_of(alloc, &table.found.entries, &table.found.exits)?)?;
     }
     Ok(summaries)
 }
