@@ -8,7 +8,8 @@ use Rattle.language.specs.Lists.{Member, NoneTwice}
 use Rattle.language.proofs.Members.{member_left, member_right}
 use Rattle.summaries.specs.declared.edge.CallKey.{CallKey}
 use Rattle.flow_graph.specs.declared.exit.Exit.{Exit}
-use Rattle.summaries.specs.Found.{call, call_eq}
+use Rattle.summaries.specs.Calls.{call_eq}
+use Rattle.summaries.specs.Found.{call}
 use Rattle.path_sets.proofs.MaskKeyLemmas.{same_flag, same_by_two}
 use Rattle.summaries.proofs.Mails.{none_twice_with}
 use Rattle.path_sets.proofs.PlaceLemmas.{last_or}

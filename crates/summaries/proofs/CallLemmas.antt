@@ -13,7 +13,7 @@ use Rattle.language.proofs.Members.{member_map}
 use Rattle.path_sets.specs.Triples.{Triple, triple}
 use Rattle.flow_graph.specs.Flows.{entered_by}
 use Rattle.flow_graph.specs.Returns.{resumed_at}
-use Rattle.flow_graph.specs.Numbers.{NumberedMessage, GraphReaches, returns}
+use Rattle.flow_graph.specs.Numbers.{NumberedMessage, numbered_summary, GraphReaches, returns}
 use Rattle.flow_graph.specs.declared.flow.Flow.{Flow}
 use Rattle.flow_graph.specs.declared.graph.Graph.{Graph}
 use Rattle.flow_graph.proofs.ReachLemmas.{reaches_more}
@@ -26,13 +26,13 @@ use Rattle.summaries.specs.declared.found.Found.{Found}
 use Rattle.summaries.specs.declared.outbox.Outbox.{Outbox}
 use Rattle.summaries.specs.declared.outbox.Outgoing.{Outgoing}
 use Rattle.summaries.specs.declared.outbox.Outgoing.TheVariants.{EntryFor}
-use Rattle.summaries.specs.declared.groups.Groups.{Groups}
+use Rattle.summaries.specs.declared.calls.Calls.{Calls}
 use Rattle.summaries.specs.declared.pair.Pair.{Pair}
 use Rattle.summaries.specs.contracts.edge.CallKeyEq.TheImpl.Laws.{laws-law}
-use Rattle.summaries.specs.Under.{under}
+use Rattle.summaries.specs.Calls.{call_eq, sites_of, summaries_of}
 use Rattle.summaries.specs.Mails.{mail}
 use Rattle.summaries.specs.Dues.{due_of}
-use Rattle.summaries.specs.Found.{call, call_eq, path_edge, calls_in, pairs_in, entry_mail, mail_of, mails_in, TookMessage, HasSite}
+use Rattle.summaries.specs.Found.{call, path_edge, calls_in, pairs_in, entry_mail, mail_of, mails_in, TookMessage, HasSite}
 use Rattle.summaries.specs.Found.{IsPlaced}
 use Rattle.summaries.specs.Found.{IsIndexed}
 use Rattle.summaries.specs.Found.{IsOwed, IsGrounded}
@@ -46,14 +46,12 @@ use Rattle.summaries.proofs.Mails.{none_twice_with}
 use Rattle.summaries.proofs.PlaceLemmas.{HasMoreBehind, none_moved, placed_still, mails_still}
 use Rattle.summaries.proofs.TellLemmas.{gives_kept, gives_one, gives_known}
 
-module _ {A G : Type 0} (graph : Graph G) (q : ℕ) (f : Found A) (given : Outbox A) (sites : Groups CallKey PathEdge A)
-    (pending : Vec PathEdge A) where
-  -- what is found, with other sites, messages given and edges pending
+module _ {A G : Type 0} (graph : Graph G) (q : ℕ) (f : Found A) (given : Outbox A) (calls : Calls A) (pending : Vec PathEdge A) where
+  -- what is found, with other calls, messages given and edges pending
   abbrev pub asked_to : Found A
   asked_to = record {
     entries = f.entries;
-    summaries = f.summaries;
-    sites = sites;
+    calls = calls;
     exits = f.exits;
     outbox = given;
     expanded = f.expanded;
@@ -62,20 +60,24 @@ module _ {A G : Type 0} (graph : Graph G) (q : ℕ) (f : Found A) (given : Outbo
     last_entry = f.last_entry;
   }
 
-  -- the messages taken are the same
-  pub taken_there : (k : NumberedMessage) → TookMessage f k → TookMessage asked_to k
-  taken_there = taken_as f asked_to (λ a. refl) (λ c. refl)
+  -- the messages taken are the same, if each call leaves what it left
+  pub taken_there : summaries_of calls ≡ summaries_of f.calls → (k : NumberedMessage) → TookMessage f k → TookMessage asked_to k
+  taken_there same = taken_as f asked_to (λ a. refl) (λ c. ap (λ left. left c) same)
 
-  module _ (es ds : List Triple) (e : PathEdge) (s x back : ℕ) (flow : Flow G) (sound : IsGrounded graph q f es)
+  taken_before : summaries_of calls ≡ summaries_of f.calls → (k : NumberedMessage) → TookMessage asked_to k → TookMessage f k
+  taken_before same = taken_as asked_to f (λ a. refl) (λ c. ap (λ left. left c) (sym same))
+
+  module _ (left : summaries_of calls ≡ summaries_of f.calls) (es ds : List Triple) (e : PathEdge) (s x back : ℕ) (flow : Flow G)
+      (sound : IsGrounded graph q f es)
       (there : Member (triple_of e) es)
       (here : slice_get graph.flows.items e.point ≡ Some flow) (enters : entered_by flow e.values ≡ Some (s, x, back)) where
     reached : GraphReaches graph (TookMessage asked_to) e.entry e.point e.values
-    reached = reaches_more graph (TookMessage f) (TookMessage asked_to) taken_there e.entry e.point e.values
+    reached = reaches_more graph (TookMessage f) (TookMessage asked_to) (taken_there left) e.entry e.point e.values
         (sound.edge e.entry e.point e.values there)
 
     -- what is after the call is reached
     pub behind_reached : (t : Triple) →
-        OfSome (IsBehind graph e) (under call_eq f.summaries.by_key (call s x)) t →
+        OfSome (IsBehind graph e) (summaries_of f.calls (call s x)) t →
         GraphReaches graph (TookMessage asked_to) t.entry t.point t.values
     behind_reached t (b, m, (s', x', n', (fl, at, en), is)) =
         let call : (s', x', n') ≡ (s, x, back) =
@@ -83,35 +85,32 @@ module _ {A G : Type 0} (graph : Graph G) (q : ℕ) (f : Found A) (given : Outbo
         (sym en ∙ ap (λ w. entered_by w e.values) (same_Some fl flow (sym at ∙ here)) ∙ enters) in
         subst (λ u. GraphReaches graph (TookMessage asked_to) u.entry u.point u.values)
         (sym (is ∙ ap (λ (c : ℕ × ℕ × ℕ). triple e.entry c.2 (resumed_at graph e.point e.values b)) call))
-        (returns e.entry e.point e.values s x back b flow reached here enters m)
+        (returns e.entry e.point e.values s x back b flow reached here enters (taken_there left (numbered_summary s x b) m))
 
     -- so all edges are, if nothing else is added
     pub ask_only : ((t : Triple) → Member t ds →
-        OfSome (IsBehind graph e) (under call_eq f.summaries.by_key (call s x)) t ⊎
+        OfSome (IsBehind graph e) (summaries_of f.calls (call s x)) t ⊎
         Member t es) →
         (t : Triple) → Member t ds → GraphReaches graph (TookMessage asked_to) t.entry t.point t.values
     ask_only only t m = elim (only t m) [
       | inl w ↦ behind_reached t w
-      | inr was ↦ reaches_more graph (TookMessage f) (TookMessage asked_to) taken_there t.entry t.point t.values
+      | inr was ↦ reaches_more graph (TookMessage f) (TookMessage asked_to) (taken_there left) t.entry t.point t.values
           (sound.edge t.entry t.point t.values was)
     ]
 
     module _ (gave : AddsTo (λ m. m ≡ mail s (Entry (Proc q) x)) (mails_in q f) (mails_in q asked_to))
-        (added : under call_eq sites.by_key (call s x) ≡ under call_eq f.sites.by_key (call s x) ++ e ∷ [])
-        (others : (k : CallKey) → call_eq (call s x) k ≡ false → under call_eq sites.by_key k ≡ under call_eq f.sites.by_key k)
+        (added : sites_of calls (call s x) ≡ sites_of f.calls (call s x) ++ e ∷ [])
+        (others : (k : CallKey) → call_eq (call s x) k ≡ false → sites_of calls k ≡ sites_of f.calls k)
         (grown : Grows (OfSome (IsBehind graph e)
-        (under call_eq f.summaries.by_key (call s x))) es ds f.pending.items pending.items) where
+        (summaries_of f.calls (call s x))) es ds f.pending.items pending.items) where
       abbrev M : NumberedMessage → Type 0
       M = TookMessage asked_to
 
       pub asked_site : HasSite asked_to s x e
-      asked_site = added_is call_eq same_call (under call_eq f.sites.by_key) (under call_eq sites.by_key) (call s x)
-          e added others
+      asked_site = added_is call_eq same_call (sites_of f.calls) (sites_of calls) (call s x) e added others
 
-      site_or : (k : CallKey) (y : PathEdge) → Member y (under call_eq sites.by_key k) →
-          Member y (under call_eq f.sites.by_key k) ⊎ ((call s x ≡ k) × (e ≡ y))
-      site_or = added_or call_eq same_call (under call_eq f.sites.by_key) (under call_eq sites.by_key) (call s x)
-          e added others
+      site_or : (k : CallKey) (y : PathEdge) → Member y (sites_of calls k) → Member y (sites_of f.calls k) ⊎ ((call s x ≡ k) × (e ≡ y))
+      site_or = added_or call_eq same_call (sites_of f.calls) (sites_of calls) (call s x) e added others
 
       -- what is reached at the call of a site
       abbrev AtCall : CallKey → PathEdge → Type 0
@@ -122,7 +121,7 @@ module _ {A G : Type 0} (graph : Graph G) (q : ℕ) (f : Found A) (given : Outbo
 
       pub ask_step : (IsIndexed f → IsIndexed asked_to) → Step graph q f asked_to es ds
       ask_step indexed = record {
-        taken = taken_there;
+        taken = taken_there left;
         kept = grown.kept;
         edge = λ t m. elim (grown.only t m) [
           | inl w ↦ inr (behind_reached t w)
@@ -131,9 +130,8 @@ module _ {A G : Type 0} (graph : Graph G) (q : ℕ) (f : Found A) (given : Outbo
         new = grown.pending;
         stays = grown.stays;
         pending = grown.edges;
-        sites = λ s' x' a n v m. added_keeps call_eq same_call (under call_eq f.sites.by_key)
-            (under call_eq sites.by_key) (call s x) e added others (call s' x') (path_edge a n v)
-            m;
+        sites = λ s' x' a n v m. added_keeps call_eq same_call (sites_of f.calls) (sites_of calls) (call s x) e added others
+            (call s' x') (path_edge a n v) m;
         called = λ s' x' a n v m. elim (site_or (call s' x') (path_edge a n v) m) [
           | inl was ↦ inl was
           | inr is ↦ inr (subst (AtCall (call s' x')) is.1 (subst (λ k. AtCall k e) is.0 at_call))
@@ -150,10 +148,10 @@ module _ {A G : Type 0} (graph : Graph G) (q : ℕ) (f : Found A) (given : Outbo
         ];
         begun = λ from a h. inl h;
         ended = λ s' x' b a n v n' at enters' taken. elim (site_or (call s' x') (path_edge a n v) at) [
-          | inl was ↦ inl (was, taken)
+          | inl was ↦ inl (was, taken_before left (numbered_summary s' x' b) taken)
           | inr is ↦ inr (grown.all (triple a n' (resumed_at graph n v b)) (
             b,
-            subst (λ k. Member b (under call_eq f.summaries.by_key k)) (sym is.0) taken,
+            subst (λ k. Member b (summaries_of f.calls k)) (sym is.0) (taken_before left (numbered_summary s' x' b) taken),
             subst (λ (y : PathEdge). IsBehind graph y b (triple a n' (resumed_at graph n v b))) (sym is.1) (s', x', n', enters', refl),
           ))
         ];
@@ -202,19 +200,18 @@ was_given q f ds k at added here old m =
     (member_map (mail_of cs (pairs_in f) q) f.outbox.sent.items (EntryFor at) m)
 
 -- The entry of a call at its place among the calls is given, unless the call was known.
-module _ {A : Type 0} (q : ℕ) (f : Found A) (given : Outbox A) (sites : Groups CallKey PathEdge A) (pending : Vec PathEdge A) (k : CallKey)
-    (at : ℕ)
-    (added : keys sites.by_key ≡ insert_key call_eq (calls_in f) k) (here : slice_get (keys sites.by_key) at ≡ Some k) (known : Bool)
+module _ {A : Type 0} (q : ℕ) (f : Found A) (given : Outbox A) (calls : Calls A) (pending : Vec PathEdge A) (k : CallKey) (at : ℕ)
+    (added : keys calls.by_key ≡ insert_key call_eq (calls_in f) k) (here : slice_get (keys calls.by_key) at ≡ Some k) (known : Bool)
     (same : OnTrue known (given.sent.items ≡ f.outbox.sent.items))
     (more : OnFalse known (given.sent.items ≡ f.outbox.sent.items ++ EntryFor at ∷ [])) (old : IsIndexed f) where
   abbrev there : Found A
-  there = record f { sites = sites; outbox = given; pending = pending }
+  there = record f { calls = calls; outbox = given; pending = pending }
 
   abbrev ps : Place → Option Pair
   ps = pairs_in f
 
   abbrev ds : List CallKey
-  ds = keys sites.by_key
+  ds = keys calls.by_key
 
   still : (x : Outgoing) → Member x f.outbox.sent.items → IsPlaced ds ps x
   still x m = placed_still q (calls_in f) ps ds ps (calls_more (calls_in f) ds k added) (none_moved ps) x (old.placed x m)
@@ -236,7 +233,7 @@ module _ {A : Type 0} (q : ℕ) (f : Found A) (given : Outbox A) (sites : Groups
     pairs_once = old.pairs_once;
   }
 
-  mails_before : map (mail_of ds ps q) f.outbox.sent.items ≡ mails_in q f
+  pub mails_before : map (mail_of ds ps q) f.outbox.sent.items ≡ mails_in q f
   mails_before =
       mails_still q (calls_in f) ps ds ps (calls_more (calls_in f) ds k added) (none_moved ps) f.outbox.sent.items old.placed
 

@@ -42,7 +42,7 @@ module _ {A G : Type 0} (graph : Graph G) (q : ℕ) (f : Found A) (entries : Gro
     (others : (k : ℕ) → nat_eq a k ≡ false → under nat_eq entries.by_key k ≡ under nat_eq f.entries.by_key k) where
   -- what is found, with other entries, messages given and edges pending
   abbrev pub entered_to : Found A
-  entered_to = grown_to graph q f entries f.summaries given pending
+  entered_to = grown_to graph q f entries given pending
 
   abbrev M : NumberedMessage → Type 0
   M = TookMessage entered_to
@@ -87,7 +87,7 @@ module _ {A G : Type 0} (graph : Graph G) (q : ℕ) (f : Found A) (entries : Gro
     pub enter_only : ((t : Triple) → Member t ds → (t ≡ triple a graph.start a) ⊎ Member t es) → (t : Triple) →
         Member t ds → GraphReaches graph M t.entry t.point t.values
     enter_only =
-        grown_reached graph q f entries f.summaries given pending es ds (λ t. t ≡ triple a graph.start a) taken_entered start_reached sound
+        grown_reached graph q f entries given pending es ds (λ t. t ≡ triple a graph.start a) taken_entered start_reached sound
 
     told : (s : ℕ) (k : NumberedMessage) → IsExitTold q f a from (mail s (due_of k)) → IsOwed entered_to q s k
     told s k (b, m, (c, is, same)) =
@@ -105,14 +105,13 @@ module _ {A G : Type 0} (graph : Graph G) (q : ℕ) (f : Found A) (entries : Gro
         → ((x : Outgoing) → IsIndexed f → Member x given.sent.items → IsPlaced (calls_in f) (pairs_in f) x)
         → AddsTo (IsExitTold q f a from) (mails_in q f) (mails_in q entered_to) → Step graph q f entered_to es ds
     enter_step new grown placed gave =
-        grown_step graph q f entries f.summaries given pending es ds (λ t. t ≡ triple a graph.start a) taken_entered start_reached grown
+        grown_step graph q f entries given pending es ds (λ t. t ≡ triple a graph.start a) taken_entered start_reached grown
         (λ s k m. gives_kept (IsExitTold q f a from) (mails_in q f) (mails_in q entered_to) gave (mail s (due_of k)) m)
         (λ s k m. elim (gave.only (mail s (due_of k)) m) [ inl w ↦ inr (told s k w) | inr was ↦ inl was ])
         (λ c x h. elim (entry_or x (caller_of c) h) [
           | inl was ↦ inl was
           | inr is ↦ inr (grown.all (triple x graph.start x) (ap (λ y. triple y graph.start y) (sym is.0)))
         ])
-        (λ s x y c n v back at enters h. inl h)
         (λ x y c m h. elim (entry_or x (Proc c) h) [
           | inl was ↦ inl was
           | inr is ↦ inr (gave.all (mail c (summary_due q x y)) (

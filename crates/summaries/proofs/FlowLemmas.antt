@@ -16,7 +16,7 @@ use Rattle.summaries.proofs.StepLemmas.{Step, taken_as, grown_to, grown_reached,
 module _ {A G : Type 0} (graph : Graph G) (q : ℕ) (f : Found A) (pending : Vec PathEdge A) where
   -- what is found, with other edges pending
   abbrev pub led_to : Found A
-  led_to = grown_to graph q f f.entries f.summaries f.outbox pending
+  led_to = grown_to graph q f f.entries f.outbox pending
 
   -- the messages taken are the same
   pub taken_led : (k : NumberedMessage) → TookMessage f k → TookMessage led_to k
@@ -35,11 +35,11 @@ module _ {A G : Type 0} (graph : Graph G) (q : ℕ) (f : Found A) (pending : Vec
     -- so all edges are, if nothing else is added
     pub lead_only : ((t : Triple) → Member t ds → IsNext flow e t ⊎ Member t es) → (t : Triple) → Member t ds →
         GraphReaches graph (TookMessage led_to) t.entry t.point t.values
-    lead_only = grown_reached graph q f f.entries f.summaries f.outbox pending es ds (IsNext flow e) taken_led next_reached sound
+    lead_only = grown_reached graph q f f.entries f.outbox pending es ds (IsNext flow e) taken_led next_reached sound
 
     pub lead_step : (W : Triple → Type 0) → ((t : Triple) → W t → IsNext flow e t) → Grows W es ds f.pending.items pending.items →
         Step graph q f led_to es ds
     lead_step W some grown =
-        grown_step graph q f f.entries f.summaries f.outbox pending es ds W taken_led (λ t w. next_reached t (some t w)) grown
-        (λ s k m. m) (λ s k m. inl m) (λ from a h. inl h) (λ s x b a n v back at enters h. inl h)
+        grown_step graph q f f.entries f.outbox pending es ds W taken_led (λ t w. next_reached t (some t w)) grown
+        (λ s k m. m) (λ s k m. inl m) (λ from a h. inl h)
         (λ a b c m h. inl h) (λ old. old) (λ x old m. old.placed x m)

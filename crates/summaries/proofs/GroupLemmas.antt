@@ -1,37 +1,68 @@
 -- What is found by keys after a value of a map was written.
-use Rattle.std.proofs.Common.{◌≡◌, ℕ, Bool, true, false, cond, List, [], ◌∷◌, Some, Result, Ok, Err, slice_get}
+use Rattle.std.proofs.Common.{◌≡◌, ℕ, Bool, true, false, cond, List, [], ◌∷◌, Option, None, Some, slice_get, unwrap_or}
 use Rattle.std.proofs.Common.{zero, suc, refl, sym, ap, ◌∙◌}
 use Rattle.std.specs.Cmp.{IsEquivalence}
+use Rattle.std.specs.List.{position_or_len}
 use Rattle.std.specs.Map.{keys_of, values_of, lookup}
-use Rattle.std.specs.Result.{OnErr}
 use Rattle.std.proofs.lemmas.Option.{none-some, same_Some}
-use Rattle.summaries.specs.declared.values.Values.{Values}
-use Rattle.summaries.specs.Under.{values_in, values_if_any}
+use Rattle.indexmap.specs.IndexMap.{insert_entry}
+use Rattle.indexmap.specs.IndexSet.{insert_key}
+use Rattle.indexmap.proofs.SetLemmas.{keys_insert_entry, inserted_at}
 
-module _ {K V A : Type 0} (eq : K → K → Bool) (laws : IsEquivalence eq) (es : List (K × Values V A)) (k : K)
-    (old new : Values V A)
-    (had : lookup (eq k) es ≡ Some old) (same : values_in new ≡ values_in old) where
-  -- each key has the items that it had, if those of k are the same
-  pub same_after : {X E : Type 0} (r : Result X E) (fs : List (K × Values V A))
-      → ((j : K) → lookup (eq j) fs ≡ cond (eq k j) (Some new) (lookup (eq j) es))
-      → OnErr r ((j : K) → values_if_any (lookup (eq j) fs) ≡ values_if_any (lookup (eq j) es))
-  same_after (Ok _) fs is = tt
-  same_after (Err _) fs is = λ j. ap values_if_any (is j) ∙ by j (eq k j) refl
-    where
-      by : (j : K) (b : Bool) → eq k j ≡ b
-          → values_if_any (cond b (Some new) (lookup (eq j) es)) ≡ values_if_any (lookup (eq j) es)
-      by j true e = same ∙ ap values_if_any (sym had ∙ (λ n. lookup (λ x. laws.congr k j x e n) es))
-      by j false e = refl
-
-module _ {K V A : Type 0} (eq : K → K → Bool) (es fs : List (K × Values V A)) (k : K) (new : Values V A)
+-- something of a value, or of none, that was written to the key k
+module _ {K V X : Type 0} (eq : K → K → Bool) (of : Option V → X) (es fs : List (K × V)) (k : K) (new : V)
     (is : (j : K) → lookup (eq j) fs ≡ cond (eq k j) (Some new) (lookup (eq j) es)) where
-  -- the key that was written has the new items
-  pub added_after : eq k k ≡ true → (items : List V) → values_in new ≡ items → values_if_any (lookup (eq k) fs) ≡ items
-  added_after same items grown = ap values_if_any (is k) ∙ (λ j. values_if_any (cond (same j) (Some new) (lookup (eq k) es))) ∙ grown
+  -- each key has what it had, if that of k is the same
+  pub same_after : IsEquivalence eq → of (Some new) ≡ of (lookup (eq k) es) → (j : K) → of (lookup (eq j) fs) ≡ of (lookup (eq j) es)
+  same_after laws same j = ap of (is j) ∙ by (eq k j) refl
+    where
+      by : (b : Bool) → eq k j ≡ b → of (cond b (Some new) (lookup (eq j) es)) ≡ of (lookup (eq j) es)
+      by true e = same ∙ ap of (λ n. lookup (λ x. laws.congr k j x e n) es)
+      by false e = refl
+
+  -- so the functions of keys are the same
+  pub all_after : IsEquivalence eq → of (Some new) ≡ of (lookup (eq k) es)
+      → ◌≡◌ {A = K → X} (λ j. of (lookup (eq j) fs)) (λ j. of (lookup (eq j) es))
+  all_after laws same = λ n j. same_after laws same j n
+
+  -- the key that was written has what the new value has
+  pub added_after : eq k k ≡ true → (x : X) → of (Some new) ≡ x → of (lookup (eq k) fs) ≡ x
+  added_after same x grown = ap of (is k) ∙ (λ j. of (cond (same j) (Some new) (lookup (eq k) es))) ∙ grown
 
   -- and each other key what it had
-  pub others_after : (j : K) → eq k j ≡ false → values_if_any (lookup (eq j) fs) ≡ values_if_any (lookup (eq j) es)
-  others_after j apart = ap values_if_any (is j) ∙ (λ n. values_if_any (cond (apart n) (Some new) (lookup (eq j) es)))
+  pub others_after : (j : K) → eq k j ≡ false → of (lookup (eq j) fs) ≡ of (lookup (eq j) es)
+  others_after j apart = ap of (is j) ∙ (λ n. of (cond (apart n) (Some new) (lookup (eq j) es)))
+
+module _ {K V : Type 0} (eq : K → K → Bool) (es fs : List (K × V)) (k : K) (v : V)
+    (is : fs ≡ insert_entry eq es k v) where
+  -- the keys after an insertion
+  pub keys_after : keys_of fs ≡ insert_key eq (keys_of es) k
+  keys_after = ap keys_of is ∙ keys_insert_entry eq es k v
+
+  -- and the place of the key that was inserted
+  pub place_after : ((x : K) → eq x x ≡ true) → (i : ℕ) → i ≡ position_or_len (eq k) (keys_of es)
+      → (x : K) × (slice_get (keys_of fs) i ≡ Some x) × (eq k x ≡ true)
+  place_after itself i at =
+      let (x, here, same) = inserted_at eq itself es k v in
+      (x, (λ j. slice_get (keys_of (is j)) (at j)) ∙ here, same)
+
+-- something of a value that stands for none if it is missing
+pub of_unwrapped : {V X : Type 0} (of : Option V → X) (found : Option V) (default : V) → of (Some default) ≡ of None
+    → of (Some (unwrap_or found default)) ≡ of found
+of_unwrapped of None default same = same
+of_unwrapped of (Some v) default same = refl
+
+-- the key of the entry at an index
+pub key_at : {K X : Type 0} (es : List (K × X)) (i : ℕ) (e : K × X) → slice_get es i ≡ Some e → slice_get (keys_of es) i ≡ Some e.0
+key_at [] i e is = absurd (none-some e is)
+key_at (x ∷ es) zero e is = ap (λ p. Some p.0) (same_Some x e is)
+key_at (x ∷ es) (suc i) e is = key_at es i e is
+
+-- where no entry is there is no key
+pub no_key : {K X : Type 0} (es : List (K × X)) (i : ℕ) (k : K) → slice_get es i ≡ None → slice_get (keys_of es) i ≡ Some k → ⊥
+no_key [] i k none here = none-some k here
+no_key (e ∷ es) zero k none here = none-some e (sym none)
+no_key (e ∷ es) (suc i) k none here = no_key es i k none here
 
 -- the entry at an index, by its key and its value
 pub entry_at : {K X : Type 0} (es : List (K × X)) (i : ℕ) (k : K) (v : X) → slice_get (keys_of es) i ≡ Some k

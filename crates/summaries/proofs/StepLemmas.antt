@@ -25,7 +25,8 @@ use Rattle.summaries.specs.declared.due.Caller as rust
 use Rattle.summaries.specs.Under.{under}
 use Rattle.summaries.specs.Mails.{AddressedMail, mail}
 use Rattle.summaries.specs.Dues.{caller_of, due_of}
-use Rattle.summaries.specs.Found.{call, call_eq, path_edge, pair, mail_of, calls_in, pairs_in, mails_in, TookMessage, HasSite}
+use Rattle.summaries.specs.Calls.{summaries_of}
+use Rattle.summaries.specs.Found.{call, path_edge, pair, mail_of, calls_in, pairs_in, mails_in, TookMessage, HasSite}
 use Rattle.summaries.specs.Found.{HasExit, HasGiven, IsPlaced, IsIndexed, IsOwed, IsPending, IsGrounded, IsWorked, IsSaturated, IsEmpty}
 use Rattle.summaries.specs.Found.{IsExpanded}
 use Rattle.summaries.specs.Grows.{EntersAt, Grows, triple_of}
@@ -171,7 +172,7 @@ all_reached graph q f g es sound taken t m =
 
 -- if the entries and the summaries are the same, so are the messages taken
 pub taken_as : {A : Type 0} (f g : Found A) → ((a : ℕ) → under nat_eq g.entries.by_key a ≡ under nat_eq f.entries.by_key a)
-    → ((c : CallKey) → under call_eq g.summaries.by_key c ≡ under call_eq f.summaries.by_key c) →
+    → ((c : CallKey) → summaries_of g.calls c ≡ summaries_of f.calls c) →
     (k : NumberedMessage) → TookMessage f k → TookMessage g k
 taken_as f g entries summaries (numbered_entry from a) h = subst (Member (caller_of from)) (sym (entries a)) h
 taken_as f g entries summaries (numbered_summary s a b) h = subst (Member b) (sym (summaries (call s a))) h
@@ -186,15 +187,14 @@ indexed_as f g calls pairs placed old = record {
   pairs_once = λ x y p at_x at_y. old.pairs_once x y p (sym (pairs x) ∙ at_x) (sym (pairs y) ∙ at_y);
 }
 
--- g has other entries, summaries, messages given and edges pending than f
-module _ {A G : Type 0} (graph : Graph G) (q : ℕ) (f : Found A) (entries : Groups ℕ rust.Caller A) (summaries : Groups CallKey Exit A)
-    (given : Outbox A) (pending : Vec PathEdge A) where
+-- g has other entries, messages given and edges pending than f
+module _ {A G : Type 0} (graph : Graph G) (q : ℕ) (f : Found A) (entries : Groups ℕ rust.Caller A) (given : Outbox A)
+    (pending : Vec PathEdge A) where
   -- what is found, with these
   abbrev pub grown_to : Found A
   grown_to = record {
     entries = entries;
-    summaries = summaries;
-    sites = f.sites;
+    calls = f.calls;
     exits = f.exits;
     outbox = given;
     expanded = f.expanded;
@@ -213,22 +213,19 @@ module _ {A G : Type 0} (graph : Graph G) (q : ℕ) (f : Found A) (entries : Gro
       | inr was ↦ all_reached graph q f grown_to es sound taken t was
     ]
 
-    -- the edges grow by what is reached, and the sites and exits are the same
+    -- the edges grow by what is reached, and what is known of calls and the exits are the same
     pub grown_step : Grows W es ds f.pending.items pending.items
         → ((s : ℕ) (k : NumberedMessage) → HasGiven f q s k → HasGiven grown_to q s k)
         → ((s : ℕ) (k : NumberedMessage) → HasGiven grown_to q s k → HasGiven f q s k ⊎ IsOwed grown_to q s k)
         → ((from : Caller) (a : ℕ) → TookMessage grown_to (numbered_entry from a) →
         TookMessage f (numbered_entry from a) ⊎ Member (triple a graph.start a) ds)
-        → ((s e : ℕ) (b : Exit) (a n v back : ℕ) → HasSite f s e (path_edge a n v) → EntersAt graph n v s e back →
-        TookMessage grown_to (numbered_summary s e b) →
-        TookMessage f (numbered_summary s e b) ⊎ Member (triple a back (resumed_at graph n v b)) ds)
         → ((a : ℕ) (b : Exit) (c : ℕ) → HasExit f a b → TookMessage grown_to (numbered_entry (caller c) a) →
         TookMessage f (numbered_entry (caller c) a) ⊎ HasGiven grown_to q c (numbered_summary q a b))
         → (((a : ℕ) → NoneTwice (under nat_eq f.entries.by_key a)) → (a : ℕ) →
         NoneTwice (under nat_eq entries.by_key a))
         → ((x : Outgoing) → IsIndexed f → Member x given.sent.items → IsPlaced (calls_in f) (pairs_in f) x)
         → Step graph q f grown_to es ds
-    grown_step grown gives given begun ended tells callers_once placed = record {
+    grown_step grown gives given begun tells callers_once placed = record {
       taken = taken;
       kept = grown.kept;
       edge = λ t m. elim (grown.only t m) [ inl w ↦ inr (reached t w) | inr was ↦ inl was ];
@@ -242,8 +239,7 @@ module _ {A G : Type 0} (graph : Graph G) (q : ℕ) (f : Found A) (entries : Gro
       gives = gives;
       given = given;
       begun = begun;
-      ended = λ s e b a n v back at enters took.
-          elim (ended s e b a n v back at enters took) [ inl was ↦ inl (at, was) | inr is ↦ inr is ];
+      ended = λ s e b a n v back at enters took. inl (at, took);
       asks = λ s e a n v m. inl m;
       tells = λ a b c m took. elim (tells a b c m took) [ inl was ↦ inl (m, was) | inr is ↦ inr is ];
       callers_once = callers_once;

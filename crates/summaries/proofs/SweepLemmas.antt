@@ -13,7 +13,7 @@ use Rattle.summaries.specs.declared.table.Table.{Table}
 use Rattle.summaries.specs.Under.{under}
 use Rattle.summaries.specs.Mails.{AddressedMail}
 use Rattle.summaries.specs.Dues.{caller_of}
-use Rattle.summaries.specs.Found.{call, call_eq, TookMessage}
+use Rattle.summaries.specs.Found.{call, TookMessage}
 use Rattle.summaries.specs.Tables.{graph_of, answers_of, IsTable, StaysAs, TookSame}
 use Rattle.summaries.specs.Together.{opening, IsTaken, IsReceived, HaveLimit, AreTables}
 use Rattle.summaries.proofs.ReplaceLemmas.{set_get, each_then}
@@ -23,7 +23,7 @@ use Rattle.path_sets.specs.EdgeLimits.{most_of}
 -- what is taken stays so if the same was taken
 pub same_taken : {A : Type 0} (old new : Found A) → TookSame old new → (k : NumberedMessage) → TookMessage old k → TookMessage new k
 same_taken old new same (numbered_entry from a) h = subst (λ e. Member (caller_of from) (under nat_eq e.by_key a)) (sym same.0) h
-same_taken old new same (numbered_summary s e b) h = subst (λ m. Member b (under call_eq m.by_key (call s e))) (sym same.1) h
+same_taken old new same (numbered_summary s e b) h = subst (λ left. Member b (left (call s e))) (sym same.1) h
 
 pub same_taken_back : {A : Type 0} (old new : Found A) → TookSame old new → (k : NumberedMessage) → TookMessage new k → TookMessage old k
 same_taken_back old new same k h = same_taken new old (sym same.0, sym same.1) k h

@@ -1,6 +1,6 @@
 -- What a table holds is reached and sent, and nothing that is reached or sent is missing, except what pending
 -- edges still lead to.
-use Rattle.std.specs.Prelude.{◌≡◌, ◌≤◌, ◌<◌, ◌⊎◌, ◌↔◌, ◌&&◌, ℕ, Bool, false, List, [], Some, nat_eq}
+use Rattle.std.specs.Prelude.{◌≡◌, ◌≤◌, ◌<◌, ◌⊎◌, ◌↔◌, ℕ, Bool, false, List, [], Some, nat_eq}
 use Rattle.std.specs.Prelude.{Option, None, unwrap_or, slice_get, take}
 use Rattle.std.specs.Prelude.{get_or, length, map}
 use Rattle.indexmap.specs.IndexMap.{keys}
@@ -25,15 +25,12 @@ use Rattle.summaries.specs.declared.outbox.Outgoing.TheVariants.{EntryFor, Summa
 use Rattle.summaries.specs.declared.due.Caller.TheVariants.{Proc}
 use Rattle.summaries.specs.declared.exits.Place.{Place}
 use Rattle.summaries.specs.Under.{under}
+use Rattle.summaries.specs.Calls.{sites_of, summaries_of}
 pub use Rattle.summaries.specs.Exits.{pair}
 use Rattle.summaries.specs.Exits.{pair_at, ArePairsOnce}
 use Rattle.summaries.specs.Mails.{AddressedMail, mail, summary_due}
 use Rattle.summaries.specs.Dues.{due_of}
 use Rattle.summaries.specs.Grows.{EntersAt}
-
--- whether two calls are the same
-abbrev pub call_eq : CallKey → CallKey → Bool
-call_eq x y = nat_eq x.callee y.callee && nat_eq x.entered y.entered
 
 -- the path edge of these three; a call stands at one, its site
 abbrev pub path_edge : ℕ → ℕ → ℕ → PathEdge
@@ -67,9 +64,9 @@ module _ (calls : List CallKey) (pairs : Place → Option Pair) where
   IsPlaced (SummaryFor to at) = (told : Pair) × (pairs at ≡ Some told)
 
 module _ {Alloc : Type 0} where
-  -- the calls that stand at sites, each once, in the order in which they came
+  -- the calls that something is known of, each once, in the order in which they came
   abbrev pub calls_in : Found Alloc → List CallKey
-  calls_in found = keys found.sites.by_key
+  calls_in found = keys found.calls.by_key
 
   -- the pair at a place, if any
   abbrev pub pairs_in : Found Alloc → Place → Option Pair
@@ -88,7 +85,7 @@ module _ {Alloc : Type 0} (found : Found Alloc) where
   abbrev pub TookDue : Due → Type 0
   TookDue (Entry from entered) = Member from (under nat_eq found.entries.by_key entered)
   TookDue (Summary callee result entered globals) =
-      Member (left globals result) (under call_eq found.summaries.by_key (call callee entered))
+      Member (left globals result) (summaries_of found.calls (call callee entered))
 
   -- the table has taken the message of these numbers
   abbrev pub TookMessage : NumberedMessage → Type 0
@@ -96,7 +93,7 @@ module _ {Alloc : Type 0} (found : Found Alloc) where
 
   -- a call of this procedure with this entry valuation stands at this site
   abbrev pub HasSite : ℕ → ℕ → PathEdge → Type 0
-  HasSite callee entered place = Member place (under call_eq found.sites.by_key (call callee entered))
+  HasSite callee entered place = Member place (sites_of found.calls (call callee entered))
 
   -- this is left if the entry valuation was this
   abbrev pub HasExit : ℕ → Exit → Type 0
@@ -187,8 +184,8 @@ IsExact graph procedure found edges =
 -- nothing is found
 pub record IsEmpty {Alloc : Type 0} (found : Found Alloc) : Type 0 where
   pub entries : (own : ℕ) → under nat_eq found.entries.by_key own ≡ []
-  pub summaries : (called : CallKey) → under call_eq found.summaries.by_key called ≡ []
-  pub sites : (called : CallKey) → under call_eq found.sites.by_key called ≡ []
+  pub summaries : (called : CallKey) → summaries_of found.calls called ≡ []
+  pub sites : (called : CallKey) → sites_of found.calls called ≡ []
   pub calls : calls_in found ≡ []
   pub pairs : (at : Place) → pairs_in found at ≡ None
   pub given : found.outbox.sent.items ≡ []

@@ -2,6 +2,7 @@ pub mod Under
 pub mod Mails
 pub mod Dues
 pub mod Fitting
+pub mod Calls
 pub mod Exits
 pub mod Found
 pub mod Grows

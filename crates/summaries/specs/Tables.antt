@@ -19,6 +19,7 @@ use Rattle.summaries.specs.declared.table_fault.TableFault.TheVariants.{EdgeLimi
 use Rattle.summaries.specs.Grows.{Adds, AddsOnly, IsFoundBy, IsNext, beside}
 use Rattle.summaries.specs.Mails.{AddressedMail, mail}
 use Rattle.summaries.specs.Dues.{due_of}
+use Rattle.summaries.specs.Calls.{summaries_of}
 use Rattle.summaries.specs.Found.{answers_in, TookMessage, HasSite, HasExit, IsGrounded, IsSaturated}
 use Rattle.path_sets.specs.EdgeLimits.{most_of}
 
@@ -57,7 +58,7 @@ TookOnly message old new = (k : NumberedMessage) → TookMessage new k → (due_
 
 -- The messages taken are those taken before.
 abbrev pub TookSame : {Alloc : Type 0} → Found Alloc → Found Alloc → Type 0
-TookSame old new = (new.entries ≡ old.entries) × (new.summaries ≡ old.summaries)
+TookSame old new = (new.entries ≡ old.entries) × (summaries_of new.calls ≡ summaries_of old.calls)
 
 -- the fault that an answer is
 abbrev pub fault_in : {Returned : Type 0} → Result Returned TableFault → Option TableFault
@@ -134,7 +135,8 @@ module _ {GraphAlloc Alloc Edges : Type 0} (members : Edges → List Triple) whe
     pub answered : answers_of fresh ≡ []
     pub fault : fresh.fault ≡ None
 
-  -- Triples were to be added to the edges kept, with this result; nothing else of the table changes, except what is pending.
+  -- Triples were to be added to the edges kept, with this result; nothing else of the table changes, except what is
+  -- pending.
   pub record AddsEdges (W : Triple → Type 0) {Returned : Type 0} (answer : Result Returned TableFault)
       (old new : Table GraphAlloc Alloc Edges) : Type 0 where
     pub adds : Adds W answer (limit_of old) (members old.edges) (members new.edges) old.found.pending.items new.found.pending.items
@@ -144,8 +146,8 @@ module _ {GraphAlloc Alloc Edges : Type 0} (members : Edges → List Triple) whe
   abbrev pub IsThere : Result (Option PathEdge) TableFault → Table GraphAlloc Alloc Edges → Type 0
   IsThere answer table = (reached : Triple) → IsFoundBy answer reached → Member reached (members table.edges)
 
-  -- Triples, at most one of them new, were to be added to the edges kept, with this result: the one that is new is found, and
-  -- not pending. Nothing else of the table changes.
+  -- Triples, at most one of them new, were to be added to the edges kept, with this result: the one that is new is
+  -- found, and not pending. Nothing else of the table changes.
   pub record FindsEdge (W : Triple → Type 0) (answer : Result (Option PathEdge) TableFault) (old new : Table GraphAlloc Alloc Edges)
       : Type 0 where
     pub adds : Adds W answer (limit_of old) (members old.edges) (members new.edges) old.found.pending.items

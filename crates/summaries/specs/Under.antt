@@ -22,12 +22,11 @@ under eq map key = values_if_any (get eq map key)
 abbrev pub IsKeyAt : {Key : Type 0} → (Key → Key → Bool) → List Key → Key → ℕ → Type 0
 IsKeyAt {Key} eq keys key at = (known : Key) × (slice_get keys at ≡ Some known) × (eq key known ≡ true)
 
--- each key has the values that it had
-abbrev pub AllStay : {Key Value Alloc Edges : Type 0} → (Key → Key → Bool) → IndexMap Key (Values Value Alloc) Edges
-    → IndexMap Key (Values Value Alloc) Edges → Type 0
-AllStay {Key} eq old new = (key : Key) → under eq new key ≡ under eq old key
+module _ {Key X : Type 0} where
+  -- each key has what it had
+  abbrev pub AllStay : (Key → X) → (Key → X) → Type 0
+  AllStay old new = (key : Key) → new key ≡ old key
 
--- each key but this one has the values that it had
-abbrev pub OthersStay : {Key Value Alloc Edges : Type 0} → (Key → Key → Bool) → Key → IndexMap Key (Values Value Alloc) Edges
-    → IndexMap Key (Values Value Alloc) Edges → Type 0
-OthersStay {Key} eq key old new = (other : Key) → eq key other ≡ false → under eq new other ≡ under eq old other
+  -- each key but this one has what it had
+  abbrev pub OthersStay : (Key → Key → Bool) → Key → (Key → X) → (Key → X) → Type 0
+  OthersStay eq key old new = (other : Key) → eq key other ≡ false → new other ≡ old other

@@ -2,13 +2,12 @@
 
 ghost use Rattle.std.specs.Prelude.{◌≡◌};
 
+use crate::calls::Calls;
 use crate::due::{Caller, Due};
 use crate::edge::PathEdge;
 use crate::exits::Exits;
 use crate::groups::Groups;
-use crate::kept_call::KeptCall;
 use crate::kept_edge::KeptEdge;
-use crate::kept_exit::KeptExit;
 use crate::outbox::{Outbox, Outgoing};
 use indexmap::IndexSet;
 use language::Word;
@@ -21,10 +20,8 @@ use std::hash::{BuildHasherDefault, FoldHasher};
 pub(crate) struct Found<A: Allocator> {
     /// Who enters the procedure, by the valuation on entry.
     pub(crate) entries: Groups<Word, Caller, A>,
-    /// What the procedures called leave, by call.
-    pub(crate) summaries: Groups<KeptCall, KeptExit, A>,
-    /// Where calls stand, by call.
-    pub(crate) sites: Groups<KeptCall, KeptEdge, A>,
+    /// Where calls stand, and what the procedures called leave.
+    pub(crate) calls: Calls<A>,
     /// The pairs of the procedure: what is left, by the valuation on entry.
     pub(crate) exits: Exits<A>,
     /// The messages given.
@@ -50,8 +47,7 @@ impl<A: Allocator + Copy> Found<A> {
     {
         Found {
             entries: Groups::new(alloc),
-            summaries: Groups::new(alloc),
-            sites: Groups::new(alloc),
+            calls: Calls::new(alloc),
             exits: Exits::new(alloc),
             outbox: Outbox::new(alloc),
             expanded: IndexSet::new(alloc),
@@ -69,7 +65,7 @@ impl<A: Allocator + Copy> Found<A> {
     {
         match message {
             Outgoing::EntryFor { call } => {
-                let calls = self.sites.by_key.keys();
+                let calls = self.calls.by_key.keys();
                 let call = calls.as_slice()[call as usize].call();
                 let due = Due::Entry {
                     caller: Caller::Proc(procedure),

@@ -9,7 +9,7 @@ use path_sets::{EdgeLimit, PathSet};
 use std::alloc::Allocator;
 
 /// The path edges of a table, those of them that are pending, and how many there may be. Each `&mut` has a lifetime of
-/// its own, without which no caller that also borrows a group is proved.
+/// its own, without which no caller that also borrows the calls is proved.
 #[derive(Drop)]
 pub(crate) struct Frontier<'e, 'p, A: Allocator, S: PathSet<A>> {
     pub(crate) edges: &'e mut S,

@@ -1,26 +1,14 @@
 //! Values that are found by a key.
 
-ghost use Rattle.std.specs.Prelude.{◌≡◌, ◌↔◌, ◌≢◌, [], ◌∷◌, ◌++◌, OnOk, OnErr, IfOk, IsTrue};
-ghost use Rattle.std.specs.Bool.{OnTrue, OnFalse};
+ghost use Rattle.std.specs.Prelude.{◌≡◌, [], ◌∷◌, ◌++◌, OnOk, OnErr};
 ghost use Rattle.std.specs.Mem.{FitsInMemory};
-ghost use Rattle.indexmap.specs.IndexMap.{keys};
-ghost use Rattle.indexmap.specs.IndexSet.{insert_key};
-ghost use Rattle.summaries.specs.Under.{AllStay, IsKeyAt, OthersStay, under};
+ghost use Rattle.summaries.specs.Under.{AllStay, OthersStay, under};
 
 use crate::values::Values;
 use indexmap::IndexMap;
 use indexmap::map::Entry;
 use std::alloc::{AllocError, Allocator};
 use std::hash::{BuildHasherDefault, FoldHasher, Hash};
-
-/// A key to which a value was added.
-#[derive(Clone, Copy)]
-pub(crate) struct Addition {
-    /// Whether it had a value before.
-    pub(crate) had: bool,
-    /// Its place among the keys.
-    pub(crate) at: usize,
-}
 
 /// For each key the values that were added to it, in the order of adding. Keys keep the order in which they came.
 #[derive(Drop)]
@@ -31,8 +19,7 @@ pub(crate) struct Groups<K: Eq + Hash + Drop, V: Drop, A: Allocator> {
 impl<K: Eq + Hash + Copy, V: Copy, A: Allocator + Copy> Groups<K, V, A> {
     /// No values, which take no memory yet.
     pub(crate) fn new(alloc: A) -> Self
-        ensures none { (k : K) → under K.eq result.by_key k ≡ [] }
-        ensures keys { keys result.by_key ≡ [] }
+        ensures { (k : K) → under K.eq result.by_key k ≡ [] }
     {
         Groups {
             by_key: IndexMap::new(alloc),
@@ -40,33 +27,26 @@ impl<K: Eq + Hash + Copy, V: Copy, A: Allocator + Copy> Groups<K, V, A> {
     }
 
     /// Adds a value to those of a key. If memory is refused, each key has the values that it had.
-    // Inlined: handing back `Addition` costs more than the rest for a new key.
     #[inline(always)]
-    pub(crate) fn add(&mut self, key: K, value: V) -> Result<Addition, AllocError>
-        requires { FitsInMemory V.row }
-        ensures had { IfOk result (λ r. OnTrue r.had (under K.eq self.old.by_key key ≢ [])) }
-        ensures none { IfOk result (λ r. OnFalse r.had (under K.eq self.old.by_key key ≡ [])) }
-        ensures at { IfOk result (λ r. IsKeyAt K.eq (keys self.new.by_key) key r.at) }
-        ensures keys { OnOk result
-            (keys self.new.by_key ≡ insert_key K.eq (keys self.old.by_key) key) }
+    pub(crate) fn add(&mut self, key: K, value: V) -> Result<(), AllocError>
         ensures added { OnOk result
             (under K.eq self.new.by_key key ≡ under K.eq self.old.by_key key ++ value ∷ []) }
-        ensures others { OnOk result (OthersStay K.eq key self.old.by_key self.new.by_key) }
-        ensures err { OnErr result (AllStay K.eq self.old.by_key self.new.by_key) }
+        ensures others { OnOk result
+            (OthersStay K.eq key (under K.eq self.old.by_key) (under K.eq self.new.by_key)) }
+        ensures err { OnErr result
+            (AllStay (under K.eq self.old.by_key) (under K.eq self.new.by_key)) }
     {
         let alloc = *self.by_key.allocator();
         let entry = self.by_key.entry(key)?;
-        let at = entry.index();
         match entry {
             Entry::Occupied(known) => {
                 let values = known.into_mut();
-                let had = !values.as_slice().is_empty();
                 values.add(alloc, value)?;
-                Ok(Addition { had, at })
+                Ok(())
             }
             Entry::Vacant(new) => {
                 new.insert(Values::one(value));
-                Ok(Addition { had: false, at })
+                Ok(())
             }
         }
     }

@@ -2,6 +2,7 @@
 //! which messages the table then owes (summary edges after Ball and Rajamani 2000).
 #![tactic(auto)]
 
+mod calls;
 mod due;
 mod edge;
 mod exits;

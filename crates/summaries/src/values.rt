@@ -23,6 +23,13 @@ impl<V: Copy, A: Allocator> Values<V, A> {
         Values::One(value)
     }
 
+    /// No value, which takes no further memory either.
+    pub(crate) fn none(alloc: A) -> Self
+        ensures { values_in result ≡ [] }
+    {
+        Values::Many(Vec::new(alloc))
+    }
+
     /// The values.
     pub(crate) fn as_slice(&self) -> &[V]
         requires { FitsInMemory V.row }

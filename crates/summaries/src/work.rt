@@ -106,14 +106,14 @@ impl<'g, G: Allocator, A: Allocator + Copy, S: PathSet<A>> Table<'g, G, A, S> {
             callee: call.callee(),
             entered: call.entry(edge.values),
         });
-        let added = self.found.sites.add(key, KeptEdge::new(edge))?;
+        let added = self.found.calls.add_site(key, KeptEdge::new(edge))?;
         self.found.outbox.send_entry(added.had, added.at)?;
         let mut frontier = Frontier {
             edges: &mut self.edges,
             pending: &mut self.found.pending,
             limit: self.limit,
         };
-        frontier.resume_site(self.graph, edge, self.found.summaries.of(key))
+        frontier.resume_site(self.graph, edge, self.found.calls.summaries_at(added.at))
     }
 
     /// Works on an edge that is not pending: adds the edges that it leads to, and gives the messages that it makes due. The
@@ -332,12 +332,12 @@ impl<'g, G: Allocator, A: Allocator + Copy, S: PathSet<A>> Table<'g, G, A, S> {
             (summary_due call.callee call.entered left) self.old.found self.new.found }
     {
         let key = KeptCall::new(call);
-        self.found.summaries.add(key, KeptExit::new(left))?;
+        let at = self.found.calls.add_summary(key, KeptExit::new(left))?;
         let mut frontier = Frontier {
             edges: &mut self.edges,
             pending: &mut self.found.pending,
             limit: self.limit,
         };
-        frontier.resume_sites(self.graph, self.found.sites.of(key), left)
+        frontier.resume_sites(self.graph, self.found.calls.sites_at(at), left)
     }
 }

@@ -55,7 +55,7 @@ pub returns-in_err-add-clause-worked : goal.returns-in_err-add-clause-worked
 returns-in_err-add-clause-worked g c =
     let self = c.args.self.now in
     let f = self.found in
-    let h = grown_to self.graph.now self.procedure f c.add.new.self f.summaries f.outbox f.pending in
+    let h = grown_to self.graph.now self.procedure f c.add.new.self f.outbox f.pending in
     refused_worked g.S.PathSet.members (λ t. ⊥) _ self _
     (all_reached self.graph.now self.procedure f h (g.S.PathSet.members self.edges) c.requires.holds.0
     (taken_as f h c.in_err-add.ensures.err (λ k. refl)))
@@ -131,7 +131,7 @@ returns-clause-worked g c =
       within = c.in_ok-reach.ensures.adds.within;
       many = λ is. absurd (ok_err is);
       answers =
-          answers_kept self.procedure f (grown_to self.graph.now self.procedure f c.add.new.self f.summaries c.send_summaries.new.outbox
+          answers_kept self.procedure f (grown_to self.graph.now self.procedure f c.add.new.self c.send_summaries.new.outbox
           pending) _ c.in_ok-send_summaries.ensures.answered gave;
       stays = record { graph = refl; procedure = refl; limit = refl };
       fault = refl;

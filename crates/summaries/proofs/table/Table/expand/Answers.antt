@@ -5,6 +5,7 @@ use Rattle.language.specs.Lists.{Member}
 use Rattle.path_sets.specs.EdgeLimits.{most_of}
 use Rattle.path_sets.specs.Triples.{Triple}
 use Rattle.flow_graph.specs.Flows.{next_of}
+use Rattle.summaries.specs.Calls.{summaries_of}
 use Rattle.summaries.specs.Grows.{beside, triple_of, Adds, AddsOnly, IsAt, IsFoundBy, IsNext, IsOther}
 use Rattle.summaries.specs.Tables.{Holds, IsLessBeside, Worked}
 use Rattle.summaries.specs.declared.table.Table.{Table}
@@ -105,7 +106,7 @@ returns g c =
       worked = worked;
       there = found.there;
       all = IfOk-weaker answer _ _ (λ _ grown. grown.all) adds.ok;
-      taken = (ap (λ t. t.found.entries) rest, ap (λ t. t.found.summaries) rest);
+      taken = (ap (λ t. t.found.entries) rest, ap (λ t. summaries_of t.found.calls) rest);
       less = subst (λ (t : Table _ _ _). OnOk answer (IsLessBeside g.S.PathSet.members answer old t)) (sym rest)
           (IfOk-weaker answer _ _ (λ _ grown. (grown.more, grown.longer)) adds.ok);
     }

@@ -8,9 +8,9 @@ use Rattle.language.specs.Lists.{Member}
 use Rattle.language.specs.Sequential.{caller}
 use Rattle.flow_graph.specs.Numbers.{numbered_entry}
 use Rattle.summaries.specs.declared.edge.CallKey.{CallKey}
-use Rattle.summaries.specs.Under.{under}
+use Rattle.summaries.specs.Calls.{sites_of, summaries_of}
 use Rattle.indexmap.specs.IndexMap.{keys}
-use Rattle.summaries.specs.Found.{path_edge, HasSite, IsIndexed, call_eq, entry_mail, mails_in}
+use Rattle.summaries.specs.Found.{path_edge, HasSite, IsIndexed, entry_mail, mails_in}
 use Rattle.summaries.specs.Grows.{AddsTo, Grows, OfSome, IsBehind, triple_of}
 use Rattle.summaries.proofs.CallLemmas.{asked_to, ask_step, ask_only, behind_reached, asked_site, taken_there}
 use Rattle.summaries.proofs.CallLemmas.{stands_there, was_given, asked_indexed, asked_gave}
@@ -38,26 +38,34 @@ enters g c = λ i. Some (sym (asked g c).0 i, sym (asked g c).1 i, c.args.call.n
 
 -- it is kept that the call stands at the site
 added : (g : given.Over) (c : goal.After-resume_site g) →
-    under call_eq c.add.new.self.by_key c.new-key.result ≡ under call_eq c.args.self.now.found.sites.by_key c.new-key.result
+    sites_of c.add_site.new.self c.new-key.result ≡ sites_of c.args.self.now.found.calls c.new-key.result
     ++ (path_edge c.args.entry c.args.point c.args.values) ∷ []
 added g c =
     c.in_ok-added.ensures.added
-    ∙ ap (λ x. under call_eq c.args.self.now.found.sites.by_key c.new-key.result ++ x ∷ []) c.new.ensures
+    ∙ ap (λ x. sites_of c.args.self.now.found.calls c.new-key.result ++ x ∷ []) c.new.ensures
 
--- the summaries of the call are those that are found by it
+-- what the call leaves is found by it
+known_left : (g : given.Over) (c : goal.After-resume_site g) →
+    c.summaries_at.result.now ≡ summaries_of c.args.self.now.found.calls c.new-key.result
+known_left g c =
+    c.summaries_at.ensures c.new-key.result c.in_ok-added.ensures.at ∙ ap (λ left. left c.new-key.result) c.in_ok-added.ensures.summaries
+
+-- so that is added behind the site
 known : (g : given.Over) (c : goal.After-resume_site g) →
     let self = c.args.self.now in
     let site = path_edge c.args.entry c.args.point c.args.values in
     let es = g.S.PathSet.members self.edges in
     let ds = g.S.PathSet.members c.resume_site.new.self.edges.now in
-    let known = under call_eq self.found.summaries.by_key (c.new-key.result) in
-    Grows (OfSome (IsBehind self.graph.now site) c.of.result.now) es ds self.found.pending.items c.resume_site.new.self.pending.now.items →
+    let known = summaries_of self.found.calls c.new-key.result in
+    Grows
+    (OfSome (IsBehind self.graph.now site) c.summaries_at.result.now) es ds self.found.pending.items
+    c.resume_site.new.self.pending.now.items →
     Grows (OfSome (IsBehind self.graph.now site) known) es ds self.found.pending.items c.resume_site.new.self.pending.now.items
 known g c =
     let self = c.args.self.now in
     subst (λ bs. Grows (OfSome (IsBehind self.graph.now (path_edge c.args.entry c.args.point c.args.values)) bs)
     (g.S.PathSet.members self.edges) (g.S.PathSet.members c.resume_site.new.self.edges.now) self.found.pending.items
-    c.resume_site.new.self.pending.now.items) c.of.ensures
+    c.resume_site.new.self.pending.now.items) (known_left g c)
 
 -- if it stood nowhere, its entry is not given
 pub send_entry-requires : goal.send_entry-requires
@@ -65,21 +73,22 @@ send_entry-requires g c =
     let self = c.args.self.now in
     let f = self.found in
     let k = c.new-key.result in
-    where_none (under call_eq f.sites.by_key k) c.in_ok-added.added.had c.in_ok-added.ensures.none
+    where_none (sites_of f.calls k) c.in_ok-added.added.had c.in_ok-added.ensures.none
     (λ none m.
     let owed = c.requires.holds.0.given k.callee (numbered_entry (caller self.procedure) k.entered)
-    (was_given self.procedure f (keys c.add.new.self.by_key) k c.in_ok-added.added.at c.in_ok-added.ensures.keys
-    (stands_there (keys c.add.new.self.by_key) k c.in_ok-added.added.at c.in_ok-added.ensures.at) c.requires.holds.0.indexed m) in
+    (was_given self.procedure f (keys c.add_site.new.self.by_key) k c.in_ok-added.added.at c.in_ok-added.ensures.keys
+    (stands_there (keys c.add_site.new.self.by_key) k c.in_ok-added.added.at c.in_ok-added.ensures.at) c.requires.holds.0.indexed m) in
     none owed.1.0 owed.1.1)
 
 -- what is kept by place
 kept : (g : given.Over) (c : goal.After-resume_site g) → IsIndexed c.args.self.now.found →
-    IsIndexed (asked_to c.args.self.now.graph.now c.args.self.now.procedure c.args.self.now.found c.send_entry.new.self c.add.new.self
+    IsIndexed (asked_to c.args.self.now.graph.now c.args.self.now.procedure c.args.self.now.found c.send_entry.new.self c.add_site.new.self
     c.resume_site.new.self.pending.now)
 kept g c =
-    asked_indexed c.args.self.now.procedure c.args.self.now.found c.send_entry.new.self c.add.new.self c.resume_site.new.self.pending.now
+    asked_indexed c.args.self.now.procedure c.args.self.now.found c.send_entry.new.self c.add_site.new.self
+    c.resume_site.new.self.pending.now
     (c.new-key.result) c.in_ok-added.added.at c.in_ok-added.ensures.keys
-    (stands_there (keys c.add.new.self.by_key) (c.new-key.result) c.in_ok-added.added.at c.in_ok-added.ensures.at)
+    (stands_there (keys c.add_site.new.self.by_key) (c.new-key.result) c.in_ok-added.added.at c.in_ok-added.ensures.at)
     c.in_ok-added.added.had
     c.in_ok-send_entry.ensures.known c.in_ok-send_entry.ensures.new
 
@@ -88,16 +97,16 @@ gave : (g : given.Over) (c : goal.After-resume_site g) →
     let self = c.args.self.now in
     AddsTo (λ m. m ≡ entry_mail self.procedure (c.new-key.result)) (mails_in self.procedure self.found)
     (mails_in self.procedure
-    (asked_to self.graph.now self.procedure self.found c.send_entry.new.self c.add.new.self c.resume_site.new.self.pending.now))
+    (asked_to self.graph.now self.procedure self.found c.send_entry.new.self c.add_site.new.self c.resume_site.new.self.pending.now))
 gave g c =
     let self = c.args.self.now in
     let f = self.found in
     let k = c.new-key.result in
-    asked_gave self.procedure f c.send_entry.new.self c.add.new.self c.resume_site.new.self.pending.now k c.in_ok-added.added.at
-    c.in_ok-added.ensures.keys (stands_there (keys c.add.new.self.by_key) k c.in_ok-added.added.at c.in_ok-added.ensures.at)
+    asked_gave self.procedure f c.send_entry.new.self c.add_site.new.self c.resume_site.new.self.pending.now k c.in_ok-added.added.at
+    c.in_ok-added.ensures.keys (stands_there (keys c.add_site.new.self.by_key) k c.in_ok-added.added.at c.in_ok-added.ensures.at)
     c.in_ok-added.added.had c.in_ok-send_entry.ensures.known c.in_ok-send_entry.ensures.new
     c.requires.holds.0.indexed
-    (where_some (under call_eq f.sites.by_key k) c.in_ok-added.added.had c.in_ok-added.ensures.had
+    (where_some (sites_of f.calls k) c.in_ok-added.added.had c.in_ok-added.ensures.had
     (λ y m. c.requires.holds.1.asks k.callee k.entered y.entry y.point y.values m))
 
 pub returns-in_err-added-clause-worked : goal.returns-in_err-added-clause-worked
@@ -105,9 +114,10 @@ returns-in_err-added-clause-worked g c =
     let self = c.args.self.now in
     refused_worked g.S.PathSet.members (λ t. t ≡ triple_of (path_edge c.args.entry c.args.point c.args.values)) _ self _
     (all_reached self.graph.now self.procedure self.found
-    (asked_to self.graph.now self.procedure self.found self.found.outbox c.add.new.self self.found.pending)
+    (asked_to self.graph.now self.procedure self.found self.found.outbox c.add_site.new.self self.found.pending)
     (g.S.PathSet.members self.edges) c.requires.holds.0
-    (taken_there self.graph.now self.procedure self.found self.found.outbox c.add.new.self self.found.pending))
+    (taken_there self.graph.now self.procedure self.found self.found.outbox c.add_site.new.self self.found.pending
+    c.in_err-added.ensures.summaries))
     c.requires.within (record { graph = refl; procedure = refl; limit = refl }) refl c.from_residual.ensures.1
 
 pub returns-in_err-send_entry-clause-worked : goal.returns-in_err-send_entry-clause-worked
@@ -115,9 +125,10 @@ returns-in_err-send_entry-clause-worked g c =
     let self = c.args.self.now in
     refused_worked g.S.PathSet.members (λ t. t ≡ triple_of (path_edge c.args.entry c.args.point c.args.values)) _ self _
     (all_reached self.graph.now self.procedure self.found
-    (asked_to self.graph.now self.procedure self.found c.send_entry.new.self c.add.new.self self.found.pending)
+    (asked_to self.graph.now self.procedure self.found c.send_entry.new.self c.add_site.new.self self.found.pending)
     (g.S.PathSet.members self.edges) c.requires.holds.0
-    (taken_there self.graph.now self.procedure self.found c.send_entry.new.self c.add.new.self self.found.pending))
+    (taken_there self.graph.now self.procedure self.found c.send_entry.new.self c.add_site.new.self self.found.pending
+    c.in_ok-added.ensures.summaries))
     c.requires.within (record { graph = refl; procedure = refl; limit = refl }) refl c.from_residual-in_err-send_entry.ensures.1
 
 pub returns-clause-worked : goal.returns-clause-worked
@@ -127,21 +138,24 @@ returns-clause-worked g c =
     let e = path_edge c.args.entry c.args.point c.args.values in
     let es = g.S.PathSet.members self.edges in
     let ds = g.S.PathSet.members c.resume_site.new.self.edges.now in
-    let edges = ask_only self.graph.now self.procedure f c.send_entry.new.self c.add.new.self c.resume_site.new.self.pending.now es ds e
+    let edges = ask_only self.graph.now self.procedure f c.send_entry.new.self c.add_site.new.self c.resume_site.new.self.pending.now
+    c.in_ok-added.ensures.summaries es ds e
     c.new-key.result.callee c.new-key.result.entered c.args.call.now.back (flow.Call c.args.call.now)
     c.requires.holds.0 c.requires.edge c.requires.call (enters g c)
     (subst (λ bs. (t : Triple) → Member t ds →
-    OfSome (IsBehind self.graph.now e) bs t ⊎ Member t es) c.of.ensures
+    OfSome (IsBehind self.graph.now e) bs t ⊎ Member t es) (known_left g c)
     c.resume_site.ensures.adds.only) in
     added_worked g.S.PathSet.members _ (λ t. t ≡ triple_of e) c.resume_site.result self _ es _ _ c.resume_site.ensures.adds
     (g.met.S.PathSet.none_twice c.resume_site.new.self.edges.now) edges
-    (λ t w. behind_reached self.graph.now self.procedure f c.send_entry.new.self c.add.new.self c.resume_site.new.self.pending.now es ds e
+    (λ t w. behind_reached self.graph.now self.procedure f c.send_entry.new.self c.add_site.new.self c.resume_site.new.self.pending.now
+    c.in_ok-added.ensures.summaries es ds e
     c.new-key.result.callee c.new-key.result.entered c.args.call.now.back (flow.Call c.args.call.now)
     c.requires.holds.0 c.requires.edge c.requires.call (enters g c) t
-    (subst (λ bs. OfSome (IsBehind self.graph.now e) bs t) c.of.ensures w))
+    (subst (λ bs. OfSome (IsBehind self.graph.now e) bs t) (known_left g c) w))
     (IfOk-weaker c.resume_site.result _ _
     (λ _ grown.
-    let step = ask_step self.graph.now self.procedure f c.send_entry.new.self c.add.new.self c.resume_site.new.self.pending.now es ds e
+    let step = ask_step self.graph.now self.procedure f c.send_entry.new.self c.add_site.new.self c.resume_site.new.self.pending.now
+    c.in_ok-added.ensures.summaries es ds e
     c.new-key.result.callee c.new-key.result.entered c.args.call.now.back (flow.Call c.args.call.now)
     c.requires.holds.0 c.requires.edge c.requires.call (enters g c) (gave g c)
     (added g c)
@@ -149,7 +163,7 @@ returns-clause-worked g c =
     still_holds self.graph.now self.procedure f _ es ds step (λ t. t ≡ triple_of e) c.requires.holds)
     c.resume_site.ensures.adds.ok)
     (IfOk-weaker c.resume_site.result _ _
-    (λ _ _. answers_kept self.procedure f (asked_to self.graph.now self.procedure f c.send_entry.new.self c.add.new.self
+    (λ _ _. answers_kept self.procedure f (asked_to self.graph.now self.procedure f c.send_entry.new.self c.add_site.new.self
     c.resume_site.new.self.pending.now) _ c.send_entry.ensures.answered (gave g c))
     c.resume_site.ensures.adds.ok)
     (record { graph = refl; procedure = refl; limit = refl }) refl
@@ -158,13 +172,15 @@ pub returns-clause-asked : goal.returns-clause-asked
 returns-clause-asked g c =
     let self = c.args.self.now in
     let e = path_edge c.args.entry c.args.point c.args.values in
-    let found = asked_to self.graph.now self.procedure self.found c.send_entry.new.self c.add.new.self c.resume_site.new.self.pending.now in
+    let found =
+    asked_to self.graph.now self.procedure self.found c.send_entry.new.self c.add_site.new.self c.resume_site.new.self.pending.now in
     let es = g.S.PathSet.members self.edges in
     let ds = g.S.PathSet.members c.resume_site.new.self.edges.now in
     IfOk-weaker c.resume_site.result _ _
     (λ _ grown.
     subst (λ (t : ℕ × ℕ). HasSite found t.0 t.1 e) (λ i. ((asked g c).0 i, (asked g c).1 i))
-    (asked_site self.graph.now self.procedure self.found c.send_entry.new.self c.add.new.self c.resume_site.new.self.pending.now es ds e
+    (asked_site self.graph.now self.procedure self.found c.send_entry.new.self c.add_site.new.self c.resume_site.new.self.pending.now
+    c.in_ok-added.ensures.summaries es ds e
     c.new-key.result.callee c.new-key.result.entered c.args.call.now.back (flow.Call c.args.call.now)
     c.requires.holds.0 c.requires.edge c.requires.call (enters g c) (gave g c)
     (added g c) c.in_ok-added.ensures.others (known g c grown)))

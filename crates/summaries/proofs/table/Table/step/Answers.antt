@@ -8,7 +8,7 @@ pub returns-in_default-clause-keeps : goal.returns-in_default-clause-keeps
 returns-in_default-clause-keeps g c =
     let self = c.args.self.now in
     let f = self.found in
-    let h = grown_to self.graph.now self.procedure f f.entries f.summaries f.outbox c.pop.new.self in
+    let h = grown_to self.graph.now self.procedure f f.entries f.outbox c.pop.new.self in
     same_keeps g.S.PathSet.members self h (λ at. refl) refl (sym (c.in_default.ensures.items ∙ append-nil c.pop.new.self.items))
     c.requires.table c.requires.fault
 

@@ -6,7 +6,7 @@ use Rattle.flow_graph.specs.Numbers.{GraphReaches}
 use Rattle.flow_graph.specs.Returns.{left_by}
 use Rattle.flow_graph.specs.declared.flow.Flow.TheVariants.{Call}
 use Rattle.summaries.specs.Under.{under}
-use Rattle.summaries.specs.Found.{call_eq, pair, TookMessage, HasExit}
+use Rattle.summaries.specs.Found.{pair, TookMessage, HasExit}
 use Rattle.summaries.specs.Grows.{triple_of, IsFoundBy}
 use Rattle.summaries.specs.declared.edge.PathEdge.{PathEdge}
 use Rattle.summaries.specs.declared.table.Table.{Table}
@@ -35,7 +35,7 @@ returns-in_err-record_if_exit-clause-worked g c =
     (λ t m. subst (λ graph. GraphReaches graph (TookMessage new.found) t.entry t.point t.values) (sym left.stays.graph)
     (all_reached old.graph.now old.procedure old.found new.found (g.S.PathSet.members old.edges) c.requires.holds.0
     (taken_as old.found new.found (λ a. ap (λ e. under nat_eq e.by_key a) left.taken.0)
-    (λ k. ap (λ e. under call_eq e.by_key k) left.taken.1))
+    (λ k. ap (λ left. left k) left.taken.1))
     t (subst (λ s. Member t (g.S.PathSet.members s)) left.edges m)))
     (omega (arith, edges, limit, c.requires.within)) left.stays left.fault c.from_residual.ensures.1
 

@@ -1,0 +1,61 @@
+use Rattle.std.proofs.Common.{◌≡◌, Some, sym, ap, ◌∙◌, rules}
+use Rattle.path_sets.proofs.ShardLemmas.{at_error}
+use Rattle.indexmap.specs.IndexMap.{get}
+use Rattle.indexmap.specs.Entry.{entry_value}
+use Rattle.summaries.specs.Calls.{call_eq, sites_if_any, summaries_if_any}
+use Rattle.summaries.specs.contracts.edge.CallKeyEq.TheImpl.Laws.{laws-law}
+use Rattle.summaries.proofs.GroupLemmas.{all_after, keys_after, place_after}
+use Rattle.summaries.proofs.calls.Calls.add_site.Given.{Over}
+use Rattle.summaries.proofs.calls.Calls.add_site.Goals as goal
+use Rattle.summaries.proofs.calls.Calls.add_site.Goals.{After-add}
+
+-- what was known of the call
+was : (g : Over) (c : After-add g) → Some c.into_mut-known.result.now ≡ get call_eq c.args.self.now.by_key c.args.key
+was g c = sym (sym c.in_ok-entry.ensures.value ∙ ap entry_value c.in-Occupied.is ∙ c.into_mut-known.ensures.value)
+
+pub returns-in_err-add-in-Occupied-clause-err : goal.returns-in_err-add-in-Occupied-clause-err
+returns-in_err-add-in-Occupied-clause-err g c =
+    at_error c.from_residual-in_err-add-in-Occupied.result
+    (all_after call_eq sites_if_any c.args.self.now.by_key.entries _ c.args.key
+    (record c.into_mut-known.result.now { sites = c.add.new.self }) (search rules) laws-law
+    (c.in_err-add-in-Occupied.ensures.err
+    ∙ ap sites_if_any (was g (goal.at.returns-in_err-add-in-Occupied-clause-err g c).After-add)))
+
+pub returns-in_err-add-in-Occupied-clause-summaries : goal.returns-in_err-add-in-Occupied-clause-summaries
+returns-in_err-add-in-Occupied-clause-summaries g c =
+    all_after call_eq summaries_if_any c.args.self.now.by_key.entries _ c.args.key
+    (record c.into_mut-known.result.now { sites = c.add.new.self }) (search rules) laws-law
+    (ap summaries_if_any (was g (goal.at.returns-in_err-add-in-Occupied-clause-summaries g c).After-add))
+
+pub returns-in_ok-add-in-Occupied-clause-summaries : goal.returns-in_ok-add-in-Occupied-clause-summaries
+returns-in_ok-add-in-Occupied-clause-summaries g c =
+    all_after call_eq summaries_if_any c.args.self.now.by_key.entries _ c.args.key
+    (record c.into_mut-known.result.now { sites = c.add.new.self }) (search rules) laws-law
+    (ap summaries_if_any (was g (goal.at.returns-in_ok-add-in-Occupied-clause-summaries g c).After-add))
+
+pub returns-in_ok-add-in-Occupied-clause-keys : goal.returns-in_ok-add-in-Occupied-clause-keys
+returns-in_ok-add-in-Occupied-clause-keys g c =
+    keys_after call_eq c.args.self.now.by_key.entries _ c.args.key
+    (record c.into_mut-known.result.now { sites = c.add.new.self }) (search rules)
+
+pub returns-in_ok-add-in-Occupied-clause-at : goal.returns-in_ok-add-in-Occupied-clause-at
+returns-in_ok-add-in-Occupied-clause-at g c =
+    place_after call_eq c.args.self.now.by_key.entries _ c.args.key
+    (record c.into_mut-known.result.now { sites = c.add.new.self }) (search rules)
+    laws-law.refl c.index-at.result (c.index-at.ensures ∙ c.in_ok-entry.ensures.index)
+
+pub returns-in-Vacant-clause-keys : goal.returns-in-Vacant-clause-keys
+returns-in-Vacant-clause-keys g c =
+    keys_after call_eq c.args.self.now.by_key.entries _ c.args.key c.insert.result.now (search rules)
+
+pub returns-in-Vacant-clause-at : goal.returns-in-Vacant-clause-at
+returns-in-Vacant-clause-at g c =
+    place_after call_eq c.args.self.now.by_key.entries _ c.args.key c.insert.result.now (search rules)
+    laws-law.refl c.index-at.result (c.index-at.ensures ∙ c.in_ok-entry.ensures.index)
+
+pub returns-in-Vacant-clause-summaries : goal.returns-in-Vacant-clause-summaries
+unfolding entry_value
+returns-in-Vacant-clause-summaries g c =
+    all_after call_eq summaries_if_any c.args.self.now.by_key.entries _ c.args.key c.insert.result.now (search rules) laws-law
+    (ap (λ k. summaries_if_any (Some k)) c.insert.ensures.value ∙ c.new.ensures.items
+    ∙ ap summaries_if_any (sym (ap entry_value c.in-Vacant.is) ∙ c.in_ok-entry.ensures.value))
