@@ -150,8 +150,7 @@ pub fn read_off<G: Allocator, A: Allocator + Copy, S: PathSet<A>>(
     } = table;
     let Found {
         entries,
-        summaries,
-        sites,
+        calls,
         exits,
         outbox,
         expanded,
@@ -160,8 +159,7 @@ pub fn read_off<G: Allocator, A: Allocator + Copy, S: PathSet<A>>(
         last_entry: _,
     } = found;
     drop(edges);
-    drop(summaries);
-    drop(sites);
+    drop(calls);
     drop(outbox);
     drop(expanded);
     drop(pending);
