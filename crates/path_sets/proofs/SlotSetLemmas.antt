@@ -1,11 +1,11 @@
 -- The path edges of tables and diagrams: one more in a table, one more in the diagrams, and what is looked up.
-use Rattle.std.proofs.Common.{◌≡◌, ◌↔◌, ℕ, zero, suc, ◌+◌, ◌/◌, ◌%◌, ◌^◌, ◌<◌, ◌≤◌, Bool, true, false, ◌&&◌, ◌||◌, not, cond, nat_eq}
+use Rattle.std.proofs.Common.{◌≡◌, ◌↔◌, ℕ, zero, suc, ◌+◌, ◌*◌, ◌/◌, ◌%◌, ◌^◌, ◌<◌, ◌≤◌, Bool, true, false, ◌&&◌, ◌||◌, not, cond, nat_eq}
 use Rattle.std.proofs.Common.{List, [], ◌∷◌, filter, length, Option, None, Some, Result, Ok, Err, OnOk, OnErr, slice_get, inl, inr}
 use Rattle.std.proofs.Common.{if◌then◌else◌, refl, sym, ap, ap₂, ◌∙◌, subst}
 use Rattle.std.proofs.Common.{true≢false, eq-eqb, arith}
 use Rattle.std.specs.List.{IsDistinct, list_any}
 use Rattle.std.specs.Map.{keys_of, values_of, lookup}
-use Rattle.std.proofs.lemmas.Bool.{and_parts, cases_eq, false_from_ne_true, ltb-true, or_cases, or_left, or_right}
+use Rattle.std.proofs.lemmas.Bool.{and_parts, cases_eq, false_from_ne_true, ltb-true, lt-ltb, or_cases, or_left, or_right}
 use Rattle.std.proofs.lemmas.Bool.{OnFalse_from, OnTrue_from}
 use Rattle.std.proofs.lemmas.Map.Views.{exact_unsigned_eq}
 use Rattle.std.proofs.lemmas.Option.{none-some, same_Some}
@@ -20,8 +20,8 @@ use Rattle.path_sets.specs.declared.slots.slots.Slots.{Slots}
 use Rattle.path_sets.specs.Inserts.{HasAlso, IsLongerIf, IsNewIf}
 use Rattle.path_sets.specs.Members.{triple_eq, universe}
 use Rattle.path_sets.specs.Slots.{fits_in_key, key_in, slots_have, HaveSame, IsKeyIn, PutsPoint}
-use Rattle.path_sets.specs.SlotSets.{all_kept, has_key, is_kept, table_has, HaveNoKeys, IsLastSlot}
-use Rattle.path_sets.specs.Triples.{Triple}
+use Rattle.path_sets.specs.SlotSets.{all_kept, has_key, is_kept, slot_edge, table_has, HaveNoKeys, IsLastSlot}
+use Rattle.path_sets.specs.Triples.{Triple, triple}
 use Rattle.path_sets.proofs.FilterLemmas as lists
 use Rattle.path_sets.proofs.InsertsLemmas.{none_more_if, one_more_if}
 use Rattle.path_sets.proofs.MaskKeyLemmas.{same_two, three_self, two_self}
@@ -114,6 +114,19 @@ same_entries : {V : Type 0} (es : List (ℕ × V)) (i k : ℕ) (v : V) → slice
 same_entries [] i k v at = absurd (none-some (k, v) at)
 same_entries (e ∷ es) zero k v at = let is = same_Some e (k, v) at in λ j. (e.0, sym (ap (λ (p : ℕ × _). p.1) is) j) ∷ es
 same_entries (e ∷ es) (suc i) k v at = ap (λ r. e ∷ r) (same_entries es i k v at)
+
+-- the path edge of an entry, a key and a bit has that key and that bit
+pub key_of_slot : (entry key bit : ℕ) → bit < 64
+    → key_in (slot_edge entry key bit).values ((slot_edge entry key bit).point / 64) ≡ key
+key_of_slot entry key bit less = omega (arith, less)
+
+pub bit_of_slot : (entry key bit : ℕ) → bit < 64 → (slot_edge entry key bit).point % 64 ≡ bit
+bit_of_slot entry key bit less = omega (arith, less)
+
+pub slot_has_key : (entry key bit : ℕ) → key < 2 ^ 64 → bit < 64 → has_key (slot_edge entry key bit) ≡ true
+slot_has_key entry key bit small less =
+    let x = slot_edge entry key bit in
+    ap₂ ◌&&◌ (lt-ltb x.values (2 ^ 54) (omega (arith, small))) (lt-ltb (x.point / 64) (2 ^ 10) (omega (arith, less)))
 
 -- a path edge that has a key is in its table, and any other among the others
 with_key : {A : Type 0} (tables : List (ℕ × Slots A)) (others : List Triple) (t : Triple) → has_key t ≡ true
@@ -291,6 +304,17 @@ pub no_key : (b : Bool) (k : ℕ) → None ≡ (if b then Some k else None) → 
 no_key true k e = absurd (none-some k e)
 no_key false k e = refl
 
+-- a path edge whose key is given is that of its key and its bit
+pub given_edge : (entry point values key : ℕ)
+    → Some key ≡ (if fits_in_key values (point / 64) then Some (key_in values (point / 64)) else None)
+    → slot_edge entry key (point % 64) ≡ triple entry point values
+given_edge entry point values key given =
+    let (h, is) = given_key (fits_in_key values (point / 64)) (key_in values (point / 64)) key given in
+    let (v, b) = small (triple entry point values) h in
+    let p : key % 2 ^ 10 * 64 + point % 64 ≡ point = omega (arith, b, is) in
+    let q : key / 2 ^ 10 ≡ values = omega (arith, b, is) in
+    λ j. triple entry (p j) (q j)
+
 module _ {A S E : Type 0} (m n : IndexMap ℕ (Slots A) S) (e : ℕ) (none : Slots A) (others : List Triple)
     (r : Result (ℕ × Option (Slots A)) E) where
   -- whether an entry got an empty table, or memory was refused
@@ -331,13 +355,10 @@ module _ {A S : Type 0} (m : IndexMap ℕ (Slots A) S) (i : ℕ) (new : Slots A)
   unique_still unique = subst (IsDistinct nat_eq) (sym (keys-with_value_at m i new)) unique
 
   -- the slot that a point was put into is that of its key
-  pub last_is : (last : LastSlot) → last.table ≡ i → slice_get (keys m) i ≡ Some last.entry → fits_in_key last.values last.block ≡ true
-      → last.key ≡ key_in last.values last.block → IsKeyIn new.slots.items last.key last.at
-      → IsLastSlot (set_value_at m.entries i new) last
-  last_is last table entry fits key there = (
+  pub last_is : (last : LastSlot) → last.table ≡ i → slice_get (keys m) i ≡ Some last.entry
+      → IsKeyIn new.slots.items last.key last.at → IsLastSlot (set_value_at m.entries i new) last
+  last_is last table entry there = (
     ap (λ k. slice_get (keys (with_value_at m i new)) k) table ∙ ap (λ ks. slice_get ks i) (keys-with_value_at m i new) ∙ entry,
-    fits,
-    key,
     λ t at. subst (λ (k : Slots A). IsKeyIn k.slots.items last.key last.at)
         (value_set m.entries i new t (ap (λ k. slice_get (values_of (set_value_at m.entries i new)) k) (sym table) ∙ at)) there,
   )

@@ -1,5 +1,5 @@
 -- The path edges of a table of masks for each entry, and those that do not fit there.
-use Rattle.std.specs.Prelude.{◌≡◌, ◌/◌, ◌%◌, ℕ, Bool, true, false, cond, nat_eq, List, filter, Option, None, Some, slice_get}
+use Rattle.std.specs.Prelude.{◌≡◌, ◌+◌, ◌*◌, ◌/◌, ◌%◌, ◌^◌, ℕ, Bool, false, cond, nat_eq, List, filter, Option, None, Some, slice_get}
 use Rattle.std.specs.List.{list_any}
 use Rattle.std.specs.Map.{keys_of, values_of, lookup}
 use Rattle.language.specs.Lists.{Member}
@@ -9,11 +9,15 @@ use Rattle.path_sets.specs.declared.slots.slots.Slots.{Slots}
 use Rattle.path_sets.specs.Contents.{whole}
 use Rattle.path_sets.specs.Members.{triple_eq, universe}
 use Rattle.path_sets.specs.Slots.{fits_in_key, key_in, slots_have, IsKeyIn}
-use Rattle.path_sets.specs.Triples.{Triple}
+use Rattle.path_sets.specs.Triples.{Triple, triple}
 
 -- whether the valuation and the block of a path edge have a key
 abbrev pub has_key : Triple → Bool
 has_key t = fits_in_key t.values (t.point / 64)
+
+-- the path edge of an entry, a key and a bit of its mask
+abbrev pub slot_edge : ℕ → ℕ → ℕ → Triple
+slot_edge entry key bit = triple entry (key % 2 ^ 10 * 64 + bit) (key / 2 ^ 10)
 
 -- no path edge that has a key is among these
 abbrev pub HaveNoKeys : List Triple → Type 0
@@ -43,6 +47,5 @@ module _ {A : Type 0} where
   -- the last slot has this key, in the table of its entry
   abbrev pub IsLastSlot : List (ℕ × Slots A) → LastSlot → Type 0
   IsLastSlot tables last =
-      (slice_get (keys_of tables) last.table ≡ Some last.entry) × (fits_in_key last.values last.block ≡ true)
-      × (last.key ≡ key_in last.values last.block)
+      (slice_get (keys_of tables) last.table ≡ Some last.entry)
       × ((table : Slots A) → slice_get (values_of tables) last.table ≡ Some table → IsKeyIn table.slots.items last.key last.at)

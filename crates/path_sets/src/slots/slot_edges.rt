@@ -1,12 +1,11 @@
 //! A set of path edges that keeps a table of masks for each entry.
 
-ghost use Rattle.std.specs.Prelude.{◌≡◌, ◌<◌, ◌^◌, false, length, nat_eq, None, Some, slice_get, IfOk, OnErr, OnOk};
+ghost use Rattle.std.specs.Prelude.{◌≡◌, ◌<◌, ◌^◌, false, length, nat_eq, Some, slice_get, IfOk, IsTrue, OnErr, OnOk};
 ghost use Rattle.std.proofs.lemmas.Map.Keys.{IsDistinct-prop};
 ghost use Rattle.indexmap.specs.IndexMap.{IsUnique, keys};
 ghost use Rattle.language.specs.Lists.{NoneTwice, NoneTwice-prop};
-ghost use Rattle.path_sets.specs.declared.slots.slot_edges.LastSlot.{LastSlot};
 ghost use Rattle.path_sets.specs.Inserts.{HasAlso, IsLongerIf, IsNewIf};
-ghost use Rattle.path_sets.specs.SlotSets.{edges_of, has_key, wide_edges, HaveNoKeys, IsLastSlot};
+ghost use Rattle.path_sets.specs.SlotSets.{edges_of, has_key, slot_edge, wide_edges, HaveNoKeys, IsLastSlot};
 ghost use Rattle.path_sets.specs.Triples.{triple};
 
 use crate::diagrams::diagram_edges::DiagramEdges;
@@ -23,11 +22,8 @@ use std::alloc::{AllocError, Allocator};
 #[derive(Clone, Copy)]
 pub(crate) struct LastSlot {
     pub(crate) entry: Word,
-    pub(crate) values: Word,
-    pub(crate) block: usize,
     /// The index of the entry's table.
     pub(crate) table: usize,
-    /// The key of the valuation and the block.
     pub(crate) key: u64,
     /// The index of the slot in the table.
     pub(crate) at: usize,
@@ -39,10 +35,12 @@ pub(crate) struct LastSlot {
 pub struct SlotEdges<A: Allocator> {
     tables: ByKey<Word, Slots<A>, A>,
     wide: DiagramEdges<A>,
-    last: Option<LastSlot>,
+    last: LastSlot,
+    /// Whether some slot is the last one.
+    has_last: bool,
     count: u64,
     ghost unique: { IsUnique nat_eq tables } by { IsDistinct-prop nat_eq (keys tables) },
-    ghost placed: { (l : LastSlot) → last ≡ Some l → IsLastSlot tables.entries l },
+    ghost placed: { IsTrue has_last → IsLastSlot tables.entries last },
     ghost apart: { HaveNoKeys (wide_edges wide) },
     ghost counted: { count ≡ length (edges_of tables.entries wide) },
     ghost once: { NoneTwice (edges_of tables.entries wide) } by { NoneTwice-prop
@@ -56,14 +54,10 @@ impl<A: Allocator + Copy> SlotEdges<A> {
         ensures at { IfOk result (λ at. slice_get (keys self.new.tables) at ≡ Some entry) }
         ensures members { edges_of self.new.tables.entries self.new.wide
             ≡ edges_of self.old.tables.entries self.old.wide }
-        ensures last { self.new.last ≡ None }
+        ensures last { self.new.has_last ≡ false }
     {
-        let near = match &self.last {
-            Some(last) => last.table,
-            None => 0,
-        };
-        self.last = None;
-        if let Some(at) = find(&self.tables, near, &entry) {
+        self.has_last = false;
+        if let Some(at) = find(&self.tables, self.last.table, &entry) {
             return Ok(at);
         }
         let none = Slots::new(*self.tables.allocator());
@@ -93,40 +87,31 @@ impl<A: Allocator + Copy> SlotEdges<A> {
         Ok(added)
     }
 
-    /// Inserts a path edge, whether or not it is in the last slot.
+    /// Inserts the path edge of a key and a bit, whether or not it is in the last slot.
     // Apart, since mostly the next path edge is in the last slot.
     #[inline(never)]
-    fn insert_elsewhere(
-        &mut self,
-        entry: Word,
-        point: Point,
-        values: Word,
-    ) -> Result<bool, AllocError>
-        requires { length (edges_of self.old.tables.entries self.old.wide) < 2 ^ 63 }
-        ensures members { OnOk result (HasAlso (triple entry point values)
+    fn insert_elsewhere(&mut self, entry: Word, key: u64, bit: usize) -> Result<bool, AllocError>
+        requires bit { bit < 64 }
+        requires few { length (edges_of self.old.tables.entries self.old.wide) < 2 ^ 63 }
+        ensures members { OnOk result (HasAlso (slot_edge entry key bit)
             (edges_of self.old.tables.entries self.old.wide)
             (edges_of self.new.tables.entries self.new.wide)) }
         ensures new { IfOk result
-            (IsNewIf (triple entry point values) (edges_of self.old.tables.entries self.old.wide)) }
+            (IsNewIf (slot_edge entry key bit) (edges_of self.old.tables.entries self.old.wide)) }
         ensures len { IfOk result (IsLongerIf (edges_of self.old.tables.entries self.old.wide)
             (edges_of self.new.tables.entries self.new.wide)) }
         ensures err { OnErr result (edges_of self.new.tables.entries self.new.wide
             ≡ edges_of self.old.tables.entries self.old.wide) }
     {
-        let block = point / BLOCK;
-        let Some(key) = key_of(values, block) else {
-            return self.insert_wide(entry, point, values);
-        };
         let table = self.table_of(entry)?;
-        let put = self.tables[table].put(key, point % BLOCK)?;
-        self.last = Some(LastSlot {
+        let put = self.tables[table].put(key, bit)?;
+        self.last = LastSlot {
             entry,
-            values,
-            block,
             table,
             key,
             at: put.at,
-        });
+        };
+        self.has_last = true;
         if put.added {
             self.count += 1;
         }
@@ -141,20 +126,27 @@ impl<A: Allocator + Copy> PathSet<A> for SlotEdges<A> {
         SlotEdges {
             tables: IndexMap::new(alloc),
             wide: PathSet::empty(alloc),
-            last: None,
+            last: LastSlot {
+                entry: 0,
+                table: 0,
+                key: 0,
+                at: 0,
+            },
+            has_last: false,
             count: 0,
         }
     }
 
     #[inline(always)]
     fn insert(&mut self, entry: Word, point: Point, values: Word) -> Result<bool, AllocError> {
-        let Some(last) = self.last else {
-            return self.insert_elsewhere(entry, point, values);
+        let Some(key) = key_of(values, point / BLOCK) else {
+            return self.insert_wide(entry, point, values);
         };
-        if last.values != values || last.entry != entry || last.block != point / BLOCK {
-            return self.insert_elsewhere(entry, point, values);
+        let bit = point % BLOCK;
+        if !self.has_last || self.last.key != key || self.last.entry != entry {
+            return self.insert_elsewhere(entry, key, bit);
         }
-        let added = self.tables[last.table].mark(last.at, last.key, point % BLOCK);
+        let added = self.tables[self.last.table].mark(self.last.at, key, bit);
         if added {
             self.count += 1;
         }

@@ -1,45 +1,45 @@
-use Rattle.std.proofs.Common.{◌≡◌, ◌/◌, ◌%◌, ◌||◌, true, not, length, Some, refl, ap, sym, ◌∙◌, subst, arith}
-use Rattle.std.proofs.lemmas.Option.{none-some, same_Some}
+use Rattle.std.proofs.Common.{◌≡◌, ◌/◌, ◌%◌, ◌||◌, true, not, length, refl, ap, sym, ◌∙◌, subst, true≢false, arith}
 use Rattle.indexmap.specs.IndexMap.{set_value_at}
 use Rattle.path_sets.specs.declared.slots.slot_edges.LastSlot.{LastSlot}
 use Rattle.path_sets.specs.Inserts.{HasAlso, IsLongerIf, IsNewIf}
 use Rattle.path_sets.specs.Members.{triple_eq}
-use Rattle.path_sets.specs.Slots.{fits_in_key, key_in, PutsPoint}
-use Rattle.path_sets.specs.SlotSets.{edges_of, is_kept, wide_edges, IsLastSlot}
+use Rattle.path_sets.specs.Slots.{key_in, PutsPoint}
+use Rattle.path_sets.specs.SlotSets.{edges_of, has_key, is_kept, slot_edge, wide_edges, IsLastSlot}
 use Rattle.path_sets.specs.Triples.{Triple, triple}
 use Rattle.path_sets.proofs.MembersLemmas.{Fits}
 use Rattle.path_sets.proofs.ShardLemmas.{at_error}
-use Rattle.path_sets.proofs.SlotSetLemmas.{counts_none, counts_one, given_key, kept_also, kept_longer, kept_new, kept_once, last_is}
-use Rattle.path_sets.proofs.SlotSetLemmas.{replaced_one, replaced_same, replaced_was, unique_still}
+use Rattle.path_sets.proofs.SlotSetLemmas.{bit_of_slot, counts_none, counts_one, kept_also, kept_longer, kept_new, kept_once, last_is}
+use Rattle.path_sets.proofs.SlotSetLemmas.{key_of_slot, replaced_one, replaced_same, replaced_was, slot_has_key, unique_still}
 use Rattle.path_sets.proofs.slots.slot_edges.SlotEdges.insert_elsewhere.Given as given
 use Rattle.path_sets.proofs.slots.slot_edges.SlotEdges.insert_elsewhere.Goals as goal
 use Rattle.path_sets.proofs.slots.slot_edges.SlotEdges.insert_elsewhere.Goals.{In_err-put, In_ok-put}
 
 module _ (g : given.Over) (c : In_ok-put g) where
   abbrev x : Triple
-  x = triple c.args.entry c.args.point c.args.values
+  x = slot_edge c.args.entry c.args.key c.args.bit
 
   fits : Fits x
   fits = record { entry = omega arith; point = omega arith; values = omega arith }
 
-  key : (fits_in_key c.args.values (c.args.point / 64) ≡ true) × (c.in-Some.key ≡ key_in c.args.values (c.args.point / 64))
-  key = given_key (fits_in_key c.args.values (c.args.point / 64)) (key_in c.args.values (c.args.point / 64)) c.in-Some.key c.in-Some.ensures
+  key : has_key x ≡ true
+  key = slot_has_key c.args.entry c.args.key c.args.bit (omega arith) c.requires.bit
 
-  puts : PutsPoint (key_in c.args.values (c.args.point / 64))
-      (c.args.point % 64) c.index_mut.result.now.slots.items c.put.new.self.slots.items
+  puts : PutsPoint (key_in x.values (x.point / 64)) (x.point % 64) c.index_mut.result.now.slots.items c.put.new.self.slots.items
       c.in_ok-put.put.added
-  puts = subst (λ k. PutsPoint k (c.args.point % 64) c.index_mut.result.now.slots.items c.put.new.self.slots.items c.in_ok-put.put.added)
-      key.1 c.in_ok-put.ensures.puts
+  puts = subst (λ k. PutsPoint k (x.point % 64) c.index_mut.result.now.slots.items c.put.new.self.slots.items c.in_ok-put.put.added)
+      (sym (key_of_slot c.args.entry c.args.key c.args.bit c.requires.bit))
+      (subst (λ b. PutsPoint c.args.key b c.index_mut.result.now.slots.items c.put.new.self.slots.items c.in_ok-put.put.added)
+      (sym (bit_of_slot c.args.entry c.args.key c.args.bit c.requires.bit)) c.in_ok-put.ensures.puts)
 
   one : (t : Triple) → is_kept (set_value_at c.table_of.new.self.tables.entries c.in_ok-table.table c.put.new.self)
       (wide_edges c.table_of.new.self.wide) t
       ≡ (triple_eq t x || is_kept c.table_of.new.self.tables.entries (wide_edges c.table_of.new.self.wide) t)
   one = replaced_one c.table_of.new.self.tables c.table_of.new.self.unique c.in_ok-table.table c.index_mut.result.now c.put.new.self x
-      c.in_ok-table.ensures.at c.index_mut.ensures.value (wide_edges c.table_of.new.self.wide) key.0 c.in_ok-put.put.added puts
+      c.in_ok-table.ensures.at c.index_mut.ensures.value (wide_edges c.table_of.new.self.wide) key c.in_ok-put.put.added puts
 
   was : is_kept c.table_of.new.self.tables.entries (wide_edges c.table_of.new.self.wide) x ≡ not c.in_ok-put.put.added
   was = replaced_was c.table_of.new.self.tables c.table_of.new.self.unique c.in_ok-table.table c.index_mut.result.now c.put.new.self x
-      c.in_ok-table.ensures.at c.index_mut.ensures.value (wide_edges c.table_of.new.self.wide) key.0 c.in_ok-put.put.added puts
+      c.in_ok-table.ensures.at c.index_mut.ensures.value (wide_edges c.table_of.new.self.wide) key c.in_ok-put.put.added puts
 
   also : HasAlso x (edges_of c.args.self.now.tables.entries c.args.self.now.wide)
       (edges_of (set_value_at c.table_of.new.self.tables.entries c.in_ok-table.table c.put.new.self) c.table_of.new.self.wide)
@@ -58,19 +58,13 @@ module _ (g : given.Over) (c : In_ok-put g) where
   abbrev here : LastSlot
   here = record {
     entry = c.args.entry;
-    values = c.args.values;
-    block = c.args.point / 64;
     table = c.in_ok-table.table;
-    key = c.in-Some.key;
+    key = c.args.key;
     at = c.in_ok-put.put.at;
   }
 
-  placed : (l : LastSlot) → Some here ≡ Some l
-      → IsLastSlot (set_value_at c.table_of.new.self.tables.entries c.in_ok-table.table c.put.new.self) l
-  placed l is =
-      subst (IsLastSlot (set_value_at c.table_of.new.self.tables.entries c.in_ok-table.table c.put.new.self)) (same_Some here l is)
-      (last_is c.table_of.new.self.tables c.in_ok-table.table c.put.new.self here refl c.in_ok-table.ensures.at key.0 key.1
-      c.in_ok-put.ensures.key)
+  placed : IsLastSlot (set_value_at c.table_of.new.self.tables.entries c.in_ok-table.table c.put.new.self) here
+  placed = last_is c.table_of.new.self.tables c.in_ok-table.table c.put.new.self here refl c.in_ok-table.ensures.at c.in_ok-put.ensures.key
 
 pub invariant_of-self : goal.invariant_of-self
 invariant_of-self g c =
@@ -79,7 +73,7 @@ invariant_of-self g c =
     c.in_ok-table.ensures.at c.index_mut.ensures.value (wide_edges s.wide) c.in_err-put.ensures.err in
     record {
       unique = unique_still s.tables c.in_ok-table.table c.put.new.self s.unique;
-      placed = λ l is. absurd (none-some l (sym c.in_ok-table.ensures.last ∙ is));
+      placed = λ is. absurd (true≢false (sym is ∙ c.in_ok-table.ensures.last));
       apart = s.apart;
       counted = s.counted ∙ sym (ap length same);
       once = kept_once (is_kept (set_value_at s.tables.entries c.in_ok-table.table c.put.new.self) (wide_edges s.wide));
@@ -98,7 +92,7 @@ invariant_of-self-then-put g c =
     let s = c.table_of.new.self in
     record {
       unique = unique_still s.tables c.in_ok-table.table c.put.new.self s.unique;
-      placed = placed g i;
+      placed = λ is. placed g i;
       apart = s.apart;
       counted = counts_one s.count _ _ c.in_ok-put.put.added c.if-put.true s.counted (longer g i);
       once = kept_once (is_kept (set_value_at s.tables.entries c.in_ok-table.table c.put.new.self) (wide_edges s.wide));
@@ -110,7 +104,7 @@ invariant_of-self-else-put g c =
     let s = c.table_of.new.self in
     record {
       unique = unique_still s.tables c.in_ok-table.table c.put.new.self s.unique;
-      placed = placed g i;
+      placed = λ is. placed g i;
       apart = s.apart;
       counted = counts_none s.count _ _ c.in_ok-put.put.added c.if-put.false s.counted (longer g i);
       once = kept_once (is_kept (set_value_at s.tables.entries c.in_ok-table.table c.put.new.self) (wide_edges s.wide));

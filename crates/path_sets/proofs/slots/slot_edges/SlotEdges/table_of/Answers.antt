@@ -1,6 +1,5 @@
-use Rattle.std.proofs.Common.{◌≡◌, length, slice_get, refl, sym, ap, ◌∙◌}
+use Rattle.std.proofs.Common.{◌≡◌, length, slice_get, refl, sym, ap, ◌∙◌, true≢false}
 use Rattle.std.specs.Map.{keys_of}
-use Rattle.std.proofs.lemmas.Option.{none-some}
 use Rattle.path_sets.specs.SlotSets.{edges_of, is_kept, wide_edges}
 use Rattle.path_sets.proofs.SlotSetLemmas.{kept_once, new_entry_at, with_empty_if}
 use Rattle.path_sets.proofs.slots.slot_edges.SlotEdges.table_of.Given as given
@@ -19,7 +18,7 @@ invariant_of-self-2 g c =
     let s = c.args.self.now in
     record {
       unique = c.insert_full.ensures.unique;
-      placed = λ l is. absurd (none-some l is);
+      placed = λ is. absurd (true≢false (sym is));
       apart = s.apart;
       counted = s.counted ∙ sym (ap length (same g (goal.at.invariant_of-self-2 g c).After-insert_full));
       once = kept_once (is_kept c.insert_full.new.self.entries (wide_edges s.wide));
