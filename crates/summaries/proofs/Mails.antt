@@ -1,7 +1,7 @@
 -- The messages given, of which none occurs twice, and callers that are known.
 use Rattle.std.proofs.Common.{zero, suc, take, drop, ◌≡◌, ◌≤◌, ◌<◌, ℕ, Bool, true, false, List, [], ◌∷◌}
-use Rattle.std.proofs.Common.{◌++◌, length, if◌then◌else◌, inl, inr, refl, sym, ap, ◌∙◌, subst, true≢false, not, Result}
-use Rattle.std.proofs.Common.{Ok, Err, is_ok, arith}
+use Rattle.std.proofs.Common.{◌++◌, length, inl, inr, refl, sym, ap, ◌∙◌, subst, true≢false, not, Result}
+use Rattle.std.proofs.Common.{Ok, Err, OnOk, OnErr, arith}
 use Rattle.std.proofs.lemmas.List.{take-append-drop, take-append-le, length-take-le}
 use Rattle.std.specs.List.{list_any}
 use Rattle.std.proofs.lemmas.Map.Views.{exact_unsigned_eq}
@@ -83,10 +83,10 @@ none_twice_first (suc n) [] once = tt
 none_twice_first (suc n) (x ∷ ks) once = (λ m. once.0 (member_first x n ks m), none_twice_first n ks once.1)
 
 -- nothing occurs twice when one is added, if it can be
-pub once_after : {K T E : Type 0} (k : K) (ks after : List K) (r : Result T E) →
-    after ≡ (if is_ok r then ks ++ k ∷ [] else ks) → (Member k ks → ⊥) → NoneTwice ks → NoneTwice after
-once_after k ks after (Ok _) is new once = subst NoneTwice (sym is) (none_twice_with k ks new once)
-once_after k ks after (Err _) is new once = subst NoneTwice (sym is) once
+pub once_after : {K T E : Type 0} (k : K) (ks after : List K) (r : Result T E) → OnOk r (after ≡ ks ++ k ∷ []) → OnErr r (after ≡ ks)
+    → (Member k ks → ⊥) → NoneTwice ks → NoneTwice after
+once_after k ks after (Ok _) added same new once = subst NoneTwice (sym added) (none_twice_with k ks new once)
+once_after k ks after (Err _) added same new once = subst NoneTwice (sym same) once
 
 -- what comes after others is not among them, if nothing occurs twice
 pub next_new : {K : Type 0} (ks : List K) (n m : ℕ) (k : K) → take m ks ≡ take n ks ++ k ∷ [] → NoneTwice ks → Member k (take n ks) → ⊥

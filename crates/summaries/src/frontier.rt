@@ -3,6 +3,7 @@
 ghost use Rattle.std.specs.Prelude.{◌≡◌};
 
 use crate::edge::PathEdge;
+use crate::long_list::append;
 use crate::table_fault::TableFault;
 use language::{Point, Word};
 use path_sets::{EdgeLimit, PathSet};
@@ -50,7 +51,7 @@ impl<'e, 'p, A: Allocator, S: PathSet<A>> Frontier<'e, 'p, A, S> {
         ensures { Extends S.members (λ t. t ≡ triple_of edge) result self.old self.new }
     {
         if let Some(found) = self.find(edge)? {
-            self.pending.push(found)?;
+            append(self.pending, found)?;
         }
         Ok(())
     }

@@ -15,6 +15,7 @@ mod kept_call;
 mod kept_edge;
 mod kept_exit;
 mod laws;
+mod long_list;
 mod no_verdict;
 mod outbox;
 mod pair;

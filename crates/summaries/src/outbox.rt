@@ -6,6 +6,7 @@ ghost use Rattle.std.specs.Bool.{OnTrue, OnFalse};
 ghost use Rattle.language.specs.Lists.{Member, NoneTwice, NoneTwice-prop};
 
 use crate::exits::Place;
+use crate::long_list::append;
 use std::alloc::{AllocError, Allocator};
 
 /// A message sent, by the indexes of what its table holds.
@@ -58,7 +59,7 @@ impl<A: Allocator + Copy> Outbox<A> {
         ensures err { OnErr result (self.new.sent.items ≡ self.old.sent.items) }
         ensures answered { self.new.answered ≡ self.old.answered }
     {
-        self.sent.push(message)?;
+        append(&mut self.sent, message)?;
         Ok(())
     }
 

@@ -18,6 +18,7 @@ use crate::exits::Exits;
 use crate::found::Found;
 use crate::groups::Groups;
 use crate::kept_exit::KeptExit;
+use crate::long_list::append;
 use crate::pair::Pair;
 use crate::summaries::Summary;
 use crate::table::Table;
@@ -38,7 +39,7 @@ fn entries<A: Allocator + Copy>(
     let keys = callers.by_key.keys();
     for entry in keys.as_slice() {
         if !callers.of(*entry).is_empty() {
-            entries.push(*entry)?;
+            append(&mut entries, *entry)?;
         }
     }
     entries.sort_unstable();
@@ -56,11 +57,12 @@ fn add_pairs_of<A: Allocator>(
     let first = pairs.len();
     for kept in exits {
         let left = kept.exit();
-        pairs.push(Pair {
+        let pair = Pair {
             a: entry,
             b: left.globals,
             r: left.result,
-        })?;
+        };
+        append(pairs, pair)?;
     }
     pairs[first..].sort_unstable();
     Ok(())
@@ -74,7 +76,7 @@ fn entries_left<A: Allocator + Copy>(alloc: A, exits: &Exits<A>) -> Result<Vec<W
     let mut entries = Vec::with_capacity(alloc, exits.by_entry.len())?;
     let keys = exits.by_entry.keys();
     for entry in keys.as_slice() {
-        entries.push(*entry)?;
+        append(&mut entries, *entry)?;
     }
     entries.sort_unstable();
     Ok(entries)

@@ -17,6 +17,6 @@ pub(crate) fn append<T: Copy, A: Allocator>(
     if list.len() == list.capacity() {
         list.reserve_exact(list.len() / 2 + 2)?;
     }
-    list.push(value)?;
+    list.push_reserved(value);
     Ok(())
 }

@@ -17,7 +17,7 @@ loop-kept-preserved g c =
     let f : Exit → Pair = pair c.args.entry in
     let x = get_or xs i c.kept-item.result in
     let is : c.exit-left.result ≡ x = c.exit-left.ensures ∙ c.kept-item.is in
-    c.in_ok-push.ensures.items ∙ (λ j. c.loop-kept.invariant j ++ f (is j) ∷ [])
+    c.in_ok-append.ensures.ok ∙ (λ j. c.loop-kept.invariant j ++ f (is j) ∷ [])
     ∙ append_assoc c.args.pairs.now.items (map f (take i xs)) (f x ∷ [])
     ∙ ap (λ l. c.args.pairs.now.items ++ l)
     (sym (ap (map f) (take_more xs i c.kept-item.result c.loop-kept-test.true) ∙ map-append f (take i xs) (x ∷ [])))

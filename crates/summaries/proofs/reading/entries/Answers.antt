@@ -12,7 +12,7 @@ use Rattle.summaries.proofs.SortedLemmas.{distinct_filter}
 use Rattle.summaries.proofs.SortedLemmas.{keys_with_values}
 use Rattle.summaries.proofs.reading.entries.Given.{Over}
 use Rattle.summaries.proofs.reading.entries.Goals as goal
-use Rattle.summaries.proofs.reading.entries.Goals.{then-not-is_empty+in_ok-push, else-not-is_empty, After-sort_unstable}
+use Rattle.summaries.proofs.reading.entries.Goals.{then-not-is_empty+in_ok-append, else-not-is_empty, After-sort_unstable}
 
 pub loop-entry-preserved : goal.loop-entry-preserved
 loop-entry-preserved g c =
@@ -27,8 +27,8 @@ loop-entry-preserved g c =
     let so_far : c.loop-entry.entries.items ≡ filter p (take i items) = c.loop-entry.invariant ∙ ap (λ l. filter p (take i l)) (sym same) in
     subst (λ l. c.if-not-is_empty.entries.items ≡ filter p (take (i + 1) l)) same
     (elim c.if-not-is_empty.branch [
-      | then-not-is_empty+in_ok-push w ↦
-          ap (λ v. v.items) w.entries-is ∙ w.in_ok-push.ensures.items ∙ ap (λ l. l ++ x ∷ []) so_far
+      | then-not-is_empty+in_ok-append w ↦
+          ap (λ v. v.items) w.entries-is ∙ w.in_ok-append.ensures.ok ∙ ap (λ l. l ++ x ∷ []) so_far
           ∙ sym (more ∙ ap (λ b. filter p (take i items) ++ cond (not b) (x ∷ []) []) w.if-not-is_empty.true)
       | else-not-is_empty w ↦
           ap (λ v. v.items) w.entries-is ∙ so_far
