@@ -1,6 +1,6 @@
 -- The messages given, of which none occurs twice, and callers that are known.
 use Rattle.std.proofs.Common.{zero, suc, take, drop, ◌≡◌, ◌≤◌, ◌<◌, ℕ, Bool, true, false, List, [], ◌∷◌}
-use Rattle.std.proofs.Common.{◌++◌, length, inl, inr, refl, sym, ap, ◌∙◌, subst, true≢false, not, Result}
+use Rattle.std.proofs.Common.{◌++◌, length, if◌then◌else◌, inl, inr, refl, sym, ap, ◌∙◌, subst, true≢false, not, Result}
 use Rattle.std.proofs.Common.{Ok, Err, OnOk, OnErr, arith}
 use Rattle.std.proofs.lemmas.List.{take-append-drop, take-append-le, length-take-le}
 use Rattle.std.specs.List.{list_any}
