@@ -6,25 +6,16 @@ ghost use Rattle.resolved.specs.Limits.{most_places};
 use crate::assignment::masked;
 use crate::exit::Exit;
 use crate::formula::Formula;
-use language::{Point, WORD_BITS, Word};
+use crate::low_bits::LowBits;
+use language::{Point, Word};
 use std::alloc::Allocator;
-
-/// The lowest bits of a number.
-pub(crate) fn low_bits(values: Word, count: u8) -> Word
-    ensures { result ≡ values % 2 ^ count }
-{
-    if count < WORD_BITS {
-        values % (1 << count)
-    } else {
-        values
-    }
-}
 
 /// The call of a procedure, compiled.
 #[derive(Drop)]
 pub struct Call<A: Allocator> {
     pub(crate) callee: u8,
-    pub(crate) globals: u8,
+    /// The bits of the globals.
+    pub(crate) globals: LowBits,
     pub(crate) arguments: Vec<Formula<A>, A>,
     /// The bit of the variable that is called for, alone; 0 for none.
     pub(crate) target: Word,
@@ -55,8 +46,8 @@ impl<A: Allocator> Call<A> {
     pub fn entry(&self, values: Word) -> Word
         ensures { result ≡ entered_from self.now values }
     {
-        let mut entry = low_bits(values, self.globals);
-        let mut bit = self.globals;
+        let mut entry = self.globals.of(values);
+        let mut bit = self.globals.count();
         for argument in self.arguments.as_slice() {
             entry += (argument.value(values) as Word) << bit;
             bit += 1;
@@ -70,8 +61,8 @@ impl<A: Allocator> Call<A> {
         ensures number { result ≡ resumed_from self.now values left }
         ensures valuation { IsResumed self.now values left result }
     {
-        let globals = low_bits(left.globals, self.globals);
-        let places = values - low_bits(values, self.globals);
+        let globals = self.globals.of(left.globals);
+        let places = values - self.globals.of(values);
         masked(globals + places, self.target, left.result)
     }
 }

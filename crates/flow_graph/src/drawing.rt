@@ -11,6 +11,7 @@ ghost use Rattle.flow_graph.specs.Located.{given_mask};
 
 use crate::flow::Flow;
 use crate::graph::{Graph, Graphs};
+use crate::low_bits::LowBits;
 use crate::lowering::{Lowering, first_point};
 use crate::put::{push, put};
 use crate::scope::Scope;
@@ -61,7 +62,7 @@ fn graph<N: Allocator, A: Allocator + Clone>(
     Ok(Graph {
         flows,
         start: first_point(body, 1, EXIT),
-        globals: program.globals.len() as u8,
+        globals: LowBits::new(program.globals.len() as u8),
         result,
     })
 }

@@ -3,9 +3,9 @@
 ghost use Rattle.std.specs.Prelude.{◌≡◌, ◌≤◌, ◌<◌, length, slice_get, Some};
 ghost use Rattle.flow_graph.specs.Bits.{has_any};
 
-use crate::call::low_bits;
 use crate::exit::Exit;
 use crate::flow::Flow;
+use crate::low_bits::LowBits;
 use language::{Point, Word};
 use std::alloc::Allocator;
 
@@ -23,7 +23,8 @@ fn has_any(values: Word, mask: Word) -> bool
 pub struct Graph<A: Allocator> {
     pub(crate) flows: Vec<Flow<A>, A>,
     pub(crate) start: Point,
-    pub(crate) globals: u8,
+    /// The bits of the globals.
+    pub(crate) globals: LowBits,
     /// The bit of the result, alone; 0 if the procedure gives none.
     pub(crate) result: Word,
 }
@@ -60,7 +61,7 @@ impl<A: Allocator> Graph<A> {
         ensures globals { AreGlobalsOf (globals_of self.now) values result.globals }
     {
         Exit {
-            globals: low_bits(values, self.globals),
+            globals: self.globals.of(values),
             result: has_any(values, self.result),
         }
     }

@@ -14,6 +14,7 @@ mod joining;
 mod joint;
 mod labels;
 mod laws;
+mod low_bits;
 mod lowering;
 mod outputs;
 mod postfix;

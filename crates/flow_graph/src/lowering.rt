@@ -12,6 +12,7 @@ use crate::call::Call;
 use crate::flow::Flow;
 use crate::formula::Formula;
 use crate::labels::find;
+use crate::low_bits::LowBits;
 use crate::outputs::Outputs;
 use crate::put::put;
 use crate::scope::Scope;
@@ -135,7 +136,7 @@ impl<'a, N: Allocator, A: Allocator + Clone> Lowering<'a, N, A> {
         }
         Ok(Flow::Call(Call {
             callee: callee as u8,
-            globals: self.scope.globals.len() as u8,
+            globals: LowBits::new(self.scope.globals.len() as u8),
             arguments,
             target,
             back,

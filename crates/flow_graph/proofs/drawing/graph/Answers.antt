@@ -38,7 +38,7 @@ returns g c =
     let lowered = c.in_ok-block.ensures in
     let small = c.block.new.flows.small in
     let one = ap length start in (
-      c.len.ensures ∙ t.globals.ok.0 ∙ sym (length-map t.globals.items name_of),
+      c.new.ensures ∙ c.len.ensures ∙ t.globals.ok.0 ∙ sym (length-map t.globals.items name_of),
       c.first_point.ensures s done refl ∙ ap point_at
           (join_done (numbered 1 (resolve_block s (block_of c.as_slice-body.result.now)))) ∙
           ap (λ l. point_at (numbered 1 (resolve_block s (block_of l)))) body,
@@ -47,7 +47,3 @@ returns g c =
           (lowered.1 done refl (omega (arith, lowered.0, small, one), omega (arith, lowered.0, small, one))),
       c.mask_of_result-result.ensures,
     )
-
-pub overflow_cast-result : goal.overflow_cast-result
-overflow_cast-result g c =
-    omega (arith, c.requires.0, width_counted c.args.program.now c.args.proc.now, c.len.ensures, c.args.program.now.globals.ok.0)

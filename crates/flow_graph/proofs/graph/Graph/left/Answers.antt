@@ -4,4 +4,4 @@ use Rattle.flow_graph.proofs.graph.Graph.left.Goals as goal
 
 pub returns-clause-globals : goal.returns-clause-globals
 returns-clause-globals g c v wide is =
-    c.low_bits.ensures ∙ ap (λ n. n % 2 ^ c.args.self.now.globals) is ∙ left_coded c.args.self.now.globals v wide
+    c.of.ensures ∙ ap (λ n. n % 2 ^ c.args.self.now.globals) is ∙ left_coded c.args.self.now.globals v wide

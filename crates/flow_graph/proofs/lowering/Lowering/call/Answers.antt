@@ -62,7 +62,7 @@ returns g c target mask has =
     let count : length s.procedures ≡ length procs = length-map (procs_of procs) _ ∙ length-map procs proc_of in
     let globals : length s.globals ≡ length c.args.self.now.scope.globals.now = length-map c.args.self.now.scope.globals.now name_of in
     let callee = c.number_of_procedure-callee.ensures ∙ e in
-    does_calls _ target _ (map (resolve_expression s) (exprs_of es)) s _ callee (sym globals)
+    does_calls _ target _ (map (resolve_expression s) (exprs_of es)) s _ callee (c.new.ensures ∙ sym globals)
     (omega (arith, callee, count, c.if-callee-self.false))
     (λ gs ls wide.
     sym (append-nil (map (λ f. says f (coded (gs ++ ls))) c.loop-e.arguments.items))
