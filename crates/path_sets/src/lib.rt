@@ -23,4 +23,6 @@ pub use laws::{
 pub use ordered::ordered_edges::OrderedEdges;
 pub use path_set::PathSet;
 pub use points::halves::Halves;
+pub use points::mask::add_point;
 pub use slots::slot_edges::SlotEdges;
+pub use slots::slots::home_of;

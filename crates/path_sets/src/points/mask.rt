@@ -21,7 +21,8 @@ pub(crate) fn has_point(mask: u64, bit: usize) -> bool
 
 /// Puts the point of a bit into a mask. Returns whether the point is new.
 // The mask is written in either case, so that no jump depends on it.
-pub(crate) fn add_point(mask: &mut u64, bit: usize) -> bool
+#[inline(always)]
+pub fn add_point(mask: &mut u64, bit: usize) -> bool
     requires { bit < 64 }
     ensures { AddsPoint bit mask.old mask.new result }
 {

@@ -29,7 +29,21 @@ pub(crate) fn is_at<K: Eq + Hash, V, A: Allocator + Copy>(
     }
 }
 
-/// The index of a key, if it has a value; the key at the index `last` is tried first.
+/// The index of a key, if it has a value.
+#[inline(always)]
+pub(crate) fn index_of<K: Eq + Hash, V, A: Allocator + Copy>(
+    map: &ByKey<K, V, A>,
+    key: &K,
+) -> Option<usize>
+    requires { IsExact K.eq }
+    ensures here { IfSome result (λ at. slice_get (keys map.now) at ≡ Some key.now) }
+    ensures within { IfSome result (λ at. at < index_map_len map.now) }
+    ensures none { IsNone result → lookup (K.eq key.now) map.now.entries ≡ None }
+{
+    map.get_index_of(key)
+}
+
+/// The same, but the key at the index `last` is tried first.
 #[inline(always)]
 pub(crate) fn find<K: Eq + Hash, V, A: Allocator + Copy>(
     map: &ByKey<K, V, A>,
@@ -44,7 +58,7 @@ pub(crate) fn find<K: Eq + Hash, V, A: Allocator + Copy>(
     if is_at(map, last, key) {
         return Some(last);
     }
-    map.get_index_of(key)
+    index_of(map, key)
 }
 
 /// The index of a key if it has a value, else some other index; the key at the index `last` is tried first.

@@ -11,7 +11,7 @@ ghost use Rattle.path_sets.specs.Triples.{triple};
 use crate::diagrams::diagram_edges::DiagramEdges;
 use crate::path_set::PathSet;
 use crate::points::mask_key::BLOCK;
-use crate::points::seek::{ByKey, find};
+use crate::points::seek::{ByKey, index_of, is_at};
 use crate::slots::key::key_of;
 use crate::slots::slots::Slots;
 use indexmap::IndexMap;
@@ -50,6 +50,7 @@ pub struct SlotEdges<A: Allocator> {
 impl<A: Allocator + Copy> SlotEdges<A> {
     /// The index of an entry's table. An entry that has none gets an empty one. That of the last path edge is tried first, and
     /// no slot is the last one then.
+    #[inline(always)]
     fn table_of(&mut self, entry: Word) -> Result<usize, AllocError>
         ensures at { IfOk result (λ at. slice_get (keys self.new.tables) at ≡ Some entry) }
         ensures members { edges_of self.new.tables.entries self.new.wide
@@ -57,7 +58,23 @@ impl<A: Allocator + Copy> SlotEdges<A> {
         ensures last { self.new.has_last ≡ false }
     {
         self.has_last = false;
-        if let Some(at) = find(&self.tables, self.last.table, &entry) {
+        if is_at(&self.tables, self.last.table, &entry) {
+            return Ok(self.last.table);
+        }
+        self.look_up(entry)
+    }
+
+    /// The same by the entry's hash, while no slot is the last one.
+    // Apart, since most path edges have the entry of the one before.
+    #[inline(never)]
+    fn look_up(&mut self, entry: Word) -> Result<usize, AllocError>
+        requires none { self.old.has_last ≡ false }
+        ensures at { IfOk result (λ at. slice_get (keys self.new.tables) at ≡ Some entry) }
+        ensures members { edges_of self.new.tables.entries self.new.wide
+            ≡ edges_of self.old.tables.entries self.old.wide }
+        ensures last { self.new.has_last ≡ false }
+    {
+        if let Some(at) = index_of(&self.tables, &entry) {
             return Ok(at);
         }
         let none = Slots::new(*self.tables.allocator());
@@ -66,6 +83,7 @@ impl<A: Allocator + Copy> SlotEdges<A> {
     }
 
     /// Inserts a path edge that has no key.
+    #[cold]
     #[inline(never)]
     fn insert_wide(&mut self, entry: Word, point: Point, values: Word) -> Result<bool, AllocError>
         requires wide { has_key (triple entry point values) ≡ false }
@@ -153,6 +171,7 @@ impl<A: Allocator + Copy> PathSet<A> for SlotEdges<A> {
         Ok(added)
     }
 
+    #[cold]
     fn contains(&self, entry: Word, point: Point, values: Word) -> bool {
         let Some(key) = key_of(values, point / BLOCK) else {
             return self.wide.contains(entry, point, values);

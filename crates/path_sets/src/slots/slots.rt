@@ -33,7 +33,7 @@ pub(crate) struct Put {
 /// Where the search for a key begins among so many slots: 2^64 divided by the golden ratio spreads keys that are near each
 /// other.
 #[inline(always)]
-fn home_of(key: u64, count: usize) -> usize
+pub fn home_of(key: u64, count: usize) -> usize
     requires { 0 < count }
     ensures home { result ≡ home_in key count }
     ensures within { result < count }
@@ -160,8 +160,9 @@ impl<A: Allocator + Copy> Slots<A> {
         ensures puts { PutsPoint key bit self.old.slots.items self.new.slots.items result }
         ensures key { IsKeyIn self.new.slots.items key at }
     {
-        let known = merge(&mut self.slots, at, key, mask_of_point(bit));
-        !has_point(known, bit)
+        let point = mask_of_point(bit);
+        let known = merge(&mut self.slots, at, key, point);
+        known | point != known
     }
 
     /// Puts a point into the mask of a key. If memory is refused, the same points are there.

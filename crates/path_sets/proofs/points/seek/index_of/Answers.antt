@@ -1,6 +1,6 @@
 use Rattle.indexmap.specs.IndexMap.{keys}
 use Rattle.path_sets.proofs.RootLemmas.{found_if}
-use Rattle.path_sets.proofs.points.seek.find.Goals as goal
+use Rattle.path_sets.proofs.points.seek.index_of.Goals as goal
 
 pub returns-clause-here : goal.returns-clause-here
 returns-clause-here g c =
