@@ -1,32 +1,17 @@
 -- What is found by keys after one more value was added to a key.
-use Rattle.std.proofs.Common.{◌≡◌, ◌⊎◌, ◌&&◌, Bool, true, false, List, [], ◌∷◌, ◌++◌, inl, inr, refl, sym, subst}
-use Rattle.std.proofs.Common.{nat_eq}
-use Rattle.std.specs.Bool.{beq}
-use Rattle.std.proofs.lemmas.Map.Views.{exact_unsigned_eq}
-use Rattle.std.proofs.lemmas.Bool.{and_parts}
+use Rattle.std.proofs.Common.{◌≡◌, ◌⊎◌, Bool, true, false, List, [], ◌∷◌, ◌++◌, inl, inr, refl, sym, subst}
 use Rattle.language.specs.Lists.{Member, NoneTwice}
 use Rattle.language.proofs.Members.{member_left, member_right}
 use Rattle.summaries.specs.declared.edge.CallKey.{CallKey}
-use Rattle.flow_graph.specs.declared.exit.Exit.{Exit}
 use Rattle.summaries.specs.Calls.{call_eq}
 use Rattle.summaries.specs.Found.{call}
-use Rattle.path_sets.proofs.MaskKeyLemmas.{same_flag, same_by_two}
+use Rattle.path_sets.proofs.MaskKeyLemmas.{same_by_two}
 use Rattle.summaries.proofs.Mails.{none_twice_with}
 use Rattle.path_sets.proofs.PlaceLemmas.{last_or}
 
 -- calls that compare as equal are the same
 pub same_call : (x y : CallKey) → call_eq x y ≡ true → x ≡ y
 same_call x y = same_by_two call x.callee x.entered y.callee y.entered
-
--- whether two exits are the same
-abbrev pub exit_eq : Exit → Exit → Bool
-exit_eq x y = nat_eq x.globals y.globals && beq x.result y.result
-
--- exits that compare as equal are the same
-pub same_exit : (x y : Exit) → exit_eq x y ≡ true → x ≡ y
-same_exit x y e =
-    let (b, r) = and_parts (nat_eq x.globals y.globals) (beq x.result y.result) e in
-    λ j. record { globals = exact_unsigned_eq x.globals y.globals b j; result = same_flag x.result y.result r j }
 
 module _ {K V : Type 0} (eq : K → K → Bool) (same : (x y : K) → eq x y ≡ true → x ≡ y) (before after : K → List V) (key : K) (value : V)
     (added : after key ≡ before key ++ value ∷ []) (others : (k : K) → eq key k ≡ false → after k ≡ before k) where

@@ -21,7 +21,6 @@ use Rattle.summaries.specs.declared.due.Caller.TheVariants.{Proc}
 use Rattle.summaries.specs.declared.due.Due.TheVariants.{Entry}
 use Rattle.summaries.specs.declared.edge.CallKey.{CallKey}
 use Rattle.summaries.specs.declared.edge.PathEdge.{PathEdge}
-use Rattle.summaries.specs.declared.exits.Place.{Place}
 use Rattle.summaries.specs.declared.found.Found.{Found}
 use Rattle.summaries.specs.declared.outbox.Outbox.{Outbox}
 use Rattle.summaries.specs.declared.outbox.Outgoing.{Outgoing}
@@ -207,7 +206,7 @@ module _ {A : Type 0} (q : ℕ) (f : Found A) (given : Outbox A) (calls : Calls 
   abbrev there : Found A
   there = record f { calls = calls; outbox = given; pending = pending }
 
-  abbrev ps : Place → Option Pair
+  abbrev ps : ℕ → Option Pair
   ps = pairs_in f
 
   abbrev ds : List CallKey

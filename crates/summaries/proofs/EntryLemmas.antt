@@ -1,5 +1,5 @@
 -- The step of a table that takes an entry.
-use Rattle.std.proofs.Common.{◌≡◌, ◌<◌, ◌⊎◌, Some, ℕ, List, [], ◌∷◌, ◌++◌, false, nat_eq, inl, inr, refl, sym, ap, subst, map}
+use Rattle.std.proofs.Common.{◌≡◌, ◌⊎◌, ℕ, List, [], ◌∷◌, ◌++◌, false, nat_eq, inl, inr, refl, sym, ap, subst, map}
 use Rattle.std.specs.Prelude.{Vec}
 use Rattle.std.proofs.lemmas.Map.Views.{exact_unsigned_eq}
 use Rattle.language.specs.Lists.{Member}
@@ -12,9 +12,7 @@ use Rattle.summaries.specs.declared.due.Caller as rust
 use Rattle.summaries.specs.declared.due.Caller.TheVariants.{Proc}
 use Rattle.summaries.specs.declared.due.Due.TheVariants.{Entry}
 use Rattle.summaries.specs.declared.edge.PathEdge.{PathEdge}
-use Rattle.summaries.specs.declared.exits.Place.{Place}
 use Rattle.summaries.specs.declared.found.Found.{Found}
-use Rattle.summaries.specs.Exits.{place}
 use Rattle.summaries.specs.declared.outbox.Outbox.{Outbox}
 use Rattle.summaries.specs.declared.outbox.Outgoing.{Outgoing}
 use Rattle.summaries.specs.declared.groups.Groups.{Groups}
@@ -23,7 +21,7 @@ use Rattle.summaries.specs.Mails.{AddressedMail, mail, summary_due}
 use Rattle.summaries.specs.Dues.{caller_of, due_of}
 use Rattle.summaries.specs.Found.{pair, calls_in, pairs_in, mail_of, mails_in, TookMessage, HasExit, IsOwed, IsPlaced, IsIndexed}
 use Rattle.summaries.specs.Found.{IsGrounded}
-use Rattle.summaries.specs.Grows.{Grows, AddsTo, IsTold, IsToldOf, IsSummaryTold}
+use Rattle.summaries.specs.Grows.{Grows, AddsTo, IsToldOf, IsSummaryTold}
 use Rattle.summaries.specs.Tables.{TookAlso}
 use Rattle.summaries.proofs.AddLemmas.{added_or, added_keeps, added_is, added_once}
 use Rattle.summaries.proofs.Dues.{who, who_is, due_told, same_entry, apart}
@@ -124,48 +122,38 @@ module _ {A G : Type 0} (graph : Graph G) (q : ℕ) (f : Found A) (entries : Gro
         added others new)
         placed
 
--- the pairs of an entry are at these places
-module _ {A : Type 0} (f : Found A) (a entry count : ℕ)
-    (each : (k : ℕ) → k < count → (b : Exit) × (pairs_in f (place entry k) ≡ Some (pair a b))) where
+-- the pairs of an entry, with a caller that is told of them
+module _ {A : Type 0} (f : Found A) (a : ℕ) where
   -- a new caller has been told nothing yet
   pub none_told : {G : Type 0} (graph : Graph G) (q : ℕ) (es : List Triple) → IsGrounded graph q f es
       → (from : rust.Caller) → (Member from (under nat_eq f.entries.by_key a) → ⊥)
-      → (x : Outgoing) → IsToldOf entry count from x → Member x f.outbox.sent.items → ⊥
-  none_told graph q es sound from new x (k, less, told) given =
+      → (x : Outgoing) → IsToldOf f.exits a from x → Member x f.outbox.sent.items → ⊥
+  none_told graph q es sound from new x (at, (b, here), told) given =
       let cs = calls_in f in
       let ps = pairs_in f in
-      let (b, here) = each k less in
-      let (c, is, mailed) = told_mail q cs ps a b (place entry k) here from x told in
+      let (c, is, mailed) = told_mail q cs ps a b at here from x told in
       let (own, left, taken) = sound.given c (numbered_summary q a b)
       (subst (λ y. Member y (mails_in q f)) mailed (member_map (mail_of cs ps q) f.outbox.sent.items x given)) in
       new (subst (λ d. Member d (under nat_eq f.entries.by_key a)) (sym is) taken)
 
   -- They are told to a caller, by messages that have places.
   module _ (q : ℕ) (given : Outbox A) (from : rust.Caller)
-      (told : AddsTo (IsToldOf entry count from) f.outbox.sent.items given.sent.items) where
+      (told : AddsTo (IsToldOf f.exits a from) f.outbox.sent.items given.sent.items) where
     pub exits_placed : IsIndexed f → (x : Outgoing) → Member x given.sent.items → IsPlaced (calls_in f) (pairs_in f) x
     exits_placed old x m = elim (told.only x m) [
-      | inl w ↦
-          let (b, here) = each w.0 w.1 in
-          subst (IsPlaced (calls_in f) (pairs_in f)) (sym w.2.2) (pair a b, here)
+      | inl (at, (b, here), w) ↦ subst (IsPlaced (calls_in f) (pairs_in f)) (sym w.2) (pair a b, here)
       | inr was ↦ old.placed x was
     ]
 
-    -- so the summaries of all exits are given, if these are all
-    pub exits_told : ((at : Place) (b : Exit) → pairs_in f at ≡ Some (pair a b) → (at.entry ≡ entry) × (at.exit < count))
-        → AddsTo (IsExitTold q f a from) (mails_in q f) (map (mail_of (calls_in f) (pairs_in f) q) given.sent.items)
-    exits_told all =
+    -- so the summaries of all exits are given
+    pub exits_told : AddsTo (IsExitTold q f a from) (mails_in q f) (map (mail_of (calls_in f) (pairs_in f) q) given.sent.items)
+    exits_told =
         let cs = calls_in f in
         let ps = pairs_in f in
         gives_as _ (IsExitTold q f a from) _ _
-        (λ m (x, (k, less, w), is).
-        let (b, here) = each k less in (
-          b,
-          (place entry k, here),
-          subst (IsSummaryTold q a b from) (sym is) (told_mail q cs ps a b (place entry k) here from x w),
-        ))
+        (λ m (x, (at, (b, here), w), is).
+        (b, (at, here), subst (IsSummaryTold q a b from) (sym is) (told_mail q cs ps a b at here from x w)))
         (λ m (b, (at, here), w).
         let (x, is_told, is) = mail_told q cs ps a b at here from m w in
-        let (same, less) = all at b here in
-        (x, (at.exit, less, subst (λ (p : Place). IsTold p from x) (λ i. place (same i) at.exit) is_told), is))
-        (adds_mapped (mail_of cs ps q) (IsToldOf entry count from) f.outbox.sent.items given.sent.items told)
+        (x, (at, (b, here), is_told), is))
+        (adds_mapped (mail_of cs ps q) (IsToldOf f.exits a from) f.outbox.sent.items given.sent.items told)

@@ -13,7 +13,6 @@ use Rattle.summaries.specs.declared.due.Caller.{Caller}
 use Rattle.summaries.specs.declared.due.Caller.TheVariants.{Proc}
 use Rattle.summaries.specs.declared.outbox.Outgoing.{Outgoing}
 use Rattle.summaries.specs.declared.exits.Exits.{Exits}
-use Rattle.summaries.specs.declared.exits.Place.{Place}
 use Rattle.summaries.specs.declared.found.Found.{Found}
 use Rattle.summaries.specs.declared.pair.Pair.{Pair}
 use Rattle.summaries.specs.Under.{under}
@@ -29,7 +28,7 @@ use Rattle.summaries.proofs.PlaceLemmas.{adds_mapped, none_behind, KeepsPairs, p
 use Rattle.summaries.proofs.TellLemmas.{gives_kept, gives_as, told_mail, mail_told}
 
 -- a pair that comes to be at a place, beside those that are at others
-module _ {A : Type 0} (f g : Found A) (p : Pair) (at : Place) (added : IsPairAdded p at f.exits g.exits) where
+module _ {A : Type 0} (f g : Found A) (p : Pair) (at : ℕ) (added : IsPairAdded p at f.exits g.exits) where
   -- the others stay
   pub keeps_pairs : KeepsPairs (pairs_in f) (pairs_in g)
   keeps_pairs x found is = elim (added.others x) [
@@ -38,7 +37,7 @@ module _ {A : Type 0} (f g : Found A) (p : Pair) (at : Place) (added : IsPairAdd
   ]
 
   -- and there are no more
-  pub pair_or : (x : Place) (found : Pair) → pairs_in g x ≡ Some found → (pairs_in f x ≡ Some found) ⊎ (p ≡ found)
+  pub pair_or : (x : ℕ) (found : Pair) → pairs_in g x ≡ Some found → (pairs_in f x ≡ Some found) ⊎ (p ≡ found)
   pair_or x found is = elim (added.others x) [
     | inl same ↦ inr (same_Some p found (sym added.there ∙ ap (pairs_in g) (sym same) ∙ is))
     | inr stays ↦ inl (sym stays ∙ is)
@@ -56,7 +55,7 @@ module _ {A G : Type 0} (graph : Graph G) (q : ℕ) (f g : Found A) where
 
   module _ (es : List Triple) (a v : ℕ) (b : Exit) (is_left : b ≡ left_by graph v) (sound : IsGrounded graph q f es)
       (there : Member (triple a 0 v) es)
-      (at : Place) (added : IsPairAdded (pair a b) at f.exits g.exits) (indexed : IsIndexed f → IsIndexed left_to)
+      (at : ℕ) (added : IsPairAdded (pair a b) at f.exits g.exits) (indexed : IsIndexed f → IsIndexed left_to)
       (gave : AddsTo (OfSome (IsSummaryTold q a b) (under nat_eq f.entries.by_key a)) (mails_in q f) (mails_in q left_to)) where
     abbrev M : NumberedMessage → Type 0
     M = TookMessage left_to
@@ -116,7 +115,7 @@ module _ {A G : Type 0} (graph : Graph G) (q : ℕ) (f g : Found A) where
     }
 
 -- A pair that is new has a place of its own, which is told to its callers.
-module _ {A : Type 0} (q : ℕ) (f g : Found A) (a : ℕ) (b : Exit) (at : Place) (callers : List Caller) (old : IsIndexed f)
+module _ {A : Type 0} (q : ℕ) (f g : Found A) (a : ℕ) (b : Exit) (at : ℕ) (callers : List Caller) (old : IsIndexed f)
     (added : IsPairAdded (pair a b) at f.exits g.exits)
     (told : AddsTo (OfSome (IsTold at) callers) f.outbox.sent.items g.outbox.sent.items) where
   abbrev there : Found A
@@ -165,17 +164,17 @@ module _ {A : Type 0} (q : ℕ) (f g : Found A) (a : ℕ) (b : Exit) (at : Place
       mailed)
 
 -- no caller has been told of a new pair yet
-pub none_told : {A : Type 0} (f g : Found A) → IsIndexed f → (p : Pair) (at : Place) (callers : List Caller)
+pub none_told : {A : Type 0} (f g : Found A) → IsIndexed f → (p : Pair) (at : ℕ) (callers : List Caller)
     → IsPairAdded p at f.exits g.exits → (x : Outgoing) → OfSome (IsTold at) callers x → Member x f.outbox.sent.items → ⊥
 none_told f g old p at callers added x (from, m, (c, is, same)) given =
     let (told, here) = subst (IsPlaced (calls_in f) (pairs_in f)) same (old.placed x given) in
     none-some told (sym added.free ∙ here)
 
 -- the pair that was added, by an answer
-pub added_by : {A : Type 0} (old new : Exits A) (p found : Pair) (r : Option Place) (at : Place) → r ≡ Some at → p ≡ found
+pub added_by : {A : Type 0} (old new : Exits A) (p found : Pair) (r : Option ℕ) (at : ℕ) → r ≡ Some at → p ≡ found
     → IfSome r (λ x. IsPairAdded p x old new) → IsPairAdded found at old new
 added_by old new p found r at is same told =
-    subst (λ s. IsPairAdded s at old new) same (subst (λ (o : Option Place). IfSome o (λ x. IsPairAdded p x old new)) is told)
+    subst (λ s. IsPairAdded s at old new) same (subst (λ (o : Option ℕ). IfSome o (λ x. IsPairAdded p x old new)) is told)
 
 pub if_none : {X P : Type 0} (r : Option X) → r ≡ None → IfNone r P → P
 if_none {P = P} r is told = subst (λ o. IfNone o P) is told

@@ -228,6 +228,16 @@ pub failed_ok : {T E : Type 0} (Q : Type 0) (P : E → Type 0) (r : Result T E) 
 failed_ok Q P (Ok _) told = absurd told
 failed_ok Q P (Err _) told = tt
 
+-- all are added
+pub done_adds : (W : Triple → Type 0) {u : Unit {0}} (most : ℕ) (old new : List Triple) (before after : List PathEdge)
+    → Grows W old new before after → length new ≤ most → Adds W (Ok u) most old new before after
+done_adds W most old new before after all within = record {
+  ok = all;
+  only = all.only;
+  within = within;
+  limit = λ is. absurd (ok_err is);
+}
+
 -- the items of a list, one after the other
 module _ {X : Type 0} (W : X → Triple → Type 0) (xs : List X) (i : ℕ) (old now : List Triple) (before at : List PathEdge)
     (first : Grows (OfSome W (take i xs)) old now before at) where
@@ -252,13 +262,47 @@ module _ {X : Type 0} (W : X → Triple → Type 0) (xs : List X) (i : ℕ) (old
 
   -- all of them
   pub each_done : {u : Unit {0}} (most : ℕ) → i ≡ length xs → length now ≤ most → Adds (OfSome W xs) (Ok u) most old now before at
-  each_done {u} most end within =
-      let all = subst (λ l. Grows (OfSome W l) old now before at) (ap (λ n. take n xs) end ∙ take-length xs) first in record {
-        ok = all;
-        only = all.only;
-        within = within;
-        limit = λ is. absurd (ok_err is);
-      }
+  each_done most end within =
+      done_adds (OfSome W xs) most old now before at
+      (subst (λ l. Grows (OfSome W l) old now before at) (ap (λ n. take n xs) end ∙ take-length xs) first) within
+
+-- the items of a list from the last one on: some are done, and x is the next
+module _ {X : Type 0} (W : X → Triple → Type 0) (xs rest : List X) (x : X) (done : List X) (whole : rest ++ x ∷ done ≡ xs)
+    (old now : List Triple) (before at : List PathEdge) (first : Grows (OfSome W done) old now before at) where
+  -- with the next one
+  pub back_next : (new : List Triple) (after : List PathEdge) → Grows (W x) now new at after
+      → Grows (OfSome W (x ∷ done)) old new before after
+  back_next new after next =
+      both (OfSome W done) (W x) (OfSome W (x ∷ done)) old now new before at after first next
+      (λ t (y, m, w). elim m [ inl e ↦ inr (subst (λ z. W z t) e w) | inr n ↦ inl (y, n, w) ])
+      (λ t v. elim v [ inl some ↦ (some.0, inr some.1, some.2) | inr w ↦ (x, inl refl, w) ])
+
+  -- at which adding fails
+  pub back_failed : {T U : Type 0} {inner : Result T TableFault} {answer : Result U TableFault} {most : ℕ}
+      (new : List Triple) (after : List PathEdge) → Adds (W x) inner most now new at after →
+      OnOk answer (Grows (OfSome W xs) old new before after) → (answer ≡ Err EdgeLimit → inner ≡ Err EdgeLimit) →
+      Adds (OfSome W xs) answer most old new before after
+  back_failed new after failed none told = record {
+    ok = none;
+    only = λ t m. elim (failed.only t m) [
+      | inl w ↦ inl (some t (x, inl refl, w))
+      | inr mid ↦ elim (first.only t mid) [ inl (y, n, w) ↦ inl (some t (y, inr n, w)) | inr was ↦ inr was ]
+    ];
+    within = failed.within;
+    limit = λ is. let (t, w, out, full) = failed.limit (told is) in (t, some t (x, inl refl, w), out, full);
+  }
+    where
+      some : (t : Triple) → OfSome W (x ∷ done) t → OfSome W xs t
+      some t (y, m, w) = (y, subst (Member y) whole (member_right y rest (x ∷ done) m), w)
+
+-- no other items are left
+pub back_done : {X : Type 0} (W : X → Triple → Type 0) (xs rest done : List X) (most : ℕ) (old now : List Triple)
+    (before at : List PathEdge)
+    → rest ≡ [] → rest ++ done ≡ xs → Grows (OfSome W done) old now before at → length now ≤ most
+    → {u : Unit {0}} → Adds (OfSome W xs) (Ok u) most old now before at
+back_done W xs rest done most old now before at none whole all within {u} =
+    done_adds (OfSome W xs) most old now before at
+    (subst (λ l. Grows (OfSome W l) old now before at) (ap (λ l. l ++ done) (sym none) ∙ whole) all) within
 
 module _ {X : Type 0} (W : X → Triple → Type 0) {x y : X} (same : x ≡ y) {old new : List Triple} {before after : List PathEdge} where
   -- what is added for an item is added for one that is the same

@@ -6,10 +6,15 @@ pub mod FrontierLemmas
 pub mod ReachLemmas
 pub mod Dues
 pub mod TellLemmas
+pub mod WalkLemmas
 pub mod AddLemmas
+pub mod LinkLemmas
+pub mod FindingLemmas
+pub mod HashLemmas
 pub mod PairLemmas
 pub mod GroupLemmas
 pub mod StepLemmas
+pub mod ChainLemmas
 pub mod CallLemmas
 pub mod PendingLemmas
 pub mod AsideLemmas

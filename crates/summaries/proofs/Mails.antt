@@ -1,6 +1,6 @@
 -- The messages given, of which none occurs twice, and callers that are known.
 use Rattle.std.proofs.Common.{zero, suc, take, drop, ◌≡◌, ◌≤◌, ◌<◌, ℕ, Bool, true, false, List, [], ◌∷◌}
-use Rattle.std.proofs.Common.{◌++◌, length, if◌then◌else◌, inl, inr, refl, sym, ap, ◌∙◌, subst, true≢false, not, Result}
+use Rattle.std.proofs.Common.{◌++◌, length, inl, inr, refl, sym, ap, ◌∙◌, subst, true≢false, Result}
 use Rattle.std.proofs.Common.{Ok, Err, OnOk, OnErr, arith}
 use Rattle.std.proofs.lemmas.List.{take-append-drop, take-append-le, length-take-le}
 use Rattle.std.specs.List.{list_any}
@@ -8,7 +8,6 @@ use Rattle.std.proofs.lemmas.Map.Views.{exact_unsigned_eq}
 use Rattle.language.specs.Lists.{Member, NoneTwice}
 use Rattle.language.proofs.Members.{member_left, member_right}
 use Rattle.path_sets.proofs.KeyLemmas.{found_is_in, is_found}
-use Rattle.indexmap.specs.IndexSet.{insert_key}
 use Rattle.summaries.specs.declared.due.Caller.{Caller}
 use Rattle.summaries.specs.declared.due.Caller.TheVariants.{Starter, Proc}
 use Rattle.summaries.specs.contracts.due.CallerPartialEq.TheImpl.{eq-value}
@@ -43,28 +42,6 @@ module _ (c : Caller) (cs ds : List Caller) (same : cs ≡ ds) (found : Bool) (i
 
   pub caller_new : found ≡ false → Member c ds → ⊥
   caller_new = search_new eq-value.it same_caller laws-law.refl c cs ds same found is
-
-module _ {K : Type 0} (eq : K → K → Bool) (k : K) (ks after : List K) (added : Bool) (tells : added ≡ not (list_any (eq k) ks))
-    (keys : after ≡ insert_key eq ks k) where
-  -- a key that is new comes after the others
-  pub inserted_new : added ≡ true → after ≡ ks ++ k ∷ []
-  inserted_new is = keys ∙ by (list_any (eq k) ks) (sym tells ∙ is)
-    where
-      by : (b : Bool) → not b ≡ true → (if b then ks else ks ++ k ∷ []) ≡ ks ++ k ∷ []
-      by true e = absurd (true≢false (sym e))
-      by false e = refl
-
-  -- it was not among them
-  pub inserted_apart : ((x : K) → eq x x ≡ true) → added ≡ true → Member k ks → ⊥
-  inserted_apart itself is m = true≢false (sym is ∙ tells ∙ ap not (is_found eq itself k ks m))
-
-  -- with one that is known they are the same
-  pub inserted_known : added ≡ false → (after ≡ ks) × (list_any (eq k) ks ≡ true)
-  inserted_known is = let found = by (list_any (eq k) ks) (sym tells ∙ is) in (keys ∙ ap (λ b. if b then ks else ks ++ k ∷ []) found, found)
-    where
-      by : (b : Bool) → not b ≡ false → b ≡ true
-      by true e = refl
-      by false e = absurd (true≢false e)
 
 -- nothing occurs twice in a list with one more that was not in it
 pub none_twice_with : {K : Type 0} (k : K) (ks : List K) → (Member k ks → ⊥) → NoneTwice ks → NoneTwice (ks ++ k ∷ [])

@@ -9,7 +9,6 @@ use Rattle.summaries.specs.declared.due.Caller.TheVariants.{Proc}
 use Rattle.summaries.specs.declared.edge.CallKey.{CallKey}
 use Rattle.summaries.specs.declared.outbox.Outgoing.{Outgoing}
 use Rattle.summaries.specs.declared.outbox.Outgoing.TheVariants.{EntryFor, SummaryFor}
-use Rattle.summaries.specs.declared.exits.Place.{Place}
 use Rattle.summaries.specs.declared.pair.Pair.{Pair}
 use Rattle.summaries.specs.Exits.{ArePairsOnce}
 use Rattle.summaries.specs.Found.{call, pair, left, entry_mail, summary_mail, mail_of, IsPlaced}
@@ -65,15 +64,15 @@ pub none_behind : {X : Type 0} (xs : List X) → HasMoreBehind xs xs
 none_behind xs = ([], sym (append-nil xs))
 
 -- each place that has a pair keeps it
-abbrev pub KeepsPairs : (Place → Option Pair) → (Place → Option Pair) → Type 0
-KeepsPairs ps rs = (at : Place) (found : Pair) → ps at ≡ Some found → rs at ≡ Some found
+abbrev pub KeepsPairs : (ℕ → Option Pair) → (ℕ → Option Pair) → Type 0
+KeepsPairs ps rs = (at : ℕ) (found : Pair) → ps at ≡ Some found → rs at ≡ Some found
 
 -- as if nothing changes
-pub none_moved : (ps : Place → Option Pair) → KeepsPairs ps ps
+pub none_moved : (ps : ℕ → Option Pair) → KeepsPairs ps ps
 none_moved ps at found is = is
 
-module _ (q : ℕ) (cs : List CallKey) (ps : Place → Option Pair) where
-  module _ (ds : List CallKey) (rs : Place → Option Pair) (calls : HasMoreBehind cs ds) (pairs : KeepsPairs ps rs) where
+module _ (q : ℕ) (cs : List CallKey) (ps : ℕ → Option Pair) where
+  module _ (ds : List CallKey) (rs : ℕ → Option Pair) (calls : HasMoreBehind cs ds) (pairs : KeepsPairs ps rs) where
     -- a message that has a place has it with more calls and pairs appended
     pub placed_still : (x : Outgoing) → IsPlaced cs ps x → IsPlaced ds rs x
     placed_still (EntryFor at) near =

@@ -1,19 +1,11 @@
 -- Pairs that are read entry by entry.
-use Rattle.std.proofs.Common.{◌≡◌, ◌≤◌, ◌<◌, ◌+◌, ◌↔◌, ◌⊎◌, ℕ, zero, suc, nat_eq, Bool, true, false, IsTrue, Ordering, List, [], ◌∷◌, ◌++◌}
-use Rattle.std.proofs.Common.{length, map, slice_get, get_or, take, drop, Option, None, Some, cond}
+use Rattle.std.proofs.Common.{◌≡◌, ◌<◌, ◌+◌, ◌↔◌, ◌⊎◌, ℕ, zero, suc, nat_eq, Bool, true, false, IsTrue, Ordering, List, [], ◌∷◌}
+use Rattle.std.proofs.Common.{length, get_or, Some}
 use Rattle.std.proofs.Common.{◌&&◌, ap₂, inl, inr, refl, sym, ap, ◌∙◌, subst, arith, true≢false}
 use Rattle.std.specs.List.{AllAdjacentBelow, IsAllAdjacentAnswer}
 use Rattle.std.specs.declared.cmp.Ordering.TheVariants.{Less, Equal, Greater}
 use Rattle.std.proofs.lemmas.Cmp.{ranked}
-use Rattle.std.proofs.lemmas.List.{append-nil, take_all, take_more, drop_all}
-use Rattle.std.proofs.lemmas.Grind.{flat_map-append}
 use Rattle.summaries.specs.Found.{pair, left}
-use Rattle.summaries.specs.Exits.{exits_of, pair_at, listed_if_any}
-use Rattle.flow_graph.specs.declared.exit.Exit.{Exit}
-use Rattle.summaries.specs.declared.exits.ExitList.{ExitList}
-use Rattle.summaries.specs.declared.exits.Place.{Place}
-use Rattle.indexmap.specs.IndexMap.{keys, get, IsUnique}
-use Rattle.std.specs.Map.{lookup}
 use Rattle.std.specs.List.{dedup, Contains}
 use Rattle.std.specs.Cmp.{IsEquivalence}
 use Rattle.std.specs.List.Sorted.{IsStrictlySortedBy}
@@ -24,18 +16,14 @@ use Rattle.std.proofs.lemmas.Cmp.{nat_cmp_total, eq_by_cmp_equiv}
 use Rattle.std.specs.Bool.{beq}
 use Rattle.std.specs.List.Sorted.{IsPermutation, IsSorted}
 use Rattle.std.specs.List.Retain.{IsFiltered, DiffersFromLast}
-use Rattle.std.proofs.lemmas.Option.{none-some, same_Some, slice_get_within, get_or_from_slice_get, slice_get-get_or}
+use Rattle.std.proofs.lemmas.Option.{slice_get_within, get_or_from_slice_get, slice_get-get_or}
 use Rattle.std.proofs.lemmas.Map.Views.{exact_unsigned_eq, All-after_first}
 use Rattle.std.proofs.lemmas.Map.Keys.{sorted_tail}
-use Rattle.summaries.proofs.PairLemmas.{got_pair, listed_place, pair_is_left}
-use Rattle.summaries.specs.declared.exits.Exits.{Exits}
 use Rattle.std.specs.Ordering.{is_lt, is_eq, eq_by_cmp, MatchOrdering, nat_cmp, bool_cmp, ordering_then}
 use Rattle.language.specs.Lists.{Member}
-use Rattle.language.proofs.Members.{member_append, member_left, member_right, member_map, map_member}
-use Rattle.path_sets.proofs.PlaceLemmas.{at_index, index_of, get_map}
+use Rattle.path_sets.proofs.PlaceLemmas.{at_index, index_of}
 use Rattle.summaries.specs.declared.pair.Pair.{Pair}
 use Rattle.summaries.specs.Tabulated.{IsPairBefore, ArePairsAscending}
-use Rattle.summaries.specs.Readings.{pairs_of}
 use Rattle.summaries.proofs.SortedLemmas.{pair_cmp, pair_eq, same_members}
 
 -- what compares less by a number, or by what comes after it
@@ -109,82 +97,6 @@ ascend_if_each_less xs false (k, within, not_less) = (
   λ none. absurd (true≢false (sym none)),
   λ up. absurd (true≢false (sym (next_less xs up k within (pair 0 (left 0 false))) ∙ sym (not_less (pair 0 (left 0 false))))),
 )
-
--- one entry after those that are read
-pub pairs_more : {Alloc : Type 0} (exits : Exits Alloc) (entries : List ℕ) (i : ℕ) (here : i < length entries)
-    → pairs_of exits (take (i + 1) entries)
-    ≡ pairs_of exits (take i entries) ++ map (pair (get_or entries i 0)) (exits_of exits (get_or entries i 0))
-pairs_more exits entries i here =
-    let f : ℕ → List Pair = λ own. map (pair own) (exits_of exits own) in
-    ap (pairs_of exits) (take_more entries i 0 here) ∙ flat_map-append f (take i entries) (get_or entries i 0 ∷ [])
-    ∙ ap (λ l. pairs_of exits (take i entries) ++ l) (append-nil (f (get_or entries i 0)))
-
--- what is written over a list of the same length
-pub written_over : {X : Type 0} (n : ℕ) (xs ys : List X) → length ys ≡ length xs → length xs ≤ n
-    → take n (ys ++ drop (length ys) xs) ≡ ys
-written_over n xs ys long within =
-    ap (λ l. take n (ys ++ l)) (drop_all (length ys) xs (omega (arith, long))) ∙ ap (take n) (append-nil ys)
-    ∙ take_all n ys (omega (arith, long, within))
-
--- the values that are looked up stand at some index
-lookup_place : {X : Type 0} (es : List (ℕ × X)) (own : ℕ) (v : X) → lookup (nat_eq own) es ≡ Some v
-    → (n : ℕ) × (slice_get es n ≡ Some (own, v))
-lookup_place [] own v is = absurd (none-some v is)
-lookup_place (e ∷ es) own v is = by (nat_eq own e.0) refl is (lookup_place es own v)
-  where
-    by : (b : Bool) → nat_eq own e.0 ≡ b → cond b (Some e.1) (lookup (nat_eq own) es) ≡ Some v
-        → (lookup (nat_eq own) es ≡ Some v → (n : ℕ) × (slice_get es n ≡ Some (own, v)))
-        → (n : ℕ) × (slice_get (e ∷ es) n ≡ Some (own, v))
-    by true f at rest = (0, λ i. Some (sym (exact_unsigned_eq own e.0 f) i, same_Some e.1 v at i))
-    by false f at rest = let (n, there) = rest at in (suc n, there)
-
-module _ {A : Type 0} (exits : Exits A) where
-  -- the exits of an entry have places
-  left_is_pair : (own : ℕ) (b : Exit) → Member b (exits_of exits own) → (at : Place) × (pair_at exits at ≡ Some (pair own b))
-  left_is_pair own b m = by (get nat_eq exits.by_entry own) refl m
-    where
-      by : (o : Option (ExitList A)) → get nat_eq exits.by_entry own ≡ o → Member b (listed_if_any o)
-          → (at : Place) × (pair_at exits at ≡ Some (pair own b))
-      by None is m = absurd m
-      by (Some l) is m =
-          let (n, here) = lookup_place exits.by_entry.entries own l is in
-          listed_place exits.by_entry.entries n own l l here b m
-
-  -- a pair of entries is of one of them
-  of_entries : (entries : List ℕ) (x : Pair) → Member x (pairs_of exits entries)
-      → (own : ℕ) × Member own entries × Member x (map (pair own) (exits_of exits own))
-  of_entries [] x m = absurd m
-  of_entries (own ∷ entries) x m = elim (member_append x (map (pair own) (exits_of exits own)) (pairs_of exits entries) m) [
-    | inl here ↦ (own, inl refl, here)
-    | inr later ↦ let (other, there, is) = of_entries entries x later in (other, inr there, is)
-  ]
-
-  in_entries : (entries : List ℕ) (own : ℕ) (x : Pair) → Member own entries → Member x (map (pair own) (exits_of exits own))
-      → Member x (pairs_of exits entries)
-  in_entries [] own x m is = absurd m
-  in_entries (o ∷ entries) own x (inl e) is =
-      member_left x (map (pair o) (exits_of exits o)) (pairs_of exits entries)
-      (subst (λ n. Member x (map (pair n) (exits_of exits n))) e is)
-  in_entries (o ∷ entries) own x (inr m) is =
-      member_right x (map (pair o) (exits_of exits o)) (pairs_of exits entries) (in_entries entries own x m is)
-
-  -- the pairs of all entries are all pairs
-  pub pairs_are : IsUnique nat_eq exits.by_entry → (entries : List ℕ)
-      → ((a : ℕ) → Member a entries ↔ Member a (keys exits.by_entry))
-      → (x : Pair) → Member x (pairs_of exits entries) ↔ ((at : Place) × (pair_at exits at ≡ Some x))
-  pairs_are unique entries all x = (
-    λ m.
-        let (own, there, is_in) = of_entries entries x m in
-        let (b, left, is) = map_member (pair own) (exits_of exits own) x is_in in
-        let (at, here) = left_is_pair own b left in
-        (at, here ∙ ap Some (sym is)),
-    λ (at, here).
-        let b = left x.b x.r in
-        let (l, entry, exit) = got_pair (slice_get exits.by_entry.entries at.entry) at.exit x.a b here in
-        let key = at_index (keys exits.by_entry) x.a at.entry (get_map (λ e. e.0) exits.by_entry.entries at.entry (x.a, l) entry) in
-        in_entries entries x.a x ((all x.a).1 key)
-        (member_map (pair x.a) (exits_of exits x.a) b (pair_is_left exits x.a b unique (at, here))),
-  )
 
 -- pairs that are sorted, each once, ascend
 pub strict_ascend : (xs : List Pair) → IsStrictlySortedBy pair_cmp xs → ArePairsAscending xs

@@ -15,7 +15,6 @@ use Rattle.flow_graph.specs.declared.exit.Exit.{Exit}
 use Rattle.flow_graph.proofs.ReachLemmas.{reaches_more}
 use Rattle.summaries.specs.declared.edge.CallKey.{CallKey}
 use Rattle.summaries.specs.declared.edge.PathEdge.{PathEdge}
-use Rattle.summaries.specs.declared.exits.Place.{Place}
 use Rattle.summaries.specs.declared.pair.Pair.{Pair}
 use Rattle.summaries.specs.declared.found.Found.{Found}
 use Rattle.summaries.specs.declared.outbox.Outbox.{Outbox}
@@ -178,10 +177,10 @@ taken_as f g entries summaries (numbered_entry from a) h = subst (Member (caller
 taken_as f g entries summaries (numbered_summary s a b) h = subst (Member b) (sym (summaries (call s a))) h
 
 -- what is kept by place is, with other messages given that have a place
-pub indexed_as : {A : Type 0} (f g : Found A) → calls_in g ≡ calls_in f → ((at : Place) → pairs_in g at ≡ pairs_in f at)
+pub indexed_as : {A : Type 0} (f g : Found A) → calls_in g ≡ calls_in f → ((at : ℕ) → pairs_in g at ≡ pairs_in f at)
     → ((x : Outgoing) → Member x g.outbox.sent.items → IsPlaced (calls_in f) (pairs_in f) x) → IsIndexed f → IsIndexed g
 indexed_as f g calls pairs placed old = record {
-  placed = λ x m. subst (λ (ps : Place → Option Pair). IsPlaced (calls_in g) ps x) (λ i at. sym (pairs at) i)
+  placed = λ x m. subst (λ (ps : ℕ → Option Pair). IsPlaced (calls_in g) ps x) (λ i at. sym (pairs at) i)
       (subst (λ cs. IsPlaced cs (pairs_in f) x) (sym calls) (placed x m));
   calls_once = subst NoneTwice (sym calls) old.calls_once;
   pairs_once = λ x y p at_x at_y. old.pairs_once x y p (sym (pairs x) ∙ at_x) (sym (pairs y) ∙ at_y);
@@ -254,7 +253,7 @@ both_ok (Err _) f p q = tt
 
 -- g has pairs, messages given and edges pending as f has
 module _ {A G : Type 0} (graph : Graph G) (q : ℕ) (f g : Found A) (es : List Triple)
-    (paired : (at : Place) → pairs_in g at ≡ pairs_in f at) (gave : g.outbox.sent.items ≡ f.outbox.sent.items)
+    (paired : (at : ℕ) → pairs_in g at ≡ pairs_in f at) (gave : g.outbox.sent.items ≡ f.outbox.sent.items)
     (pended : g.pending.items ≡ f.pending.items) where
   -- what is found, with these
   abbrev pub same_to : Found A

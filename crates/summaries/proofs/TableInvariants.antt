@@ -9,7 +9,6 @@ use Rattle.flow_graph.proofs.ReachLemmas.{reaches_more}
 use Rattle.summaries.specs.declared.edge.CallKey.{CallKey}
 use Rattle.summaries.specs.declared.found.Found.{Found}
 use Rattle.summaries.specs.declared.outbox.Outgoing.{Outgoing}
-use Rattle.summaries.specs.declared.exits.Place.{Place}
 use Rattle.summaries.specs.declared.pair.Pair.{Pair}
 use Rattle.summaries.specs.Exits.{ArePairsOnce}
 use Rattle.summaries.specs.declared.table.Table.{Table}
@@ -24,7 +23,7 @@ use Rattle.summaries.proofs.Quiet.{is_exact, is_left}
 use Rattle.summaries.proofs.StepLemmas.{same_to, same_step, still_holds}
 
 module _ {G A S : Type 0} (members : S → List Triple) (t : Table G A S) (g : Found A)
-    (paired : (at : Place) → pairs_in g at ≡ pairs_in t.found at) (gave : g.outbox.sent.items ≡ t.found.outbox.sent.items)
+    (paired : (at : ℕ) → pairs_in g at ≡ pairs_in t.found at) (gave : g.outbox.sent.items ≡ t.found.outbox.sent.items)
     (pended : g.pending.items ≡ t.found.pending.items) where
   abbrev there : Found A
   there = same_to t.graph.now t.procedure t.found g (members t.edges) paired gave pended
@@ -53,7 +52,7 @@ module _ {G A S : Type 0} (members : S → List Triple) (t : Table G A S) (g : F
   }
 
 module _ {G A S : Type 0} (members : S → List Triple) (t : Table G A S) (g : Found A)
-    (paired : (at : Place) → pairs_in g at ≡ pairs_in t.found at) (gave : g.outbox.sent.items ≡ t.found.outbox.sent.items)
+    (paired : (at : ℕ) → pairs_in g at ≡ pairs_in t.found at) (gave : g.outbox.sent.items ≡ t.found.outbox.sent.items)
     (pended : g.pending.items ≡ t.found.pending.items) where
   -- and keeps what it has taken
   pub same_keeps : IsTable members t → t.fault ≡ None →
@@ -73,7 +72,7 @@ module _ {G A S : Type 0} (members : S → List Triple) (t : Table G A S) (g : F
   }
 
 -- the message that is answered next comes after those answered, and is not one of them
-module _ (q : ℕ) (cs : List CallKey) (ps : Place → Option Pair) (xs : List Outgoing) (n m : ℕ) (x : Outgoing)
+module _ (q : ℕ) (cs : List CallKey) (ps : ℕ → Option Pair) (xs : List Outgoing) (n m : ℕ) (x : Outgoing)
     (next : take m xs ≡ take n xs ++ x ∷ []) where
   pub next_behind : take m (map (mail_of cs ps q) xs) ≡ take n (map (mail_of cs ps q) xs) ++ mail_of cs ps q x ∷ []
   next_behind =

@@ -12,9 +12,7 @@ use Rattle.summaries.specs.declared.due.Caller.TheVariants.{Proc}
 use Rattle.summaries.specs.declared.edge.CallKey.{CallKey}
 use Rattle.summaries.specs.declared.outbox.Outgoing.{Outgoing}
 use Rattle.summaries.specs.declared.outbox.Outgoing.TheVariants.{EntryFor, SummaryFor}
-use Rattle.summaries.specs.declared.exits.Place.{Place}
 use Rattle.summaries.specs.declared.pair.Pair.{Pair}
-use Rattle.summaries.specs.Exits.{place}
 use Rattle.summaries.specs.Mails.{AddressedMail, mail, summary_due}
 use Rattle.summaries.specs.declared.found.Found.{Found}
 use Rattle.summaries.specs.Found.{pair, left, summary_mail, mail_of, calls_in, pairs_in, mails_in, answers_in}
@@ -102,17 +100,17 @@ to_in : Outgoing → ℕ
 to_in (EntryFor call) = 0
 to_in (SummaryFor to at) = to
 
-place_in : Outgoing → Place
-place_in (EntryFor call) = place 0 0
+place_in : Outgoing → ℕ
+place_in (EntryFor call) = 0
 place_in (SummaryFor to at) = at
 
 -- a summary is told to no two callers
-pub one_caller : (at : Place) (y z : Caller) (x : Outgoing) → IsTold at y x → IsTold at z x → y ≡ z
+pub one_caller : (at : ℕ) (y z : Caller) (x : Outgoing) → IsTold at y x → IsTold at z x → y ≡ z
 unfolding to_in
 one_caller at y z x (c, is_c, by_c) (d, is_d, by_d) = is_c ∙ ap (λ m. Proc (to_in m)) (sym by_c ∙ by_d) ∙ sym is_d
 
 -- and is one pair's
-pub one_pair : (from : Caller) (y z : Place) (x : Outgoing) → IsTold y from x → IsTold z from x → y ≡ z
+pub one_pair : (from : Caller) (y z : ℕ) (x : Outgoing) → IsTold y from x → IsTold z from x → y ≡ z
 unfolding place_in
 one_pair from y z x (c, is_c, by_c) (d, is_d, by_d) = ap place_in (sym by_c ∙ by_d)
 
@@ -124,7 +122,7 @@ answers_kept q f g W same gave =
     let within = f.outbox.within in
     answers_still (mails_in q f) (mails_in q g) f.outbox.answered g.outbox.answered (omega (arith, long, within)) same gave.behind
 
-module _ (q : ℕ) (cs : List CallKey) (ps : Place → Option Pair) (a : ℕ) (b : Exit) (at : Place) (here : ps at ≡ Some (pair a b)) where
+module _ (q : ℕ) (cs : List CallKey) (ps : ℕ → Option Pair) (a : ℕ) (b : Exit) (at : ℕ) (here : ps at ≡ Some (pair a b)) where
   told_of : (c : ℕ) → mail_of cs ps q (SummaryFor c at) ≡ mail c (summary_due q a b)
   told_of c = ap (λ p. summary_mail q c (unwrap_or p (pair 0 (left 0 false)))) here
 

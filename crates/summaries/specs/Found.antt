@@ -23,7 +23,6 @@ use Rattle.summaries.specs.declared.found.Found.{Found}
 use Rattle.summaries.specs.declared.outbox.Outgoing.{Outgoing}
 use Rattle.summaries.specs.declared.outbox.Outgoing.TheVariants.{EntryFor, SummaryFor}
 use Rattle.summaries.specs.declared.due.Caller.TheVariants.{Proc}
-use Rattle.summaries.specs.declared.exits.Place.{Place}
 use Rattle.summaries.specs.Under.{under}
 use Rattle.summaries.specs.Calls.{sites_of, summaries_of}
 pub use Rattle.summaries.specs.Exits.{pair}
@@ -52,7 +51,7 @@ entry_mail procedure entered = mail entered.callee (Entry (Proc procedure) enter
 abbrev pub summary_mail : ℕ → ℕ → Pair → AddressedMail
 summary_mail procedure to found = mail to (summary_due procedure found.a (left found.b found.r))
 
-module _ (calls : List CallKey) (pairs : Place → Option Pair) where
+module _ (calls : List CallKey) (pairs : ℕ → Option Pair) where
   -- the message that a procedure of these calls and pairs has given by this
   abbrev pub mail_of : ℕ → Outgoing → AddressedMail
   mail_of procedure (EntryFor at) = entry_mail procedure (get_or calls at (call 0 0))
@@ -69,7 +68,7 @@ module _ {Alloc : Type 0} where
   calls_in found = keys found.calls.by_key
 
   -- the pair at a place, if any
-  abbrev pub pairs_in : Found Alloc → Place → Option Pair
+  abbrev pub pairs_in : Found Alloc → ℕ → Option Pair
   pairs_in found = pair_at found.exits
 
   -- the messages that the procedure has given, in order
@@ -97,7 +96,7 @@ module _ {Alloc : Type 0} (found : Found Alloc) where
 
   -- this is left if the entry valuation was this
   abbrev pub HasExit : ℕ → Exit → Type 0
-  HasExit entry exit = (at : Place) × (pairs_in found at ≡ Some (pair entry exit))
+  HasExit entry exit = (at : ℕ) × (pairs_in found at ≡ Some (pair entry exit))
 
   -- the message of these numbers was given by a procedure to another
   abbrev pub HasGiven : ℕ → ℕ → NumberedMessage → Type 0
@@ -187,7 +186,7 @@ pub record IsEmpty {Alloc : Type 0} (found : Found Alloc) : Type 0 where
   pub summaries : (called : CallKey) → summaries_of found.calls called ≡ []
   pub sites : (called : CallKey) → sites_of found.calls called ≡ []
   pub calls : calls_in found ≡ []
-  pub pairs : (at : Place) → pairs_in found at ≡ None
+  pub pairs : (at : ℕ) → pairs_in found at ≡ None
   pub given : found.outbox.sent.items ≡ []
   pub led : found.expanded.keys ≡ []
   pub pending : found.pending.items ≡ []

@@ -14,14 +14,14 @@ use Rattle.flow_graph.specs.declared.exit.Exit.{Exit}
 use Rattle.summaries.specs.declared.due.Caller.{Caller}
 use Rattle.summaries.specs.declared.due.Caller.TheVariants.{Proc}
 use Rattle.summaries.specs.declared.edge.PathEdge.{PathEdge}
-use Rattle.summaries.specs.declared.exits.Place.{Place}
 use Rattle.summaries.specs.declared.outbox.Outbox.{Outbox}
 use Rattle.summaries.specs.declared.outbox.Outgoing.{Outgoing}
 use Rattle.summaries.specs.declared.outbox.Outgoing.TheVariants.{SummaryFor}
 use Rattle.summaries.specs.declared.table_fault.TableFault.{TableFault}
 use Rattle.summaries.specs.declared.table_fault.TableFault.TheVariants.{EdgeLimit}
 use Rattle.summaries.specs.Mails.{AddressedMail, mail, summary_due}
-use Rattle.summaries.specs.Exits.{place}
+use Rattle.summaries.specs.declared.exits.Exits.{Exits}
+use Rattle.summaries.specs.Exits.{pair, pair_at}
 
 -- the path edge as a triple
 abbrev pub triple_of : PathEdge → Triple
@@ -108,12 +108,13 @@ pub record AddsTo {Item : Type 0} (W : Item → Type 0) (old new : List Item) : 
   pub behind : (more : List Item) × (new ≡ old ++ more)
 
 -- What is given is the summary of the pair at this place for this caller, which is not the starter.
-abbrev pub IsTold : Place → Caller → Outgoing → Type 0
+abbrev pub IsTold : ℕ → Caller → Outgoing → Type 0
 IsTold at from sent = (caller : ℕ) × (from ≡ Proc caller) × (sent ≡ SummaryFor caller at)
 
--- What is given is the summary of one of the first `count` pairs of the entry at this index for this caller.
-abbrev pub IsToldOf : ℕ → ℕ → Caller → Outgoing → Type 0
-IsToldOf entry count from sent = (exit : ℕ) × (exit < count) × IsTold (place entry exit) from sent
+-- What is given is the summary of a pair of this entry for this caller.
+abbrev pub IsToldOf : {Alloc : Type 0} → Exits Alloc → ℕ → Caller → Outgoing → Type 0
+IsToldOf exits entry from sent =
+    (at : ℕ) × ((exit : Exit) × (pair_at exits at ≡ Some (pair entry exit))) × IsTold at from sent
 
 -- A message is the summary of the procedure for this caller, which is not the starter.
 abbrev pub IsSummaryTold : ℕ → ℕ → Exit → Caller → AddressedMail → Type 0

@@ -2,7 +2,12 @@ pub mod Under
 pub mod Mails
 pub mod Dues
 pub mod Fitting
+pub mod Chains
+pub mod KnownCalls
 pub mod Calls
+pub mod Signatures
+pub mod Links
+pub mod Hashes
 pub mod Exits
 pub mod Found
 pub mod Grows

@@ -13,7 +13,6 @@ use Rattle.summaries.specs.declared.due.Due.TheVariants.{Entry}
 use Rattle.summaries.specs.declared.exits.Exits.{Exits}
 use Rattle.summaries.specs.declared.found.Found.{Found}
 use Rattle.summaries.specs.declared.groups.Groups.{Groups}
-use Rattle.summaries.specs.declared.exits.Place.{Place}
 use Rattle.summaries.specs.declared.pair.Pair.{Pair}
 use Rattle.summaries.specs.declared.table.Table.{Table}
 use Rattle.summaries.specs.Under.{under}
@@ -48,7 +47,7 @@ pub record IsSummaryOf {Alloc : Type 0} (callers : Groups ℕ Caller Alloc) (exi
   pub ascend : IsAscending summary.entries
   pub entries : (own : ℕ) → Member own summary.entries ↔ ((from : Caller) × Member from (under nat_eq callers.by_key own))
   pub pairs_ascend : ArePairsAscending summary.pairs
-  pub pairs : (item : Pair) → Member item summary.pairs ↔ ((at : Place) × (pair_at exits at ≡ Some item))
+  pub pairs : (item : Pair) → Member item summary.pairs ↔ ((at : ℕ) × (pair_at exits at ≡ Some item))
 
 -- The summary has the entries that a table has taken, and the pairs that it has found.
 abbrev pub IsReadOff : {Alloc : Type 0} → Found Alloc → Effect → Type 0

@@ -1,17 +1,18 @@
 //! Calls, and what is known of them.
 
-ghost use Rattle.std.specs.Prelude.{◌≡◌, ◌≢◌, [], ◌∷◌, ◌++◌, OnOk, OnErr, IfOk};
+ghost use Rattle.std.specs.Prelude.{◌≡◌, ◌≢◌, ◌≤◌, [], ◌∷◌, ◌++◌, length, OnOk, OnErr, IfOk};
 ghost use Rattle.std.specs.Bool.{OnTrue, OnFalse};
-ghost use Rattle.indexmap.specs.IndexMap.{keys};
+ghost use Rattle.indexmap.specs.IndexMap.{get, keys};
 ghost use Rattle.indexmap.specs.IndexSet.{insert_key};
 ghost use Rattle.summaries.specs.declared.edge.CallKey.{CallKey};
+ghost use Rattle.summaries.specs.Chains.{chain_of};
+ghost use Rattle.summaries.specs.KnownCalls.{call_eq, chain_if_any};
 ghost use Rattle.summaries.specs.Under.{IsKeyAt, OthersStay};
-ghost use Rattle.summaries.specs.Calls.{call_eq, sites_of, summaries_of};
 
+use crate::chains::Chains;
 use crate::kept_call::KeptCall;
 use crate::kept_edge::KeptEdge;
 use crate::kept_exit::KeptExit;
-use crate::short_list::append;
 use crate::values::Values;
 use indexmap::IndexMap;
 use indexmap::map::Entry;
@@ -23,8 +24,8 @@ use std::hash::{BuildHasherDefault, FoldHasher};
 pub(crate) struct KnownCall<A: Allocator> {
     /// Where it stands: mostly at one site.
     pub(crate) sites: Values<KeptEdge, A>,
-    /// What it leaves.
-    pub(crate) left: Vec<KeptExit, A>,
+    /// The chain of what it leaves.
+    pub(crate) chain: u32,
 }
 
 /// A call to which a site was added.
@@ -34,15 +35,22 @@ pub(crate) struct Addition {
     pub(crate) had: bool,
     /// Its place among the calls.
     pub(crate) at: usize,
+    /// The chain of what it leaves.
+    pub(crate) chain: u32,
 }
 
 /// For each call what is known of it. Calls keep the order in which they came.
 #[derive(Drop)]
 pub(crate) struct Calls<A: Allocator> {
     pub(crate) by_key: IndexMap<KeptCall, KnownCall<A>, BuildHasherDefault<FoldHasher>, A>,
+    /// What all of them leave.
+    pub(crate) left: Chains<A>,
+    ghost within: { (k : CallKey) → chain_if_any (get call_eq by_key k) ≤ length left.links.items },
 }
 
 impl<A: Allocator + Copy> Calls<A> {
+    ghost use Rattle.summaries.specs.Calls.{sites_of, summaries_of};
+
     /// No calls, which take no memory yet.
     pub(crate) fn new(alloc: A) -> Self
         ensures sites { (k : CallKey) → sites_of result k ≡ [] }
@@ -51,6 +59,7 @@ impl<A: Allocator + Copy> Calls<A> {
     {
         Calls {
             by_key: IndexMap::new(alloc),
+            left: Chains::new(alloc),
         }
     }
 
@@ -68,6 +77,8 @@ impl<A: Allocator + Copy> Calls<A> {
             (OthersStay call_eq key (sites_of self.old) (sites_of self.new)) }
         ensures err { OnErr result (sites_of self.new ≡ sites_of self.old) }
         ensures summaries { summaries_of self.new ≡ summaries_of self.old }
+        ensures chain { IfOk result
+            (λ r. chain_of self.new.left.links.items r.chain ≡ summaries_of self.old key) }
     {
         let alloc = *self.by_key.allocator();
         let entry = self.by_key.entry(key)?;
@@ -76,15 +87,20 @@ impl<A: Allocator + Copy> Calls<A> {
             Entry::Occupied(known) => {
                 let known = known.into_mut();
                 let had = !known.sites.as_slice().is_empty();
+                let chain = known.chain;
                 known.sites.add(alloc, site)?;
-                Ok(Addition { had, at })
+                Ok(Addition { had, at, chain })
             }
             Entry::Vacant(new) => {
                 new.insert(KnownCall {
                     sites: Values::one(site),
-                    left: Vec::new(alloc),
+                    chain: 0,
                 });
-                Ok(Addition { had: false, at })
+                Ok(Addition {
+                    had: false,
+                    at,
+                    chain: 0,
+                })
             }
         }
     }
@@ -108,9 +124,9 @@ impl<A: Allocator + Copy> Calls<A> {
         let at = entry.index();
         let known = entry.or_insert(KnownCall {
             sites: Values::none(alloc),
-            left: Vec::new(alloc),
+            chain: 0,
         });
-        append(&mut known.left, exit)?;
+        known.chain = self.left.add(known.chain, exit)?;
         Ok(at)
     }
 
@@ -121,17 +137,6 @@ impl<A: Allocator + Copy> Calls<A> {
     {
         match self.by_key.get_index(at) {
             Some((_, known)) => known.sites.as_slice(),
-            None => &[],
-        }
-    }
-
-    /// What the call at a place leaves.
-    pub(crate) fn summaries_at(&self, at: usize) -> &[KeptExit]
-        ensures { (k : CallKey) → IsKeyAt call_eq (keys self.now.by_key) k at
-            → result.now ≡ summaries_of self.now k }
-    {
-        match self.by_key.get_index(at) {
-            Some((_, known)) => known.left.as_slice(),
             None => &[],
         }
     }

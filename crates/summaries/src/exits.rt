@@ -1,134 +1,66 @@
 //! What is left, by the valuation on entry.
 
-ghost use Rattle.std.specs.Prelude.{◌≡◌, ◌<◌, ◌↔◌, ℕ, nat_eq, None, Some, IsTrue, IfOk, IfSome, IfNone};
-ghost use Rattle.language.specs.Lists.{Member, NoneTwice};
-ghost use Rattle.flow_graph.specs.declared.exit.Exit.{Exit};
-ghost use Rattle.indexmap.specs.IndexMap.{keys};
-ghost use Rattle.summaries.specs.declared.pair.Pair.{Pair};
-ghost use Rattle.summaries.specs.Under.{IsKeyAt};
-ghost use Rattle.summaries.specs.Exits.{listed_in, exits_of, pair, pair_at, place, ArePairsOnce};
-ghost use Rattle.summaries.specs.Exits.{AllPairsStay, IsInserted, IsPairAdded};
+ghost use Rattle.std.specs.Prelude.{nat_eq};
+ghost use Rattle.std.specs.List.{IsDistinct};
+ghost use Rattle.std.specs.Map.{keys_of};
+ghost use Rattle.std.proofs.Props.{props};
+ghost use Rattle.summaries.specs.Links.{AreOwned, AreLastLinks, AreLinked};
+ghost use Rattle.summaries.specs.Hashes.{AreSeen, AreReal, AreCounted, AreHashed};
 
-use crate::kept_exit::KeptExit;
+use crate::finding::{Hashed, is_new};
+use crate::kept_pair::KeptPair;
+use crate::known_entry::{KnownEntry, one_more};
+use crate::linked_pair::LinkedPair;
+use crate::long_list::make_room;
 use crate::outbox::index_in_32_bits;
 use crate::pair::Pair;
-use crate::short_list::append;
+use flow_graph::Exit;
 use indexmap::{IndexMap, IndexSet};
 use language::Word;
 use std::alloc::{AllocError, Allocator};
 use std::hash::{BuildHasherDefault, FoldHasher};
 
-/// So many exits of an entry are compared one by one; if there are more, they are found by their hashes.
-const FEW: usize = 32;
+/// The place of a pair: its index among the pairs.
+pub(crate) type Place = u32;
 
-/// The place of a pair: that of its entry, and that of what is left, among the exits of the entry.
-#[derive(Clone, Copy)]
-pub(crate) struct Place {
-    pub(crate) entry: u32,
-    pub(crate) exit: u32,
-}
-
-/// The exits of an entry, each once, in the order of adding.
-#[derive(Drop)]
-pub(crate) enum ExitList<A: Allocator> {
-    Few(Vec<KeptExit, A>),
-    Many(Box<IndexSet<KeptExit, BuildHasherDefault<FoldHasher>, A>, A>),
-}
-
-/// For each entry its exits. Entries keep the order in which they came.
+/// The pairs of a procedure, each once, in the order of adding. Links lead through those of an entry, from the last to
+/// the first: a link is 0, or one more than the place of a pair.
 #[derive(Drop)]
 pub(crate) struct Exits<A: Allocator> {
-    pub(crate) by_entry: IndexMap<Word, ExitList<A>, BuildHasherDefault<FoldHasher>, A>,
-}
-
-/// Adds an exit behind a few, if it is not among them, and returns its place.
-#[inline(always)]
-fn insert_in_few<A: Allocator + Copy>(
-    few: &mut Vec<KeptExit, A>,
-    exit: KeptExit,
-) -> Result<Option<usize>, AllocError>
-    ensures { IsInserted exit result few.old.items few.new.items }
-{
-    if few.as_slice().contains(&exit) {
-        return Ok(None);
-    }
-    let at = few.len();
-    append(few, exit)?;
-    Ok(Some(at))
-}
-
-/// Adds an exit to many, if it is not among them, and returns its place.
-#[inline(never)]
-fn insert_in_many<A: Allocator + Copy>(
-    many: &mut IndexSet<KeptExit, BuildHasherDefault<FoldHasher>, A>,
-    exit: KeptExit,
-) -> Result<Option<usize>, AllocError>
-    ensures { IsInserted exit result many.old.keys many.new.keys }
-{
-    let (at, new) = many.insert_full(exit)?;
-    if !new {
-        return Ok(None);
-    }
-    Ok(Some(at))
-}
-
-/// Exits as a set, which keeps their order.
-#[inline(never)]
-fn set_of<A: Allocator + Copy>(
-    alloc: A,
-    exits: &[KeptExit],
-) -> Result<IndexSet<KeptExit, BuildHasherDefault<FoldHasher>, A>, AllocError>
-    requires { NoneTwice exits.now }
-    ensures { IfOk result (λ set. set.keys ≡ exits.now) }
-{
-    let mut set = IndexSet::with_capacity(alloc, 2 * FEW)?;
-    for exit in exits {
-        set.insert(*exit)?;
-    }
-    Ok(set)
-}
-
-impl<A: Allocator + Copy> ExitList<A> {
-    /// The exits, in the order of adding.
-    #[inline(always)]
-    pub(crate) fn as_slice(&self) -> &[KeptExit]
-        ensures { result.now ≡ listed_in self.now }
-    {
-        match self {
-            ExitList::Few(few) => few.as_slice(),
-            ExitList::Many(many) => many.as_slice(),
-        }
-    }
-
-    /// Adds an exit, if it is not there, and returns its place.
-    #[inline(always)]
-    fn insert(&mut self, alloc: A, exit: KeptExit) -> Result<Option<usize>, AllocError>
-        requires { NoneTwice (listed_in self.old) }
-        ensures { IsInserted exit result (listed_in self.old) (listed_in self.new) }
-    {
-        match self {
-            ExitList::Few(few) => {
-                if few.len() < FEW {
-                    return insert_in_few(few, exit);
-                }
-                let many = set_of(alloc, few.as_slice())?;
-                let mut many = Box::new(alloc, many)?;
-                let at = insert_in_many(&mut *many, exit)?;
-                *self = ExitList::Many(many);
-                Ok(at)
-            }
-            ExitList::Many(many) => insert_in_many(&mut **many, exit),
-        }
-    }
+    /// The entries, each with what is known of it. They keep the order in which they came.
+    pub(crate) by_entry: IndexMap<Word, KnownEntry, BuildHasherDefault<FoldHasher>, A>,
+    /// The pairs, each with the link to the pair before it of the same entry.
+    pub(crate) pairs: Vec<LinkedPair, A>,
+    /// The pairs of the entries that have more than a few, to be found by their hashes.
+    many: Hashed<A>,
+    ghost once: { IsDistinct nat_eq (keys_of by_entry.entries) } by { Prim.hlevel props },
+    ghost owned: { AreOwned by_entry.entries pairs.items } by { Prim.hlevel props },
+    ghost last: { AreLastLinks by_entry.entries pairs.items } by { Prim.hlevel props },
+    ghost linked: { AreLinked pairs.items } by { Prim.hlevel props },
+    ghost seen: { AreSeen by_entry.entries pairs.items } by { Prim.hlevel props },
+    ghost real: { AreReal many.keys (keys_of pairs.items) } by { Prim.hlevel props },
+    ghost counted: { AreCounted by_entry.entries pairs.items } by { Prim.hlevel props },
+    ghost hashed: { AreHashed by_entry.entries many.keys pairs.items } by { Prim.hlevel props },
 }
 
 impl<A: Allocator + Copy> Exits<A> {
-    /// No exits, which take no memory yet.
+    ghost use Rattle.std.specs.Prelude.{◌≡◌, ◌↔◌, ℕ, nat_eq, None, Some, IsTrue, IfOk, IfSome};
+    ghost use Rattle.std.specs.Prelude.{IfNone};
+    ghost use Rattle.indexmap.specs.IndexMap.{keys};
+    ghost use Rattle.summaries.specs.declared.pair.Pair.{Pair};
+    ghost use Rattle.summaries.specs.Under.{IsKeyAt};
+    ghost use Rattle.summaries.specs.Exits.{pair, pair_at, count_of, LeadsTo, AllPairsStay};
+    ghost use Rattle.summaries.specs.Exits.{IsPairAdded};
+    ghost use Rattle.summaries.specs.Found.{left};
+
+    /// No pairs, which take no memory yet.
     pub(crate) fn new(alloc: A) -> Self
-        ensures { (at : Place) → pair_at result at ≡ None }
+        ensures { (at : ℕ) → pair_at result at ≡ None }
     {
         Exits {
             by_entry: IndexMap::new(alloc),
+            pairs: Vec::new(alloc),
+            many: IndexSet::new(alloc),
         }
     }
 
@@ -143,7 +75,7 @@ impl<A: Allocator + Copy> Exits<A> {
         }
     }
 
-    /// The index of an entry. One that is not there is added, with no exits.
+    /// The index of an entry. One that is not there is added, with no pairs.
     #[inline(never)]
     fn index_of(&mut self, entry: Word) -> Result<usize, AllocError>
         ensures at { IfOk result (λ at. IsKeyAt nat_eq (keys self.new.by_entry) entry at) }
@@ -152,13 +84,12 @@ impl<A: Allocator + Copy> Exits<A> {
         if let Some(at) = self.by_entry.get_index_of(&entry) {
             return Ok(at);
         }
-        let none = ExitList::Few(Vec::new(*self.by_entry.allocator()));
-        let (at, _) = self.by_entry.insert_full(entry, none)?;
+        let (at, _) = self.by_entry.insert_full(entry, KnownEntry::new())?;
         Ok(at)
     }
 
-    /// Makes `last` the index of an entry. What it is before is tried first. An entry that is not there is added, with no
-    /// exits.
+    /// Makes `last` the index of an entry. What it is before is tried first. An entry that is not there is added, with
+    /// no pairs.
     #[inline(always)]
     fn find(&mut self, entry: Word, last: &mut usize) -> Result<(), AllocError>
         ensures at { IfOk result (λ _. IsKeyAt nat_eq (keys self.new.by_entry) entry last.new) }
@@ -170,67 +101,70 @@ impl<A: Allocator + Copy> Exits<A> {
         Ok(())
     }
 
-    /// Adds an exit of an entry, if it is not there, and returns its place. The entry at the index `last` is tried first,
-    /// and `last` becomes the index of this one. After an error it may have been added.
+    /// Adds a pair, if it is not there, and returns its place. The entry at the index `last` is tried first, and `last`
+    /// becomes the index of this one. After an error it may have been added.
+    // Room is made first, since nothing may fail once the pair is found by its hash.
     #[inline(always)]
     pub(crate) fn insert_near(
         &mut self,
         entry: Word,
-        exit: KeptExit,
+        left: Exit,
         last: &mut usize,
     ) -> Result<Option<Place>, AllocError>
-        requires { ArePairsOnce (pair_at self.old) }
-        ensures new { IfOk result (λ r. IfSome r (λ at. IsPairAdded (pair entry exit) at self.old self.new)) }
-        ensures known { IfOk result (λ r. IfNone r ((at : Place) × (pair_at self.old at ≡ Some (pair entry exit)))) }
+        ensures new { IfOk result
+            (λ r. IfSome r (λ at. IsPairAdded (pair entry left) at self.old self.new)) }
+        ensures known { IfOk result
+            (λ r. IfNone r ((at : ℕ) × (pair_at self.old at ≡ Some (pair entry left)))) }
         ensures stay { IfOk result (λ r. IfNone r (AllPairsStay self.old self.new)) }
     {
         self.find(entry, last)?;
-        let alloc = *self.by_entry.allocator();
-        let Some(exits) = self.by_entry.get_index_mut(*last) else {
-            return Ok(None);
+        let at = index_in_32_bits(*last)?;
+        let link = index_in_32_bits(self.pairs.len() + 1)?;
+        make_room(&mut self.pairs)?;
+        let Some((_, known)) = self.by_entry.get_index(*last) else {
+            unreachable!()
         };
-        let Some(at) = exits.insert(alloc, exit)? else {
+        let KnownEntry {
+            mut seen,
+            last: before,
+            count,
+        } = *known;
+        let fresh = seen.add(left);
+        let new = is_new(&mut self.many, &self.pairs, before, count, fresh, at, left)?;
+        if !new {
             return Ok(None);
+        }
+        let pair = KeptPair::new(at, left);
+        self.pairs.push_reserved(LinkedPair { pair, before });
+        self.by_entry[*last] = KnownEntry {
+            seen,
+            last: link,
+            count: one_more(count),
         };
-        Ok(Some(Place {
-            entry: index_in_32_bits(*last)?,
-            exit: index_in_32_bits(at)?,
-        }))
+        Ok(Some(link - 1))
     }
 
-    /// The exits of an entry, in the order of adding.
-    pub(crate) fn of(&self, entry: Word) -> &[KeptExit]
-        ensures { result.now ≡ exits_of self.now entry }
+    /// The link to the last pair of an entry.
+    pub(crate) fn last_of(&self, entry: Word) -> u32
+        ensures { LeadsTo (pair_at self.now) entry (count_of self.now) result }
     {
         match self.by_entry.get(&entry) {
-            Some(exits) => exits.as_slice(),
-            None => &[],
+            Some(known) => known.last,
+            None => 0,
         }
     }
 
-    /// How many exits there are of all entries, as far as a `usize` counts.
-    pub(crate) fn count(&self) -> usize {
-        let mut count: usize = 0;
-        for exits in self.by_entry.values() {
-            count = count.saturating_add(exits.as_slice().len());
-        }
-        count
-    }
-
-    /// The index of an entry and the number of its exits, which are the places of its pairs.
-    pub(crate) fn places_of(&self, entry: Word) -> Result<(u32, u32), AllocError>
-        ensures each { IfOk result (λ r. (k : ℕ) → k < r.1
-            → (b : Exit) × (pair_at self.now (place r.0 k) ≡ Some (pair entry b))) }
-        ensures all { IfOk result (λ r. (at : Place) (b : Exit) → pair_at self.now at ≡ Some (pair entry b)
-            → (at.entry ≡ r.0) × (at.exit < r.1)) }
+    /// What the pair at a place leaves, and the link to the pair before it of the same entry.
+    #[inline(always)]
+    pub(crate) fn left_at(&self, at: Place) -> (Exit, u32)
+        requires { (found : Pair) × (pair_at self.now at ≡ Some found) }
+        ensures left { (found : Pair) → pair_at self.now at ≡ Some found
+            → result.0 ≡ left found.b found.r }
+        ensures before { (found : Pair) → pair_at self.now at ≡ Some found
+            → LeadsTo (pair_at self.now) found.a at result.1 }
     {
-        let Some(at) = self.by_entry.get_index_of(&entry) else {
-            return Ok((0, 0));
-        };
-        Ok((
-            index_in_32_bits(at)?,
-            index_in_32_bits(self.of(entry).len())?,
-        ))
+        let linked = self.pairs[at as usize];
+        (linked.pair.left(), linked.before)
     }
 
     /// The pair at a place.
@@ -239,11 +173,12 @@ impl<A: Allocator + Copy> Exits<A> {
         requires { (found : Pair) × (pair_at self.now at ≡ Some found) }
         ensures { pair_at self.now at ≡ Some result }
     {
+        let linked = self.pairs[at as usize];
         let entries = self.by_entry.as_slice();
-        let Some((entry, exits)) = entries.get_index(at.entry as usize) else {
+        let Some((entry, _)) = entries.get_index(linked.pair.entry() as usize) else {
             unreachable!()
         };
-        let left = exits.as_slice()[at.exit as usize].exit();
+        let left = linked.pair.left();
         Pair {
             a: *entry,
             b: left.globals,

@@ -6,7 +6,7 @@ use std::marker::Model;
 
 /// What a call leaves, as a table keeps it, which takes 20 bytes instead of 32. Contracts see it as what is
 /// left.
-#[derive(Clone, Copy, PartialEq, Eq, Hash)]
+#[derive(Clone, Copy)]
 pub(crate) struct KeptExit {
     globals: Halves,
     result: bool,

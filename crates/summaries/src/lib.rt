@@ -3,10 +3,12 @@
 #![tactic(auto)]
 
 mod calls;
+mod chains;
 mod due;
 mod edge;
 mod exits;
 mod expanding;
+mod finding;
 mod fitting;
 mod found;
 mod frontier;
@@ -14,7 +16,10 @@ mod groups;
 mod kept_call;
 mod kept_edge;
 mod kept_exit;
+mod kept_pair;
+mod known_entry;
 mod laws;
+mod linked_pair;
 mod long_list;
 mod no_verdict;
 mod outbox;
@@ -23,6 +28,7 @@ mod reading;
 mod resuming;
 mod sending;
 mod short_list;
+mod signature;
 mod summaries;
 mod table;
 mod table_fault;

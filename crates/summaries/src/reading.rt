@@ -1,15 +1,13 @@
 //! What tables found, as summaries.
 
 ghost use Rattle.std.specs.Prelude.{◌≡◌, ◌↔◌, ◌++◌, ℕ, map, Some, OnOk, IfOk, IsTrue, nat_eq};
-ghost use Rattle.std.specs.List.Sorted.{IsPermutation};
 ghost use Rattle.language.specs.Lists.{Member};
 ghost use Rattle.summaries.specs.declared.due.Caller.{Caller};
 ghost use Rattle.summaries.specs.declared.pair.Pair.{Pair};
 ghost use Rattle.summaries.specs.Under.{under};
-ghost use Rattle.indexmap.specs.IndexMap.{keys, IsUnique};
-ghost use Rattle.summaries.specs.declared.exits.Place.{Place};
-ghost use Rattle.summaries.specs.Exits.{pair, pair_at};
-ghost use Rattle.summaries.specs.Readings.{pairs_of};
+ghost use Rattle.summaries.specs.Links.{last_links};
+ghost use Rattle.summaries.specs.Exits.{pair, pair_at, count_of, LeadsTo};
+ghost use Rattle.summaries.specs.Readings.{AddsPairsOf};
 ghost use Rattle.summaries.specs.Tabulated.{IsAscending, ArePairsAscending};
 ghost use Rattle.summaries.specs.Together.{AreReadOff, IsReadOff, IsSummaryOf};
 
@@ -17,11 +15,11 @@ use crate::due;
 use crate::exits::Exits;
 use crate::found::Found;
 use crate::groups::Groups;
-use crate::kept_exit::KeptExit;
 use crate::long_list::append;
 use crate::pair::Pair;
 use crate::summaries::Summary;
 use crate::table::Table;
+use flow_graph::Exit;
 use language::Word;
 use path_sets::PathSet;
 use std::alloc::{AllocError, Allocator};
@@ -35,10 +33,13 @@ fn entries<A: Allocator + Copy>(
     ensures entries { IfOk result (λ v. (a : ℕ) → Member a v.items
         ↔ ((from : Caller) × Member from (under nat_eq callers.now.by_key a))) }
 {
+    let count = callers.by_key.len();
     let mut entries = Vec::new(alloc);
-    let keys = callers.by_key.keys();
-    for entry in keys.as_slice() {
-        if !callers.of(*entry).is_empty() {
+    for at in 0..count {
+        let Some((entry, from)) = callers.by_key.get_index(at) else {
+            unreachable!()
+        };
+        if !from.as_slice().is_empty() {
             append(&mut entries, *entry)?;
         }
     }
@@ -46,53 +47,83 @@ fn entries<A: Allocator + Copy>(
     Ok(entries)
 }
 
-/// Adds the pairs of an entry, in their order among themselves.
-fn add_pairs_of<A: Allocator>(
+/// Appends the pair of an entry with each of these exits, in their order.
+fn append_pairs<A: Allocator>(
     pairs: &mut Vec<Pair, A>,
     entry: Word,
-    exits: &[KeptExit],
+    left: &[Exit],
 ) -> Result<(), AllocError>
-    ensures { OnOk result (IsPermutation (pairs.old.items ++ map (pair entry) exits.now) pairs.new.items) }
+    ensures { OnOk result (pairs.new.items ≡ pairs.old.items ++ map (pair entry) left.now) }
 {
-    let first = pairs.len();
-    for kept in exits {
-        let left = kept.exit();
+    for exit in left {
         let pair = Pair {
             a: entry,
-            b: left.globals,
-            r: left.result,
+            b: exit.globals,
+            r: exit.result,
         };
         append(pairs, pair)?;
     }
-    pairs[first..].sort_unstable();
     Ok(())
 }
 
-/// The entries that are known to have exits, ascending.
-fn entries_left<A: Allocator + Copy>(alloc: A, exits: &Exits<A>) -> Result<Vec<Word, A>, AllocError>
-    ensures entries { IfOk result (λ v. (a : ℕ) → Member a v.items ↔ Member a (keys exits.now.by_entry)) }
-    ensures once { OnOk result (IsUnique nat_eq exits.now.by_entry) }
+/// Adds the pairs of an entry, sorted among themselves. A link leads to the last of them. `left` is overwritten.
+// Exits are sorted instead of pairs, since they are smaller and pairs of one entry differ in nothing else.
+fn add_pairs_of<A: Allocator + Copy>(
+    pairs: &mut Vec<Pair, A>,
+    left: &mut Vec<Exit, A>,
+    exits: &Exits<A>,
+    entry: Word,
+    last: u32,
+) -> Result<(), AllocError>
+    requires { LeadsTo (pair_at exits.now) entry (count_of exits.now) last }
+    ensures { OnOk result (AddsPairsOf exits.now entry pairs.old.items pairs.new.items) }
 {
-    let mut entries = Vec::with_capacity(alloc, exits.by_entry.len())?;
-    let keys = exits.by_entry.keys();
-    for entry in keys.as_slice() {
-        append(&mut entries, *entry)?;
+    left.clear();
+    let mut link = last;
+    'links: while link > 0 {
+        let (exit, before) = exits.left_at(link - 1);
+        append(left, exit)?;
+        link = before;
+    }
+    left.sort_unstable();
+    append_pairs(pairs, entry, left)
+}
+
+/// The entries, ascending, each with the link to its last pair.
+fn entries_left<A: Allocator + Copy>(
+    alloc: A,
+    exits: &Exits<A>,
+) -> Result<Vec<(Word, u32), A>, AllocError>
+    ensures { IfOk result
+        (λ v. (known : ℕ × ℕ) → Member known v.items ↔ Member known (last_links exits.now.by_entry.entries)) }
+{
+    let count = exits.by_entry.len();
+    let mut entries = Vec::with_capacity(alloc, count)?;
+    for at in 0..count {
+        let Some((entry, known)) = exits.by_entry.get_index(at) else {
+            unreachable!()
+        };
+        append(&mut entries, (*entry, known.last))?;
     }
     entries.sort_unstable();
     Ok(entries)
 }
 
-/// The pairs of these entries, entry by entry.
+/// The pairs of these entries, entry by entry. With each entry comes the link to its last pair.
 fn pairs_by_entry<A: Allocator + Copy>(
     alloc: A,
     exits: &Exits<A>,
-    entries: &[Word],
+    entries: &[(Word, u32)],
 ) -> Result<Vec<Pair, A>, AllocError>
-    ensures { IfOk result (λ v. IsPermutation (pairs_of exits.now entries.now) v.items) }
+    requires { (known : ℕ × ℕ)
+        → Member known entries.now ↔ Member known (last_links exits.now.by_entry.entries) }
+    ensures { IfOk result (λ v. (x : Pair) → Member x v.items
+        ↔ ((at : ℕ) × (pair_at exits.now at ≡ Some x))) }
 {
-    let mut pairs = Vec::with_capacity(alloc, exits.count())?;
+    let mut pairs = Vec::with_capacity(alloc, exits.pairs.len())?;
+    let mut left = Vec::new(alloc);
     for entry in entries {
-        add_pairs_of(&mut pairs, *entry, exits.of(*entry))?;
+        add_pairs_of(&mut pairs, &mut left, exits, entry.0, entry.1)?;
     }
     Ok(pairs)
 }
@@ -105,12 +136,12 @@ fn are_ascending(pairs: &[Pair]) -> bool
 }
 
 /// The pairs, ascending.
-// The few pairs of each entry are sorted alone, which is faster than all at once. They ascend then, since no exit of an entry
-// occurs twice; but nothing that is known of any table says so, so it is looked at.
+// The few pairs of each entry are sorted alone, which is faster than all at once. They ascend then, since no pair is
+// kept twice and entries ascend; but no contract of these sorts says so, so it is looked at.
 fn pairs<A: Allocator + Copy>(alloc: A, exits: &Exits<A>) -> Result<Vec<Pair, A>, AllocError>
     ensures ascend { IfOk result (λ v. ArePairsAscending v.items) }
     ensures pairs { IfOk result (λ v. (x : Pair) → Member x v.items
-        ↔ ((at : Place) × (pair_at exits.now at ≡ Some x))) }
+        ↔ ((at : ℕ) × (pair_at exits.now at ≡ Some x))) }
 {
     let entries = entries_left(alloc, exits)?;
     let mut pairs = pairs_by_entry(alloc, exits, &entries)?;

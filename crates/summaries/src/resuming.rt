@@ -1,20 +1,23 @@
 //! Calls whose summaries are known.
 
+use crate::calls::Calls;
 use crate::edge::PathEdge;
 use crate::frontier::Frontier;
 use crate::kept_edge::KeptEdge;
-use crate::kept_exit::KeptExit;
 use crate::table_fault::TableFault;
 use flow_graph::{Exit, Flow, Graph};
 use path_sets::PathSet;
 use std::alloc::Allocator;
 
 impl<'e, 'p, A: Allocator, S: PathSet<A>> Frontier<'e, 'p, A, S> {
+    ghost use Rattle.summaries.specs.Chains.{chain_of};
     ghost use Rattle.summaries.specs.Grows.{OfSome, IsBehind};
     ghost use Rattle.summaries.specs.Frontiers.{Extends, IsWithin};
 
     /// Continues after the call of a site, for what it has left; nowhere if there is no such call. After an error
     /// the edge may have been added.
+    // Inlined: a site and what it has left would be copied for the call.
+    #[inline(always)]
     fn reach_after_call<G: Allocator>(
         &mut self,
         graph: &Graph<G>,
@@ -38,20 +41,24 @@ impl<'e, 'p, A: Allocator, S: PathSet<A>> Frontier<'e, 'p, A, S> {
         self.reach(edge)
     }
 
-    /// Continues after the call of a site for each thing that it has left. After an error some of the edges
-    /// have been added.
+    /// Continues after the call of a site for each thing on the chain of what it has left. After an error some of the
+    /// edges have been added.
     pub(crate) fn resume_site<G: Allocator>(
         &mut self,
         graph: &Graph<G>,
         site: PathEdge,
-        summaries: &[KeptExit],
+        calls: &Calls<A>,
+        chain: u32,
     ) -> Result<(), TableFault>
         requires { IsWithin S.members self.old }
         ensures { Extends S.members
-            (OfSome (IsBehind graph.now site) summaries.now) result self.old self.new }
+            (OfSome (IsBehind graph.now site) (chain_of calls.now.left.links.items chain))
+            result self.old self.new }
     {
-        for left in summaries {
-            self.reach_after_call(graph, site, left.exit())?;
+        let mut chain = chain;
+        'links: while let Some((left, before)) = calls.left.last(chain) {
+            self.reach_after_call(graph, site, left)?;
+            chain = before;
         }
         Ok(())
     }

@@ -5,8 +5,9 @@ ghost use Rattle.summaries.specs.declared.outbox.Outgoing.{Outgoing};
 ghost use Rattle.summaries.specs.Grows.{SendsAll, OfSome, IsTold, IsToldOf};
 
 use crate::due::Caller;
-use crate::exits::Place;
+use crate::exits::{Exits, Place};
 use crate::outbox::{Outbox, Outgoing};
+use language::Word;
 use std::alloc::{AllocError, Allocator};
 
 /// Sends the summary of the pair at a place to a caller that does not have it; the starter gets none.
@@ -42,19 +43,23 @@ pub(crate) fn send_summary_to_all<A: Allocator + Copy>(
     Ok(())
 }
 
-/// Sends a caller the summaries of the first `count` pairs of the entry at an index, of which the caller has none; the
-/// starter gets none. After an error it has some.
+/// Sends a caller the summaries of the pairs of an entry, of which the caller has none; the starter gets none. After an
+/// error it has some.
 pub(crate) fn send_summaries<A: Allocator + Copy>(
     outbox: &mut Outbox<A>,
-    entry: u32,
-    count: u32,
+    exits: &Exits<A>,
+    entry: Word,
     caller: Caller,
 ) -> Result<(), AllocError>
-    requires { (x : Outgoing) → IsToldOf entry count caller x → ¬ Member x outbox.old.sent.items }
-    ensures { SendsAll (IsToldOf entry count caller) result outbox.old outbox.new }
+    requires { (x : Outgoing) → IsToldOf exits.now entry caller x
+        → ¬ Member x outbox.old.sent.items }
+    ensures { SendsAll (IsToldOf exits.now entry caller) result outbox.old outbox.new }
 {
-    for exit in 0..count {
-        send_summary(outbox, Place { entry, exit }, caller)?;
+    let mut link = exits.last_of(entry);
+    'pairs: while link > 0 {
+        let at = link - 1;
+        send_summary(outbox, at, caller)?;
+        (_, link) = exits.left_at(at);
     }
     Ok(())
 }

@@ -47,9 +47,9 @@ impl<'g, G: Allocator, A: Allocator + Copy, S: PathSet<A>> Table<'g, G, A, S> {
         ensures stays { StaysAs self.old self.new }
         ensures fault { self.new.fault ≡ self.old.fault }
     {
-        let exit = KeptExit::new(self.graph.left(values));
+        let left = self.graph.left(values);
         let last = &mut self.found.last_exit;
-        if let Some(at) = self.found.exits.insert_near(entry, exit, last)? {
+        if let Some(at) = self.found.exits.insert_near(entry, left, last)? {
             let last = &mut self.found.last_entry;
             let callers = self.found.entries.of_near(entry, last);
             send_summary_to_all(&mut self.found.outbox, at, callers)?;
@@ -113,7 +113,7 @@ impl<'g, G: Allocator, A: Allocator + Copy, S: PathSet<A>> Table<'g, G, A, S> {
             pending: &mut self.found.pending,
             limit: self.limit,
         };
-        frontier.resume_site(self.graph, edge, self.found.calls.summaries_at(added.at))
+        frontier.resume_site(self.graph, edge, &self.found.calls, added.chain)
     }
 
     /// Works on an edge that is not pending: adds the edges that it leads to, and gives the messages that it makes due. The
@@ -316,8 +316,7 @@ impl<'g, G: Allocator, A: Allocator + Copy, S: PathSet<A>> Table<'g, G, A, S> {
             limit: self.limit,
         };
         frontier.reach(start)?;
-        let (at, count) = self.found.exits.places_of(a)?;
-        send_summaries(&mut self.found.outbox, at, count, caller)?;
+        send_summaries(&mut self.found.outbox, &self.found.exits, a, caller)?;
         Ok(())
     }
 

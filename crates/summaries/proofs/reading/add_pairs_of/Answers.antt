@@ -1,38 +1,76 @@
--- One more pair is added, and the sort only moves pairs.
-use borrow.Rule.Slice.PartMut.{put_mid}
-use Rattle.std.proofs.Common.{◌≡◌, ◌++◌, ◌-◌, ◌∷◌, [], map, length, take, drop, get_or, sym, ap, ◌∙◌, subst, arith}
-use Rattle.std.specs.List.Sorted.{IsPermutation}
-use Rattle.std.proofs.lemmas.List.{take_all, take_more, map-append, append_assoc}
-use Rattle.std.proofs.lemmas.List.Sorted.{IsPermutation-put_mid, length_permutation}
-use Rattle.flow_graph.specs.declared.exit.Exit.{Exit}
+-- What one more pair leaves is gathered, and the sort only moves it.
+use Rattle.std.proofs.Common.{◌≡◌, ◌-◌, ◌+◌, ◌++◌, [], map, Some, sym, ap, ◌∙◌, subst, arith}
+use Rattle.std.proofs.lemmas.Option.{same_Some}
+use Rattle.std.proofs.lemmas.Result.{on_ok_weaker}
 use Rattle.summaries.specs.declared.pair.Pair.{Pair}
-use Rattle.summaries.specs.Exits.{pair}
-use Rattle.summaries.proofs.ReadingLemmas.{written_over}
+use Rattle.summaries.specs.Exits.{pair, count_of}
+use Rattle.summaries.specs.Found.{left}
+use Rattle.summaries.specs.Grows.{AddsTo}
+use Rattle.summaries.proofs.TellLemmas.{gives_as, gives_one}
+use Rattle.summaries.proofs.WalkLemmas.{IsDoneFrom, IsLeftAt, none_first, all_last, told_next, next_below, added_pairs}
 use Rattle.summaries.proofs.reading.add_pairs_of.Goals as goal
 
-pub loop-kept-preserved : goal.loop-kept-preserved
-loop-kept-preserved g c =
-    let xs = c.args.exits.now in
-    let i = c.loop-kept.kept-index in
-    let f : Exit → Pair = pair c.args.entry in
-    let x = get_or xs i c.kept-item.result in
-    let is : c.exit-left.result ≡ x = c.exit-left.ensures ∙ c.kept-item.is in
-    c.in_ok-append.ensures.ok ∙ (λ j. c.loop-kept.invariant j ++ f (is j) ∷ [])
-    ∙ append_assoc c.args.pairs.now.items (map f (take i xs)) (f x ∷ [])
-    ∙ ap (λ l. c.args.pairs.now.items ++ l)
-    (sym (ap (map f) (take_more xs i c.kept-item.result c.loop-kept-test.true) ∙ map-append f (take i xs) (x ∷ [])))
+pub links-init : goal.links-init
+links-init g c =
+    let exits = c.args.exits.now in
+    let entry = c.args.entry in
+    let W = IsLeftAt exits entry in record {
+      leads = (count_of exits, c.requires);
+      gathered = subst (AddsTo (IsDoneFrom exits entry c.args.last W) []) (sym c.clear.ensures.items)
+          (none_first exits entry W c.args.last c.requires []);
+    }
+
+pub left_at-before-requires : goal.left_at-before-requires
+left_at-before-requires g c =
+    let link = c.links.link in
+    let is : link ≡ link - 1 + 1 = omega (arith, c.links-test.true) in
+    let (before, leads) = c.links.invariant.leads in
+    let (less, (b, here)) = leads.there (link - 1) is in
+    (pair c.args.entry b, here)
+
+pub links-smaller : goal.links-smaller
+links-smaller g c =
+    let exits = c.args.exits.now in
+    let link = c.links.link in
+    let is : link ≡ link - 1 + 1 = omega (arith, c.links-test.true) in
+    let (before, leads) = c.links.invariant.leads in
+    let (less, (b, here)) = leads.there (link - 1) is in
+    let low = next_below exits c.args.entry (IsLeftAt exits c.args.entry) (link - 1) link c.left_at-before.result.1 is b here
+    (c.left_at-before.ensures.before (pair c.args.entry b) here) in
+    let more = c.links-test.true in
+    omega (arith, low, more)
+
+pub links-preserved : goal.links-preserved
+links-preserved g c =
+    let exits = c.args.exits.now in
+    let entry = c.args.entry in
+    let link = c.links.link in
+    let at = link - 1 in
+    let is : link ≡ link - 1 + 1 = omega (arith, c.links-test.true) in
+    let (before, leads) = c.links.invariant.leads in
+    let (less, (b, here)) = leads.there at is in
+    let next = c.left_at-before.ensures.before (pair entry b) here in
+    let exit = c.left_at-before.result.0 in
+    let it : exit ≡ b = c.left_at-before.ensures.left (pair entry b) here in
+    let items = c.links.left.items in
+    let one = gives_as (λ x. x ≡ exit) (IsLeftAt exits entry at) items c.append.new.list.items
+    (λ x same. here ∙ ap (λ e. Some (pair entry e)) (sym (same ∙ it)))
+    (λ x there. ap (λ (p : Pair). left p.b p.r) (same_Some (pair entry x) (pair entry b) (sym there ∙ here)) ∙ sym it)
+    (gives_one exit items c.append.new.list.items c.in_ok-append.ensures.ok) in
+    record {
+      leads = (at, next);
+      gathered = told_next exits entry (IsLeftAt exits entry) at link c.left_at-before.result.1 is b here next
+          [] items c.append.new.list.items c.links.invariant.gathered one;
+    }
 
 pub returns : goal.returns
 returns g c =
-    let f : Exit → Pair = pair c.args.entry in
     let exits = c.args.exits.now in
-    let items = c.loop-kept.pairs.items in
-    let lent = c.deref_mut.result.now in
-    let first = c.len-first.result in
-    let sorted = IsPermutation-put_mid first (length lent - first) lent c.sort_unstable.new.self c.sort_unstable.ensures.permutation in
-    let put = put_mid first (length lent - first) lent c.sort_unstable.new.self in
-    let long : length put ≡ length items = length_permutation lent put sorted ∙ ap length c.deref_mut.ensures.value in
-    let read : lent ≡ c.args.pairs.now.items ++ map f exits = c.deref_mut.ensures.value ∙ c.loop-kept.invariant
-    ∙ ap (λ l. c.args.pairs.now.items ++ map f l) (take_all c.loop-kept.kept-index exits c.loop-kept-test.false) in
-    subst (λ l. IsPermutation l (take c.loop-kept.pairs.len (put ++ drop (length put) items))) read
-    (subst (IsPermutation lent) (sym (written_over c.loop-kept.pairs.len items put long (omega arith))) sorted)
+    let entry = c.args.entry in
+    let gathered = all_last exits entry (IsLeftAt exits entry) c.links.link (omega (arith, c.links-test.false)) [] c.links.left.items
+    c.links.invariant.gathered in
+    on_ok_weaker c.append_pairs.result
+    (λ more. added_pairs exits entry c.links.left.items c.sort_unstable.new.self.items c.args.pairs.now.items
+    c.append_pairs.new.pairs.items gathered c.sort_unstable.ensures.permutation
+    (more ∙ ap (λ l. c.args.pairs.now.items ++ map (pair entry) l) c.deref.ensures.value))
+    c.append_pairs.ensures

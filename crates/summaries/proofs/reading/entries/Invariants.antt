@@ -6,6 +6,6 @@ use Rattle.summaries.specs.Under.{under}
 use Rattle.summaries.proofs.SortedLemmas.{has_any}
 use Rattle.summaries.proofs.reading.entries.Given as goal
 
-abbrev pub invariant-loop-entry : goal.invariant-loop-entry
-invariant-loop-entry g l =
-    l.entries.items ≡ filter (λ a. has_any (under nat_eq l.fn.callers.by_key a)) (take l.entry-index (keys l.fn.callers.by_key))
+abbrev pub invariant-loop-at : goal.invariant-loop-at
+invariant-loop-at g l =
+    l.entries.items ≡ filter (λ a. has_any (under nat_eq l.fn.callers.by_key a)) (take l.at (keys l.fn.callers.by_key))

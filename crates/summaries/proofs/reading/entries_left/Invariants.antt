@@ -1,7 +1,7 @@
--- The entries so far are the keys so far.
+-- The entries so far are those of the map so far.
 use Rattle.std.proofs.Common.{◌≡◌, take}
-use Rattle.indexmap.specs.IndexMap.{keys}
+use Rattle.summaries.specs.Links.{last_links}
 use Rattle.summaries.proofs.reading.entries_left.Given as goal
 
-abbrev pub invariant-loop-entry : goal.invariant-loop-entry
-invariant-loop-entry g l = l.entries.items ≡ take l.entry-index (keys l.fn.exits.by_entry)
+abbrev pub invariant-loop-at : goal.invariant-loop-at
+invariant-loop-at g l = l.entries.items ≡ take l.at (last_links l.fn.exits.by_entry.entries)

@@ -1,13 +1,14 @@
--- An entry that comes to be there has no exits.
-use Rattle.std.proofs.Common.{◌≡◌, None, Some, nat_eq, is_some, Option, slice_get, refl, sym, ap, ◌∙◌, true≢false, false}
+-- An entry that comes to be there has no pairs.
+use Rattle.std.proofs.Common.{◌≡◌, [], ◌∷◌, ◌++◌, ◌⊎◌, inl, inr, None, nat_eq, slice_get, sym, ◌∙◌}
 use Rattle.std.specs.Map.{keys_of}
 use Rattle.indexmap.specs.IndexMap.{get, keys}
-use Rattle.indexmap.proofs.CallerLemmas.{insert_entry-new}
 use Rattle.indexmap.proofs.SetLemmas.{inserted_at}
 use Rattle.std.proofs.lemmas.List.Quantifiers.{position-Some}
 use Rattle.std.proofs.lemmas.Option.{slice_get-get_or}
-use Rattle.summaries.specs.Exits.{pair_in}
-use Rattle.summaries.proofs.PairLemmas.{pairs_with_none, nat_itself}
+use Rattle.indexmap.proofs.CallerLemmas.{insert_entry-new}
+use Rattle.summaries.proofs.LinkLemmas.{nat_itself, either_way, linked_still, is_none}
+use Rattle.summaries.proofs.HashLemmas.{known_still}
+use Rattle.summaries.proofs.PairLemmas.{pairs_stay}
 use Rattle.summaries.proofs.exits.Exits.index_of.Goals as goal
 
 pub returns-in-Some-clause-at : goal.returns-in-Some-clause-at
@@ -23,13 +24,39 @@ returns-clause-at g c =
     let told = c.in_ok-at.ensures in
     (x, (λ j. slice_get (keys_of (told.entries j)) (told.index j)) ∙ here, same)
 
+pub invariant_of-self : goal.invariant_of-self
+invariant_of-self g c =
+    let old = c.args.self.now in
+    let told = c.insert_full.ensures in
+    let fresh = c.new.result in
+    let none : get nat_eq old.by_entry c.args.entry ≡ None =
+    is_none (get nat_eq old.by_entry c.args.entry) (sym c.in_default.ensures.found) in
+    let after = c.insert_full.new.self.entries in
+    let grown : (after ≡ old.by_entry.entries ++ (c.args.entry, fresh) ∷ []) ⊎ (after ≡ old.by_entry.entries) =
+    elim (either_way c.insert_full.result told.entries told.err) [
+      | inl is ↦ inl (is ∙ insert_entry-new nat_eq old.by_entry c.args.entry fresh none)
+      | inr same ↦ inr same
+    ] in
+    let (owned, last) =
+    linked_still old.by_entry.entries after old.pairs.items c.args.entry fresh c.new.ensures.last grown old.owned old.last in
+    let (seen, counted, hashed) =
+    known_still old.by_entry.entries after old.pairs.items old.many.keys c.args.entry fresh c.new.ensures.count
+    old.owned grown old.seen old.counted old.hashed in
+    record {
+      once = told.unique;
+      owned = owned;
+      last = last;
+      linked = old.linked;
+      seen = seen;
+      real = old.real;
+      counted = counted;
+      hashed = hashed;
+    }
+
 pub returns-clause-stay : goal.returns-clause-stay
-returns-clause-stay g c = λ at.
-    let m = c.args.self.now.by_entry in
-    let none : get nat_eq m c.args.entry ≡ None = is_none (get nat_eq m c.args.entry) (sym c.in_default.ensures.found) in
-    ap (λ es. pair_in at.exit (slice_get es at.entry)) (c.in_ok-at.ensures.entries ∙ insert_entry-new nat_eq m c.args.entry _ none)
-    ∙ pairs_with_none m.entries c.args.entry _ c.new.ensures.items at.entry at.exit
-  where
-    is_none : {X : Type 0} (o : Option X) → is_some o ≡ false → o ≡ None
-    is_none None e = refl
-    is_none (Some x) e = absurd (true≢false e)
+returns-clause-stay g c =
+    let old = c.args.self.now in
+    let none : get nat_eq old.by_entry c.args.entry ≡ None =
+    is_none (get nat_eq old.by_entry c.args.entry) (sym c.in_default.ensures.found) in
+    pairs_stay old c.insert_full.new.self.entries c.args.entry c.new.result
+    (c.in_ok-at.ensures.entries ∙ insert_entry-new nat_eq old.by_entry c.args.entry c.new.result none)

@@ -48,7 +48,7 @@ is_new g c =
 pub send_summaries-requires : goal.send_summaries-requires
 send_summaries-requires g c =
     let self = c.args.self.now in
-    none_told self.found c.args.a c.in_ok-at.at c.in_ok-at.count c.in_ok-at.ensures.each self.graph.now self.procedure
+    none_told self.found c.args.a self.graph.now self.procedure
     (g.S.PathSet.members self.edges) c.requires.holds.0 c.args.caller (is_new g (goal.at.send_summaries-requires g c).After-add)
 
 pub returns-in_err-add-clause-worked : goal.returns-in_err-add-clause-worked
@@ -82,18 +82,6 @@ returns-in_err-reach-clause-worked g c =
     t (is_start ∙ ap (λ n. triple a n a) c.start.ensures))
     new full)
 
-pub returns-in_err-at-clause-worked : goal.returns-in_err-at-clause-worked
-returns-in_err-at-clause-worked g c =
-    let self = c.args.self.now in
-    let a = c.args.a in
-    refused_worked g.S.PathSet.members (λ t. ⊥) _ self _
-    (enter_only self.graph.now self.procedure self.found c.add.new.self self.found.outbox c.reach.new.self.pending.now a
-    c.args.caller c.in_ok-add.ensures.added c.in_ok-add.ensures.others
-    (g.S.PathSet.members self.edges) (g.S.PathSet.members c.reach.new.self.edges.now) c.requires.holds.0
-    (λ t m. elim (c.in_ok-reach.ensures.adds.only t m) [ inl is ↦ inl (is ∙ ap (λ n. triple a n a) c.start.ensures) | inr was ↦ inr was ]))
-    c.in_ok-reach.ensures.adds.within (record { graph = refl; procedure = refl; limit = refl }) refl
-    c.from_residual-in_err-at.ensures.1
-
 pub returns-in_err-send_summaries-clause-worked : goal.returns-in_err-send_summaries-clause-worked
 returns-in_err-send_summaries-clause-worked g c =
     let self = c.args.self.now in
@@ -117,12 +105,11 @@ returns-clause-worked g c =
     let grown =
     subst (λ n. Grows (λ t. t ≡ triple a n a) es ds f.pending.items pending.items) c.start.ensures c.in_ok-reach.ensures.adds.ok in
     let told = c.in_ok-send_summaries.ensures.ok in
-    let each = c.in_ok-at.ensures.each in
-    let gave = exits_told f a _ _ each self.procedure c.send_summaries.new.outbox c.args.caller told c.in_ok-at.ensures.all in
+    let gave = exits_told f a self.procedure c.send_summaries.new.outbox c.args.caller told in
     let step = enter_step self.graph.now self.procedure f c.add.new.self c.send_summaries.new.outbox pending a
     c.args.caller c.in_ok-add.ensures.added c.in_ok-add.ensures.others es ds c.requires.holds.0
     (is_new g (goal.at.returns-clause-worked g c).After-add) grown
-    (λ x old. exits_placed f a _ _ each self.procedure c.send_summaries.new.outbox c.args.caller told old x)
+    (λ x old. exits_placed f a self.procedure c.send_summaries.new.outbox c.args.caller told old x)
     gave in record {
       holds =
           still_holds self.graph.now self.procedure f _ es ds step (λ t. ⊥) c.requires.holds;
@@ -146,13 +133,6 @@ returns-clause-taken g c =
 
 pub returns-in_err-reach-clause-only : goal.returns-in_err-reach-clause-only
 returns-in_err-reach-clause-only g c = λ k.
-    let self = c.args.self.now in
-    let pending = c.reach.new.self.pending.now in
-    (entered_also self.graph.now self.procedure self.found c.add.new.self self.found.outbox pending c.args.a c.args.caller
-    c.in_ok-add.ensures.added c.in_ok-add.ensures.others k).0
-
-pub returns-in_err-at-clause-only : goal.returns-in_err-at-clause-only
-returns-in_err-at-clause-only g c = λ k.
     let self = c.args.self.now in
     let pending = c.reach.new.self.pending.now in
     (entered_also self.graph.now self.procedure self.found c.add.new.self self.found.outbox pending c.args.a c.args.caller

@@ -1,13 +1,15 @@
-use Rattle.std.proofs.Common.{ℕ, ◌≡◌, ◌⊎◌, ◌++◌, ◌∷◌, [], Some, refl, sym, ap, ◌∙◌, subst}
+use Rattle.std.proofs.Common.{ℕ, List, ◌≡◌, ◌⊎◌, ◌++◌, ◌∷◌, [], Some, refl, sym, ap, ◌∙◌, subst}
 use Rattle.std.proofs.lemmas.Result.{IfOk-weaker}
 use Rattle.path_sets.specs.Triples.{Triple}
 use Rattle.flow_graph.specs.Drawn.{called_procedure, entered_from}
 use Rattle.flow_graph.specs.Flows.{entered_by}
+use Rattle.flow_graph.specs.declared.exit.Exit.{Exit}
 use Rattle.flow_graph.specs.declared.flow.Flow.TheVariants as flow
 use Rattle.language.specs.Lists.{Member}
 use Rattle.language.specs.Sequential.{caller}
 use Rattle.flow_graph.specs.Numbers.{numbered_entry}
 use Rattle.summaries.specs.declared.edge.CallKey.{CallKey}
+use Rattle.summaries.specs.Chains.{chain_of}
 use Rattle.summaries.specs.Calls.{sites_of, summaries_of}
 use Rattle.indexmap.specs.IndexMap.{keys}
 use Rattle.summaries.specs.Found.{path_edge, HasSite, IsIndexed, entry_mail, mails_in}
@@ -44,11 +46,9 @@ added g c =
     c.in_ok-added.ensures.added
     ∙ ap (λ x. sites_of c.args.self.now.found.calls c.new-key.result ++ x ∷ []) c.new.ensures
 
--- what the call leaves is found by it
-known_left : (g : given.Over) (c : goal.After-resume_site g) →
-    c.summaries_at.result.now ≡ summaries_of c.args.self.now.found.calls c.new-key.result
-known_left g c =
-    c.summaries_at.ensures c.new-key.result c.in_ok-added.ensures.at ∙ ap (λ left. left c.new-key.result) c.in_ok-added.ensures.summaries
+-- what the call leaves, by its chain
+abbrev told : (g : given.Over) → goal.After-resume_site g → List Exit
+told g c = chain_of c.add_site.new.self.left.links.items c.in_ok-added.added.chain
 
 -- so that is added behind the site
 known : (g : given.Over) (c : goal.After-resume_site g) →
@@ -58,14 +58,14 @@ known : (g : given.Over) (c : goal.After-resume_site g) →
     let ds = g.S.PathSet.members c.resume_site.new.self.edges.now in
     let known = summaries_of self.found.calls c.new-key.result in
     Grows
-    (OfSome (IsBehind self.graph.now site) c.summaries_at.result.now) es ds self.found.pending.items
+    (OfSome (IsBehind self.graph.now site) (told g c)) es ds self.found.pending.items
     c.resume_site.new.self.pending.now.items →
     Grows (OfSome (IsBehind self.graph.now site) known) es ds self.found.pending.items c.resume_site.new.self.pending.now.items
 known g c =
     let self = c.args.self.now in
     subst (λ bs. Grows (OfSome (IsBehind self.graph.now (path_edge c.args.entry c.args.point c.args.values)) bs)
     (g.S.PathSet.members self.edges) (g.S.PathSet.members c.resume_site.new.self.edges.now) self.found.pending.items
-    c.resume_site.new.self.pending.now.items) (known_left g c)
+    c.resume_site.new.self.pending.now.items) c.in_ok-added.ensures.chain
 
 -- if it stood nowhere, its entry is not given
 pub send_entry-requires : goal.send_entry-requires
@@ -143,7 +143,7 @@ returns-clause-worked g c =
     c.new-key.result.callee c.new-key.result.entered c.args.call.now.back (flow.Call c.args.call.now)
     c.requires.holds.0 c.requires.edge c.requires.call (enters g c)
     (subst (λ bs. (t : Triple) → Member t ds →
-    OfSome (IsBehind self.graph.now e) bs t ⊎ Member t es) (known_left g c)
+    OfSome (IsBehind self.graph.now e) bs t ⊎ Member t es) c.in_ok-added.ensures.chain
     c.resume_site.ensures.adds.only) in
     added_worked g.S.PathSet.members _ (λ t. t ≡ triple_of e) c.resume_site.result self _ es _ _ c.resume_site.ensures.adds
     (g.met.S.PathSet.none_twice c.resume_site.new.self.edges.now) edges
@@ -151,7 +151,7 @@ returns-clause-worked g c =
     c.in_ok-added.ensures.summaries es ds e
     c.new-key.result.callee c.new-key.result.entered c.args.call.now.back (flow.Call c.args.call.now)
     c.requires.holds.0 c.requires.edge c.requires.call (enters g c) t
-    (subst (λ bs. OfSome (IsBehind self.graph.now e) bs t) (known_left g c) w))
+    (subst (λ bs. OfSome (IsBehind self.graph.now e) bs t) c.in_ok-added.ensures.chain w))
     (IfOk-weaker c.resume_site.result _ _
     (λ _ grown.
     let step = ask_step self.graph.now self.procedure f c.send_entry.new.self c.add_site.new.self c.resume_site.new.self.pending.now

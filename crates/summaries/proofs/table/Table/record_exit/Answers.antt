@@ -1,4 +1,4 @@
-use Rattle.std.proofs.Common.{◌≡◌, refl, ap, subst}
+use Rattle.std.proofs.Common.{◌≡◌, refl, subst}
 use Rattle.path_sets.specs.Triples.{triple}
 use Rattle.summaries.specs.declared.found.Found.{Found}
 use Rattle.summaries.specs.Exits.{IsPairAdded}
@@ -14,9 +14,9 @@ use Rattle.summaries.proofs.table.Table.record_exit.Goals.{In_ok-send_summary_to
 pub send_summary_to_all-requires-clause-new : goal.send_summary_to_all-requires-clause-new
 send_summary_to_all-requires-clause-new g c =
     let f = c.args.self.now.found in
-    let p = pair c.args.entry c.left.result in
+    let p = pair c.args.entry c.left-left.result in
     let added = added_by f.exits c.insert_near.new.self _ p c.in_ok-at.field-0 c.in-Some.at c.in-Some.is
-    (ap (pair c.args.entry) c.new-exit.ensures) c.in_ok-at.ensures.new in
+    refl c.in_ok-at.ensures.new in
     none_told f (record f { exits = c.insert_near.new.self }) c.requires.holds.0.indexed p c.in-Some.at c.of_near-callers.result.now added
 
 -- what is found if the pair is new
@@ -30,24 +30,24 @@ after g c = record c.args.self.now.found {
 
 -- it has a place
 is_added : (g : Over) (c : In_ok-send_summary_to_all g)
-    → IsPairAdded (pair c.args.entry c.left.result) c.in-Some.at c.args.self.now.found.exits c.insert_near.new.self
-is_added g c = added_by c.args.self.now.found.exits c.insert_near.new.self _ (pair c.args.entry c.left.result) c.in_ok-at.field-0
-    c.in-Some.at c.in-Some.is (ap (pair c.args.entry) c.new-exit.ensures) c.in_ok-at.ensures.new
+    → IsPairAdded (pair c.args.entry c.left-left.result) c.in-Some.at c.args.self.now.found.exits c.insert_near.new.self
+is_added g c = added_by c.args.self.now.found.exits c.insert_near.new.self _ (pair c.args.entry c.left-left.result) c.in_ok-at.field-0
+    c.in-Some.at c.in-Some.is refl c.in_ok-at.ensures.new
 
 -- and its summary is given to the callers
 gave : (g : Over) (c : In_ok-send_summary_to_all g) →
     let self = c.args.self.now in
-    AddsTo (OfSome (IsSummaryTold self.procedure c.args.entry c.left.result) c.of_near-callers.result.now)
+    AddsTo (OfSome (IsSummaryTold self.procedure c.args.entry c.left-left.result) c.of_near-callers.result.now)
     (mails_in self.procedure self.found) (mails_in self.procedure (after g c))
 gave g c =
-    left_told c.args.self.now.procedure c.args.self.now.found (after g c) c.args.entry c.left.result c.in-Some.at
+    left_told c.args.self.now.procedure c.args.self.now.found (after g c) c.args.entry c.left-left.result c.in-Some.at
     c.of_near-callers.result.now c.requires.holds.0.indexed (is_added g c) c.in_ok-send_summary_to_all.ensures.ok
 
 pub returns-in_ok-send_summary_to_all-clause-ok : goal.returns-in_ok-send_summary_to_all-clause-ok
 returns-in_ok-send_summary_to_all-clause-ok g c =
     let self = c.args.self.now in
     let f = self.found in
-    let b = c.left.result in
+    let b = c.left-left.result in
     let es = g.S.PathSet.members self.edges in
     let at = (goal.at.returns-in_ok-send_summary_to_all-clause-ok g c).In_ok-send_summary_to_all in
     let h = after g at in
@@ -55,7 +55,7 @@ returns-in_ok-send_summary_to_all-clause-ok g c =
     let told =
     subst (λ cs. AddsTo (OfSome (IsSummaryTold self.procedure c.args.entry b) cs) (mails_in self.procedure f) (mails_in self.procedure h))
     c.of_near-callers.ensures (gave g at) in
-    let step = leave_step self.graph.now self.procedure f h es c.args.entry c.args.values b c.left.ensures.number
+    let step = leave_step self.graph.now self.procedure f h es c.args.entry c.args.values b c.left-left.ensures.number
     c.requires.holds.0 c.requires.edge c.in-Some.at added
     (λ old. left_indexed self.procedure f h c.args.entry b c.in-Some.at c.of_near-callers.result.now old added
     c.in_ok-send_summary_to_all.ensures.ok) told in

@@ -1,6 +1,5 @@
-use Rattle.summaries.specs.declared.exits.Place.{Place}
 use Rattle.summaries.specs.Exits.{pair_at}
-use Rattle.std.proofs.Common.{◌≡◌, ◌≤◌, length, nat_eq, Some, slice_get, sym, ap, ◌∙◌, subst, arith, Option, Result, Err}
+use Rattle.std.proofs.Common.{ℕ, ◌≡◌, ◌≤◌, length, nat_eq, Some, slice_get, sym, ap, ◌∙◌, subst, arith, Option, Result, Err}
 use Rattle.language.specs.Lists.{Member}
 use Rattle.flow_graph.specs.Numbers.{GraphReaches}
 use Rattle.flow_graph.specs.Returns.{left_by}
@@ -78,7 +77,7 @@ called g c =
     let here = subst (λ graph. slice_get graph.flows.items e.point ≡ Some (Call call)) same (c.flow.ensures ∙ ap Some c.in-Call.is) in
     let leaves : e.point ≡ 0 → HasExit last.found e.entry (left_by last.graph.now e.values) =
     λ is. subst (λ graph. HasExit last.found e.entry (left_by graph e.values)) same
-    (subst (λ x. (at : Place) × (pair_at x at ≡ Some (pair e.entry (left_by new.graph.now e.values)))) (sym c.record_call.ensures.exits)
+    (subst (λ x. (at : ℕ) × (pair_at x at ≡ Some (pair e.entry (left_by new.graph.now e.values)))) (sym c.record_call.ensures.exits)
     (was.left is)) in
     then_worked g.S.PathSet.members (λ t. t ≡ triple_of e) (λ t. ⊥) c.record_call.result old new last was.stays was.fault was.answers
     (both_ok c.record_call.result

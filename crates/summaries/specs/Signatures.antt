@@ -1,0 +1,18 @@
+-- Sets of 64 bits that tell which of many exits may be among some.
+use Rattle.std.specs.Prelude.{◌≡◌, ◌+◌, ◌/◌, ◌%◌, ◌^◌, ℕ, if◌then◌else◌, true}
+use Rattle.path_sets.specs.Masks.{bit_of}
+use Rattle.path_sets.specs.Slots.{home_in}
+use Rattle.flow_graph.specs.declared.exit.Exit.{Exit}
+use Rattle.summaries.specs.declared.signature.Signature.{Signature}
+
+-- an exit folded to 64 bits
+abbrev pub folded : Exit → ℕ
+folded left = ((left.globals % 2 ^ 64 + left.globals / 2 ^ 64) % 2 ^ 64 + (if left.result then 1 else 0)) % 2 ^ 64
+
+-- which of the 64 bits an exit has
+abbrev pub bit_for : Exit → ℕ
+bit_for left = home_in (folded left) 64
+
+-- the exit may be among those that were added: its bit is 1
+abbrev pub MayHave : Signature → Exit → Type 0
+MayHave signature left = bit_of signature.bits (bit_for left) ≡ true
