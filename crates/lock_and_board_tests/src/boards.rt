@@ -131,6 +131,52 @@ pub(crate) fn done<R: Wait + Abort, B: Letters>(rt: &R, board: &B, pass: &mut B:
     }
 }
 
+// Completes the message of a job and takes the next one, which must be this one.
+fn turns<R: Wait + Abort, B: Letters>(
+    rt: &R,
+    board: &B,
+    pass: &mut B::Pass,
+    job: Job,
+    wanted: u32,
+) -> Job
+    requires board { (B.sight pass.old).board ≡ B.identity board.now }
+    requires job { HasJob (B.sight pass.old).number job (B.sight pass.old).seen.order }
+    ensures pass { IsSame (B.sight pass.old) (B.sight pass.new) }
+    ensures job { HasJob (B.sight pass.new).number result (B.sight pass.new).seen.order }
+{
+    match Board::turn(board, rt, pass, job) {
+        Ok(Taken::Message(next, letter)) => {
+            assert!(rt; letter.0 == wanted);
+            next
+        }
+        Ok(Taken::Empty) | Ok(Taken::Closed) | Ok(Taken::Aborted) => panic!(rt; "no message"),
+        Err((_job, Spent)) => panic!(rt; "spent"),
+    }
+}
+
+// Completes the message of a job: this must be what the take of the next one returns.
+fn turns_to<R: Wait + Abort, B: Letters>(
+    rt: &R,
+    board: &B,
+    pass: &mut B::Pass,
+    job: Job,
+    wanted: Answer,
+)
+    requires board { (B.sight pass.old).board ≡ B.identity board.now }
+    requires job { HasJob (B.sight pass.old).number job (B.sight pass.old).seen.order }
+    ensures { IsSame (B.sight pass.old) (B.sight pass.new) }
+{
+    let found = match Board::turn(board, rt, pass, job) {
+        Ok(Taken::Message(_job, _)) => panic!(rt; "a message"),
+        Ok(Taken::Empty) => Answer::Empty,
+        Ok(Taken::Closed) => Answer::Closed,
+        Ok(Taken::Aborted) => Answer::Aborted,
+        Err((None, Spent)) => Answer::Spent,
+        Err((Some(_job), Spent)) => panic!(rt; "not completed"),
+    };
+    assert_eq!(rt; found, wanted);
+}
+
 pub(crate) fn post<R: Wait, B: Letters>(
     rt: &R,
     board: &B,
@@ -459,6 +505,101 @@ where
     has_closed(rt, &ledger, history.as_slice());
 }
 
+// The ledger of a board of two mailboxes whose passes go from message to message by turns.
+fn ledger_of_turns<R: Wait + Abort, B: Letters>(
+    rt: &R,
+    alloc: B::Heap,
+    more: B::Heap,
+) -> Ledger<Letter, B::Heap>
+where
+    B::Heap: Clone,
+    B::Pass: Drop,
+{
+    let (board, mut zero, mut one) = two::<R, B>(rt, alloc, 1000);
+    let job = posts_two(rt, &board, &mut zero);
+    tells(&board, &mut zero, &mut one);
+    let second = takes(rt, &board, &mut one, 11);
+    let third = turns(rt, &board, &mut one, second, 12);
+    turns_to(rt, &board, &mut one, third, Answer::Empty);
+    turns_to(rt, &board, &mut zero, job, Answer::Closed);
+    finds(rt, &board, &mut one, Answer::Closed);
+    settle_two(rt, more, board, zero, one)
+}
+
+// Each turn completes its message before it takes the next one.
+fn turns_in_order<R: Wait + Abort, B: Letters>(rt: &R, alloc: B::Heap, more: B::Heap)
+where
+    B::Heap: Clone,
+    B::Pass: Drop,
+{
+    let (sender, first, second) = (0, Letter(11), Letter(12));
+    let history = [
+        Event::Post {
+            sender,
+            message: first,
+        },
+        Event::Post {
+            sender,
+            message: second,
+        },
+        Event::Take {
+            sender,
+            message: first,
+        },
+        Event::Done { take: 0 },
+        Event::Take {
+            sender,
+            message: second,
+        },
+        Event::Done { take: 1 },
+    ];
+    let ledger = ledger_of_turns::<R, B>(rt, alloc, more);
+    assert!(rt; ledger.closed);
+    assert!(rt; counts(ledger.histories.as_slice()) == (3, 3, 3));
+    match ledger.histories.get(1) {
+        Some(mailbox) => assert!(rt; is_history(mailbox, history.as_slice())),
+        None => panic!(rt; "no mailbox 1"),
+    }
+}
+
+// With one call, which takes the message, a turn hands the job back; with two it completes the message; with three it
+// finds the close.
+fn turns_while_it_may<R: Wait + Abort, B: Letters + Drop>(rt: &R, alloc: B::Heap)
+where
+    B::Heap: Copy,
+    B::Pass: Drop,
+{
+    let (board, mut zero, _one) = two::<R, B>(rt, alloc, 2);
+    let job = takes(rt, &board, &mut zero, 10);
+    match Board::turn(&board, rt, &mut zero, job) {
+        Err((Some(job), Spent)) => {
+            Board::abort(&board, rt, &mut zero, Some(job), Cause::Spent);
+        }
+        Err((None, Spent)) => panic!(rt; "completed"),
+        Ok(_taken) => panic!(rt; "taken"),
+    }
+    let (board, mut zero, _one) = two::<R, B>(rt, alloc, 3);
+    let job = takes(rt, &board, &mut zero, 10);
+    turns_to(rt, &board, &mut zero, job, Answer::Spent);
+    let (board, mut zero, _one) = two::<R, B>(rt, alloc, 4);
+    let job = takes(rt, &board, &mut zero, 10);
+    turns_to(rt, &board, &mut zero, job, Answer::Closed);
+}
+
+// A turn completes the message of an aborted board, and takes none, though one waits.
+fn turns_after_an_abort<R: Wait + Abort, B: Letters + Drop>(rt: &R, alloc: B::Heap)
+where
+    B::Heap: Clone,
+    B::Pass: Drop,
+{
+    let (board, mut zero, mut one) = two::<R, B>(rt, alloc, 1000);
+    let job = takes(rt, &board, &mut zero, 10);
+    assert_eq!(rt; post(rt, &board, &mut zero, &job, 0, 11), Ok(()));
+    Board::abort(&board, rt, &mut one, None, Cause::NoWorker);
+    turns_to(rt, &board, &mut zero, job, Answer::Aborted);
+    finds(rt, &board, &mut zero, Answer::Aborted);
+}
+
 // All rows of one kind of board.
 fn keeps_the_rows<R: Wait + Abort, B: Letters + Drop>(rt: &R, alloc: B::Heap)
 where
@@ -469,6 +610,9 @@ where
     has_one_call::<R, B>(rt, alloc);
     stops_posts::<R, B>(rt, alloc);
     closes_alone::<R, B>(rt, alloc, alloc);
+    turns_in_order::<R, B>(rt, alloc, alloc);
+    turns_while_it_may::<R, B>(rt, alloc);
+    turns_after_an_abort::<R, B>(rt, alloc);
 }
 
 #[test]

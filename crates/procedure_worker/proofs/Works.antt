@@ -1,6 +1,6 @@
 -- What a worker knows after each call of its board and of its table.
 use Rattle.std.proofs.Common.{◌≡◌, ◌≢◌, ◌⊎◌, inl, inr, ℕ, ◌<◌, ◌∷◌, ◌++◌, [], List, Some, None, Ok, Err}
-use Rattle.std.proofs.Common.{length, slice_get, refl, sym, ap, ◌∙◌, subst, arith, false, MatchOption}
+use Rattle.std.proofs.Common.{length, slice_get, refl, sym, ap, ◌∙◌, subst, arith, false}
 use Rattle.std.specs.Prelude.{◌↔◌, Option, Result, IsSome, IsErrAnd, MatchResult}
 use Rattle.std.specs.Option.{IfNone}
 use Rattle.atomic_table.specs.Seated.{TableId}
@@ -42,6 +42,8 @@ use Rattle.path_sets.specs.declared.edge_limit.EdgeLimit.{EdgeLimit}
 use Rattle.procedure_worker.specs.Works.{begun}
 use Rattle.switchboard.specs.Promises.{GoesOn, MadeNone, Added, WasPosted, WasDone, MadeAbort}
 use Rattle.switchboard.specs.Promises as promises
+use Rattle.switchboard.specs.declared.calls.Taken as answers
+use Rattle.switchboard.specs.declared.calls.Taken.TheVariants as answer
 use Rattle.switchboard.proofs.Jobs.{kept_none, kept_added, job_new, no_done_post}
 use Rattle.procedure_worker.specs.declared.outcome.End.{End}
 use Rattle.procedure_worker.specs.declared.outcome.End.TheVariants as end
@@ -50,9 +52,11 @@ use Rattle.procedure_worker.specs.declared.stop.Reason.TheVariants as reason
 use Rattle.procedure_worker.specs.declared.worker.Worker.{Worker}
 use Rattle.procedure_worker.specs.Own.{messages_taken, posted_in}
 use Rattle.procedure_worker.specs.Stops.{StopReason, WorkerEnd, cause_of, end_of, memory_of, end_at, RefusedFor, FailsFor, TakesOrFails}
-use Rattle.procedure_worker.specs.Works.{Start, IsPassOf, IsFresh, HasStood, HasFailed, Stands, Goes, HasSent, EndsSo, IsReady, IsTaking}
-use Rattle.procedure_worker.specs.Works.{IsDealing, IsSending, IsStopped, HasStopped, Failed, Completes, StopsSo, StoppedFor, IsAtFault}
-use Rattle.procedure_worker.specs.Works.{IsFounded, MayGoOn, HasAnswered, HasDealt, HasTurned, cause_for, took_by}
+use Rattle.procedure_worker.specs.Works.{Start, IsPassOf, IsFresh, HasStood, HasFailed, Stands, Goes, HasSent, HasServed, EndsSo, IsReady}
+use Rattle.procedure_worker.specs.Works.{IsTaking}
+use Rattle.procedure_worker.specs.Works.{IsDealing, IsSending, IsStopped, HasStopped, HasFound, Failed, TurnsOrEnds, StopsSo, StoppedFor}
+use Rattle.procedure_worker.specs.Works.{IsAtFault}
+use Rattle.procedure_worker.specs.Works.{IsFounded, HasAnswered, HasDealt, cause_for, took_by}
 use Rattle.procedure_worker.proofs.Lists.{taken_post, taken_take, taken_done, posted_post, posted_take, posted_done}
 use Rattle.path_sets.proofs.PlaceLemmas.{last_or}
 
@@ -226,33 +230,6 @@ module _ {G : Type 0} (b : Start G) where
           let c = cause_of why in
           subst (λ z. ((l : List Due) × (m : List (ℕ × Due)) × EndsSo b members (end_of z) t x l m) × IsAtFault (end_of z) x) (sym f.0)
           ((took, sent, (stands_abort c f.1, has_failed c s t k.pass made stood f.1)), fault)
-
-    -- The message is completed, and all that is implied was posted: the worker is ready, or was without a call.
-    pub complete_ends : {P : Type 0} (job : ℕ) (r : Option WorkerEnd) (s t : Sight Due (Graphs G)) (w : Worker P G A S) (pass : P)
-        → IsDealing b members job s w → IsQuiet members w.table → Completes FitsIn job r s t
-        → MatchOption r (IsReady b members t (record w { pass = pass }))
-        (λ e. HasStopped b members e t (record w { pass = pass }))
-    complete_ends job None s t w pass d quiet done =
-        let g = d.sent.0 in record {
-          took = d.took;
-          sent = d.posts;
-          served = (
-            (
-              record {
-                stands = stands_done s t w.table d.took d.posts g.stands job done;
-                made = done.made ∙ g.made;
-                whole = g.whole;
-                all = g.all;
-              },
-              d.sent.1,
-            ),
-            quiet,
-          );
-        }
-    complete_ends job (Some e) s t w pass d quiet failed =
-        let g = d.sent.0 in
-        failed_ends s t w.table d.took d.posts g.stands reason.Spent e g.made failed.0
-        (not_at_fault (end.Failed cause.Spent) w.table g.whole) failed.1
 
     -- The worker stops, for its reason.
     pub stopped_ends : {P : Type 0} (job : ℕ) (why : StopReason) (e : WorkerEnd) (s t : Sight Due (Graphs G)) (w : Worker P G A S)
@@ -455,11 +432,84 @@ module _ {G : Type 0} (b : Start G) where
           has = job_of_pass t job still.pass (job_new FitsIn s t job d m);
         }
 
-    module _ {P : Type 0} (d : Due) (job : ℕ) (s : Sight Due (Graphs G)) (w : Worker P G A S) (y : Table G A S)
+    -- A worker that is ready stays so if no event is made.
+    ready_none : {P : Type 0} (s t : Sight Due (Graphs G)) (v w : Worker P G A S) → IsReady b members s v → MadeNone FitsIn s t
+        → w.table ≡ v.table → IsReady b members t w
+    ready_none s t v w ready m table =
+        let g = ready.served.0.0 in
+        let still : HasServed b members t v.table ready.took ready.sent = (
+          (
+            record {
+              stands = stands_none s t v.table ready.took ready.sent g.stands m;
+              made = m.made ∙ g.made;
+              whole = g.whole;
+              all = g.all;
+            },
+            ready.served.0.1,
+          ),
+          ready.served.1,
+        ) in record {
+          took = ready.took;
+          sent = ready.sent;
+          served = subst (λ x. HasServed b members t x ready.took ready.sent) (sym table) still;
+        }
+
+    -- What a take answers is what the worker has found.
+    pub took_found : {P : Type 0} (taken : answers.Taken Due) (s t : Sight Due (Graphs G)) (v w : Worker P G A S) → IsReady b members s v
+        → promises.Took FitsIn (Ok taken) s t → w.table ≡ v.table → HasFound b members taken t w
+    took_found (answer.Message job d) s t v w ready took table = took_taking job d s t v w ready took table
+    took_found answer.Empty s t v w ready took table = ready_none s t v w ready took.0.0 table
+    took_found answer.Closed s t v w ready took table =
+        (ready_none s t v w ready took.0.0 table, took.1, took.0.0.goes.close took.1)
+    took_found answer.Aborted s t v w ready took table = (ready_none s t v w ready took.0.0 table, took.2)
+
+    module _ {P : Type 0} (job : ℕ) (s t : Sight Due (Graphs G)) (w : Worker P G A S) (pass : P) (d : IsDealing b members job s w) where
+      -- The message is completed, and all that is implied was posted.
+      completed_ready : IsQuiet members w.table → WasDone FitsIn job s t → IsReady b members t w
+      completed_ready quiet done =
+          let g = d.sent.0 in record {
+            took = d.took;
+            sent = d.posts;
+            served = (
+              (
+                record {
+                  stands = stands_done s t w.table d.took d.posts g.stands job done;
+                  made = done.made ∙ g.made;
+                  whole = g.whole;
+                  all = g.all;
+                },
+                d.sent.1,
+              ),
+              quiet,
+            );
+          }
+
+      -- No call was left, for the completion or behind it.
+      turn_left : (e : WorkerEnd) → TurnsOrEnds FitsIn job (Err e) s t → HasStopped b members e t (record w { pass = pass })
+      turn_left e left =
+          let g = d.sent.0 in
+          let fault = not_at_fault (end.Failed cause.Spent) w.table g.whole in elim left [
+            | inl first ↦ failed_ends s t w.table d.took d.posts g.stands reason.Spent e g.made first.0 fault first.1
+            | inr then ↦
+                failed_ends then.0 t w.table d.took d.posts (stands_done s then.0 w.table d.took d.posts g.stands job then.1)
+                reason.Spent e (then.1.made ∙ g.made) then.2 fault then.3
+          ]
+
+    -- The worker has turned to what it has found, or was without a call. It had taken no message since `r`.
+    pub turn_dealt : {P : Type 0} (job : ℕ) (a : Result (answers.Taken Due) WorkerEnd) (r s t : Sight Due (Graphs G)) (w : Worker P G A S)
+        (pass : P) → IsDealing b members job s w → IsQuiet members w.table → took_by s ≡ took_by r → TurnsOrEnds FitsIn job a s t
+        → HasDealt b members job a r t (record w { pass = pass })
+    turn_dealt job (Ok next) r s t w pass d quiet same did = (
+      took_found next did.0 t w (record w { pass = pass }) (completed_ready job s did.0 w pass d quiet did.1) did.2 refl,
+      (s, same, did),
+    )
+    turn_dealt job (Err e) r s t w pass d quiet same left = turn_left job s t w pass d e left
+
+    module _ {P : Type 0} (d : Due) (job : ℕ) (s : Sight Due (Graphs G)) (w v : Worker P G A S)
         (k : IsTaking b members job d s w) where
       -- The table was given the message, with this result.
-      given_stands : {T : Type 0} (answer : Result T TableFault) → TableTakes members d answer w.table y
-          → Stands b members s y (k.before ++ d ∷ []) k.posts
+      given_stands : {T : Type 0} (answer : Result T TableFault) → TableTakes members d answer w.table v.table
+          → Stands b members s v.table (k.before ++ d ∷ []) k.posts
       given_stands answer given = record {
         pass = k.stands.pass;
         table = λ p drawn.
@@ -486,7 +536,7 @@ module _ {G : Type 0} (b : Start G) where
       }
 
       -- The table took the message.
-      pub given_dealing : {T : Type 0} (x : T) → TableTakes members d (Ok x) w.table y → IsDealing b members job s (record w { table = y })
+      pub given_dealing : {T : Type 0} (x : T) → TableTakes members d (Ok x) w.table v.table → IsDealing b members job s v
       given_dealing x given = record {
         took = k.before ++ d ∷ [];
         posts = k.posts;
@@ -506,16 +556,16 @@ module _ {G : Type 0} (b : Start G) where
       -- The table failed at the message.
       module _ (e : WorkerEnd) (t : Sight Due (Graphs G)) where
         taking_stops : {T : Type 0} (f : TableFault) (why : Reason) → cause_of why ≡ cause_for f
-            → TableTakes members d {Returned = T} (Err f) w.table y → Failed FitsIn why e s t
-            → HasStopped b members e t (record w { table = y })
+            → TableTakes members d {Returned = T} (Err f) w.table v.table → Failed FitsIn why e s t
+            → HasStopped b members e t v
         taking_stops {T} f why same given failed =
             let stands = given_stands {T = T} (Err f) given in
-            failed_ends s t y (k.before ++ d ∷ []) k.posts stands why e k.made
-            (subst (λ c. HasStood b c s) (sym same) (fault_stood f s s y (k.before ++ d ∷ []) k.posts stands given.fault))
-            (subst (λ c. IsAtFault (end.Failed c) y) (sym same) (at_fault f y given.fault)) failed
+            failed_ends s t v.table (k.before ++ d ∷ []) k.posts stands why e k.made
+            (subst (λ c. HasStood b c s) (sym same) (fault_stood f s s v.table (k.before ++ d ∷ []) k.posts stands given.fault))
+            (subst (λ c. IsAtFault (end.Failed c) v.table) (sym same) (at_fault f v.table given.fault)) failed
 
-        pub given_fault : (T : Type 0) (why : Reason) → TakesOrFails members {T = T} d (Err why) w.table y → Failed FitsIn why e s t
-            → HasStopped b members e t (record w { table = y })
+        pub given_fault : (T : Type 0) (why : Reason) → TakesOrFails members {T = T} d (Err why) w.table v.table → Failed FitsIn why e s t
+            → HasStopped b members e t v
         given_fault T reason.Spent given failed = absurd given
         given_fault T reason.EdgeLimit given failed = taking_stops {T = T} fault.EdgeLimit reason.EdgeLimit refl given failed
         given_fault T (reason.OutOfMemory witness) given failed =
@@ -567,11 +617,6 @@ module _ {G : Type 0} (b : Start G) where
       );
     }
 
--- what has not changed if the worker continues is what was there before
-pub took_still : (r : Option WorkerEnd) (a b c : List Due) → IfNone r (a ≡ b) → b ≡ c → IfNone r (a ≡ c)
-took_still None a b c first then = first ∙ then
-took_still (Some e) a b c first then = tt
-
 module _ {G : Type 0} where
   -- what a pass took, by its own list at a number that stays
   took_on : (s t : Sight Due (Graphs G)) (l : List Due) → t.number ≡ s.number
@@ -584,37 +629,12 @@ module _ {G : Type 0} where
       took_on s t (took_by s) p.0.goes.number
       (taken_post (own s.number s.seen.order) (own s.number t.seen.order) to s.number d job p.0.own)
 
-  -- nor does a completion, if the worker continues behind it
-  pub took_completed : (job : ℕ) (r : Option WorkerEnd) (s t : Sight Due (Graphs G)) → Completes FitsIn job r s t
-      → IfNone r (took_by t ≡ took_by s)
-  took_completed job None s t a =
-      took_on s t (took_by s) a.goes.number
-      (taken_done (own s.number s.seen.order) (own s.number t.seen.order) s.number job a.own)
-  took_completed job (Some e) s t failed = tt
-
-  -- a take takes one
-  took_more : (job : ℕ) (d : Due) (s t u : Sight Due (Graphs G)) → promises.TookOldest FitsIn job d s t → took_by u ≡ took_by t
-      → MayGoOn s u
-  took_more job d s t u m same =
-      inl (
-        d,
-        same ∙ took_on s t (took_by s ++ d ∷ []) m.added.goes.number
-            (taken_take (own s.number s.seen.order) (own s.number t.seen.order) s.number m.sender d m.added.own),
-      )
-
--- A worker has dealt with a message if it is ready or has ended, and if it took none while it continues.
-module _ {G A S P : Type 0} (b : Start G) (members : S → List Triple) where
-  pub dealt : (r : Option WorkerEnd) (s t : Sight Due (Graphs G)) (w : Worker P G A S)
-      → MatchOption r (IsReady b members t w) (λ e. HasStopped b members e t w) → IfNone r (took_by t ≡ took_by s)
-      → HasDealt b members r s t w
-  dealt None s t w ready same = (ready, same)
-  dealt (Some e) s t w stopped same = stopped
-
-  -- the message that it dealt with was one that it took
-  pub turned : (job : ℕ) (d : Due) (r : Option WorkerEnd) (s t u : Sight Due (Graphs G)) (w : Worker P G A S)
-      → promises.TookOldest FitsIn job d s t → HasDealt b members r t u w → HasTurned b members r s u w
-  turned job d None s t u w took has = (has.0, took_more job d s t u took has.1)
-  turned job d (Some e) s t u w took has = has
+  -- no call was left: the worker has failed for that, before the message was completed or after it
+  pub left_ends : (job : ℕ) (back : Option ℕ) (e : WorkerEnd) (s u t : Sight Due (Graphs G)) → promises.LeftTurn FitsIn job back s u
+      → Failed FitsIn reason.Spent e u t → TurnsOrEnds FitsIn job (Err e) s t
+  left_ends job (Some back) e s u t left failed = inl (left.1.0, subst (λ z. Failed FitsIn reason.Spent e z t) left.1.1 failed)
+  left_ends job None e s u t left failed =
+      inr (left.0, left.1, left.2.0, subst (λ z. Failed FitsIn reason.Spent e z t) left.2.1 failed)
 
 -- a pass that has seen the opening alone
 pub new_fresh : {G : Type 0} (graphs : Graphs G) (board : TableId) (budget boxes number : ℕ) (limit : EdgeLimit)

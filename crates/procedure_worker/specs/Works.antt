@@ -1,6 +1,6 @@
 -- What a worker knows while it works, and what it returns.
 use Rattle.std.specs.Prelude.{◌≡◌, ◌≢◌, ◌⊎◌, ◌↔◌, ◌<◌, ◌++◌, ◌∷◌, ℕ, Bool, true, false, IsSome, List, [], Option}
-use Rattle.std.specs.Prelude.{Some, None, Result, Err, MatchResult, length, map}
+use Rattle.std.specs.Prelude.{Some, None, Result, Ok, Err, MatchResult, length, map}
 use Rattle.std.specs.Bool.{OnFalse}
 use Rattle.atomic_table.specs.Seated.{TableId}
 use Rattle.post_ledger.specs.Orders.{own, HasJob, IsClosed}
@@ -30,8 +30,10 @@ use Rattle.summaries.specs.Together.{opening, IsTableOf}
 use Rattle.switchboard.specs.declared.calls.Abort.{Abort}
 use Rattle.switchboard.specs.declared.calls.Cause.{Cause}
 use Rattle.switchboard.specs.declared.calls.Cause.TheVariants as cause
-use Rattle.switchboard.specs.Sights.{Sight, AllTaken, IsSound}
-use Rattle.switchboard.specs.Promises.{Looked, WasDone, MadeAbort}
+use Rattle.switchboard.specs.Sights.{Sight, IsSound}
+use Rattle.switchboard.specs.declared.calls.Taken.{Taken}
+use Rattle.switchboard.specs.declared.calls.Taken.TheVariants as answer
+use Rattle.switchboard.specs.Promises.{WasDone, Took, DidTurn, MadeAbort}
 use Rattle.procedure_worker.specs.declared.desk.Context.{Context}
 use Rattle.procedure_worker.specs.declared.desk.Desk.{Desk}
 use Rattle.procedure_worker.specs.declared.outcome.End.{End}
@@ -83,6 +85,12 @@ module _ {M W : Type 0} (fits : W → ℕ → M → Type 0) where
   Completes job None s t = WasDone fits job s t
   Completes job (Some e) s t = (s.calls ≡ 0) × Failed reason.Spent e s t
 
+  -- the message is completed, and then a take answers this; or no call was left for one of the two, and the worker ends
+  abbrev pub TurnsOrEnds : ℕ → Result (Taken M) WorkerEnd → Sight M W → Sight M W → Type 0
+  TurnsOrEnds job (Ok taken) s t = DidTurn fits job taken s t
+  TurnsOrEnds job (Err e) s t = ((s.calls ≡ 0) × Failed reason.Spent e s t) ⊎
+      ((between : Sight M W) × WasDone fits job s between × (between.calls ≡ 0) × Failed reason.Spent e between t)
+
   -- the worker ends for this reason: the message is completed if the board was aborted, unless no call was left
   abbrev pub StopsSo : ℕ → StopReason → WorkerEnd → Sight M W → Sight M W → Type 0
   StopsSo job None e s t = ((e ≡ (Err None)) × WasDone fits job s t) ⊎
@@ -100,21 +108,24 @@ pub record IsFounded {GraphAlloc Alloc S : Type 0} (ending : End) (out_of_memory
   pub memory : (ending ≡ end.Failed cause.Memory) ↔ IsSome out_of_memory
   pub fault : IsAtFault ending table
 
--- The pass has looked, and found every message of its mailbox taken, on a board that it sees neither closed nor
--- aborted.
-pub record FoundNone {GraphAlloc : Type 0} (sight later : Sight Due (Graphs GraphAlloc)) : Type 0 where
-  pub looked : Looked FitsIn sight later
-  pub unclosed : later.knows ≡ false
-  pub alive : later.seen.aborted ≡ None
-  pub all : AllTaken sight.number later.seen.order
-
 -- the messages that a pass took, in order
 abbrev pub took_by : {GraphAlloc : Type 0} → Sight Due (Graphs GraphAlloc) → List Due
 took_by s = messages_taken (own s.number s.seen.order)
 
--- A worker continues only if it took one more message, or found none yet.
-abbrev pub MayGoOn : {GraphAlloc : Type 0} → Sight Due (Graphs GraphAlloc) → Sight Due (Graphs GraphAlloc) → Type 0
-MayGoOn s t = ((message : Due) × (took_by t ≡ took_by s ++ message ∷ [])) ⊎ FoundNone s t
+-- The pass takes no message until that of the job is completed, and then a take answers this.
+abbrev pub PostsThenTurns : {GraphAlloc : Type 0} → ℕ → Taken Due → Sight Due (Graphs GraphAlloc) → Sight Due (Graphs GraphAlloc)
+    → Type 0
+PostsThenTurns {GraphAlloc} job next s t =
+    (posted : Sight Due (Graphs GraphAlloc)) × (took_by posted ≡ took_by s) × DidTurn FitsIn job next posted t
+
+-- A worker continues only if it has completed the message that its last take answered, or if that found none and it
+-- took again: never behind the close or an abort. `next` is what the take answers that comes then.
+abbrev pub MayGoOn : {GraphAlloc : Type 0} → Taken Due → Taken Due → Sight Due (Graphs GraphAlloc) → Sight Due (Graphs GraphAlloc)
+    → Type 0
+MayGoOn (answer.Message job message) next s t = PostsThenTurns job next s t
+MayGoOn answer.Empty next s t = Took FitsIn (Ok next) s t
+MayGoOn answer.Closed next s t = ⊥
+MayGoOn answer.Aborted next s t = ⊥
 
 -- The order of a board begins with the starter's message, by which procedure 0 is entered with every value 0.
 abbrev pub IsOpened : ℕ → List (Entry Due) → Type 0
@@ -208,7 +219,7 @@ module _ {GraphAlloc : Type 0} (b : Start GraphAlloc) where
         × ((took : List Due) × (sent : List (ℕ × Due)) × EndsSo o.end s t took sent) × IsFounded o.end o.out_of_memory t
 
     module _ {P : Type 0} where
-      -- The worker between two takes.
+      -- The worker without a message: it has posted all that is implied by those that it took.
       pub record IsReady (sight : Sight Due (Graphs GraphAlloc)) (worker : Worker P GraphAlloc Alloc S) : Type 0 where
         pub took : List Due
         pub sent : List (ℕ × Due)
@@ -226,6 +237,14 @@ module _ {GraphAlloc : Type 0} (b : Start GraphAlloc) where
         pub sent : mails_of posts ≡ answers_of worker.table
         pub fits : FitsIn sight.seen.world b.number message
         pub has : HasJob b.number job sight.seen.order
+
+      -- What a worker has found if its last take answers this: a message, which its table is to take next; none; the
+      -- close, which it knows; or an abort.
+      abbrev pub HasFound : Taken Due → Sight Due (Graphs GraphAlloc) → Worker P GraphAlloc Alloc S → Type 0
+      HasFound (answer.Message job message) s w = IsTaking job message s w
+      HasFound answer.Empty s w = IsReady s w
+      HasFound answer.Closed s w = IsReady s w × (s.knows ≡ true) × IsClosed s.seen.order
+      HasFound answer.Aborted s w = IsReady s w × IsSome s.seen.aborted
 
       -- The worker has a job, and has posted all that its table answered.
       pub record IsDealing (job : ℕ) (sight : Sight Due (Graphs GraphAlloc)) (worker : Worker P GraphAlloc Alloc S) : Type 0 where
@@ -275,14 +294,15 @@ module _ {GraphAlloc : Type 0} (b : Start GraphAlloc) where
         pub none : OnFalse more (IsQuiet members worker.table)
         pub takes : took_by later ≡ took_by sight
 
-      -- The message is completed, with all posted that it implies, and no other was taken; or the worker has ended.
-      abbrev pub HasDealt : Option WorkerEnd → Sight Due (Graphs GraphAlloc) → Sight Due (Graphs GraphAlloc) → Worker P GraphAlloc Alloc S
-          → Type 0
-      HasDealt None s t w = IsReady t w × (took_by t ≡ took_by s)
-      HasDealt (Some e) s t w = HasStopped e t w
+      -- The message of the job is completed, with all posted that it implies, and the worker has found what the take
+      -- behind it answers; or it has ended.
+      abbrev pub HasDealt : ℕ → Result (Taken Due) WorkerEnd → Sight Due (Graphs GraphAlloc) → Sight Due (Graphs GraphAlloc)
+          → Worker P GraphAlloc Alloc S → Type 0
+      HasDealt job answer s t w =
+          MatchResult answer (λ next. HasFound next t w × PostsThenTurns job next s t) (λ e. HasStopped e t w)
 
-      -- The worker has taken a message and dealt with it, or has found none yet; or it has ended.
-      abbrev pub HasTurned : Option WorkerEnd → Sight Due (Graphs GraphAlloc) → Sight Due (Graphs GraphAlloc) → Worker P GraphAlloc Alloc S
-          → Type 0
-      HasTurned None s t w = IsReady t w × MayGoOn s t
-      HasTurned (Some e) s t w = HasStopped e t w
+      -- From what its last take answered, the worker has come to what the next one answers, if it may; or it has ended.
+      abbrev pub HasTurned : Taken Due → Result (Taken Due) WorkerEnd → Sight Due (Graphs GraphAlloc)
+          → Sight Due (Graphs GraphAlloc) → Worker P GraphAlloc Alloc S → Type 0
+      HasTurned taken answer s t w =
+          MatchResult answer (λ next. HasFound next t w × MayGoOn taken next s t) (λ e. HasStopped e t w)

@@ -1,24 +1,34 @@
 //! How a worker waits while its mailbox is empty.
+ghost use Rattle.std.specs.Prelude.{◌≡◌};
+
+use crate::desk::Desk;
+use flow_graph::Graphs;
+use std::alloc::Allocator;
+use std::hint;
 use std::sync::Wait;
-use std::sync::atomic::AtomicU64;
-use std::thread;
-use std::time::Duration;
+use summaries::Due;
+use switchboard::Board;
+use ticket_lock::sleep;
 
-/// How many waits in a row only let other threads run.
-const YIELDS: u32 = 32;
+/// How often a worker looks for a visit of its mailbox before it sleeps.
+const LOOKS: u32 = 100;
 
-/// The longest sleep, in microseconds, as a power of two.
-const LONGEST: u32 = 11;
-
-/// Waits for a moment, the first time or after a number of waits in a row: at first it lets other threads run, and then
+/// Waits for a moment, the first time or after a number of waits in a row, or until more than this many visits of the
+/// pass's mailbox have begun. It looks for one without the mailbox's lock, so that it holds up nobody who posts. Then
 /// it sleeps, twice as long each time, so that a worker without work takes no processor from those that have some.
-pub(crate) fn pause<R: Wait>(rt: &R, waits: u32) {
-    if waits < YIELDS {
-        thread::yield_now();
-        return;
+pub(crate) fn pause<R: Wait, G: Allocator, H: Allocator, B: Board<Due, Graphs<G>, H>, K>(
+    desk: &Desk<'_, '_, R, G, B, K>,
+    pass: &B::Pass,
+    visits: u64,
+    waits: u32,
+)
+    requires { (B.sight pass.now).board ≡ B.identity desk.now.context.now.board.now }
+{
+    for _ in 0..LOOKS {
+        if desk.context.board.visits(pass) > visits {
+            return;
+        }
+        hint::spin_loop();
     }
-    let power = (waits - YIELDS).min(LONGEST);
-    // Nobody wakes it before its time.
-    let word = AtomicU64::new(0);
-    word.park_timeout(rt, 0, Duration::from_micros(1u64 << power));
+    sleep(desk.context.rt, waits);
 }

@@ -1,11 +1,13 @@
-//! What a worker does between two takes.
+//! What a worker does with what its last take answered.
 ghost use Rattle.std.specs.Prelude.{◌≡◌, OnOk, MatchResult};
 ghost use Rattle.std.specs.Option.{ForSome};
 ghost use Rattle.post_ledger.specs.Orders.{HasJob};
 ghost use Rattle.summaries.specs.Fitting.{FitsIn};
+ghost use Rattle.switchboard.specs.declared.calls.Taken.TheVariants as answer;
 ghost use Rattle.procedure_worker.specs.Works.{start_of, IsReady, IsTaking, IsDealing, IsSending};
-ghost use Rattle.procedure_worker.specs.Works.{IsStopped, Failed, Completes, StopsSo, took_by};
-ghost use Rattle.procedure_worker.specs.Works.{DealsOrStops, HasAnswered, HasDealt, HasTurned};
+ghost use Rattle.procedure_worker.specs.Works.{IsStopped, HasFound, Failed, Completes, TurnsOrEnds};
+ghost use Rattle.procedure_worker.specs.Works.{StopsSo, took_by, DealsOrStops, HasAnswered, HasDealt};
+ghost use Rattle.procedure_worker.specs.Works.{HasTurned};
 
 use crate::desk::Desk;
 use crate::gate::Gate;
@@ -28,7 +30,7 @@ pub(crate) struct Worker<'g, P, G: Allocator, A: Allocator, S: PathSet<A>> {
     /// How many messages its pass took, and how many it posted, for the gate.
     pub(crate) taken: u64,
     pub(crate) posted: u64,
-    /// How many takes in a row found its mailbox empty.
+    /// How many looks in a row found its mailbox empty.
     pub(crate) empty: u32,
 }
 
@@ -63,6 +65,23 @@ fn complete<R: Wait, G: Allocator, H: Allocator, B: Board<Due, Graphs<G>, H>, K>
     match desk.context.board.done(desk.context.rt, pass, job) {
         Ok(()) => None,
         Err((job, Spent)) => Some(fail(desk, pass, Some(job), Reason::Spent)),
+    }
+}
+
+/// Completes the message of the job, and takes the next one. Returns what the take answers, or how the worker ended.
+#[inline(always)]
+fn turn<R: Wait, G: Allocator, H: Allocator, B: Board<Due, Graphs<G>, H>, K>(
+    desk: &Desk<'_, '_, R, G, B, K>,
+    pass: &mut B::Pass,
+    job: Job,
+) -> Result<Taken<Due>, Finish>
+    requires board { (B.sight pass.old).board ≡ B.identity desk.now.context.now.board.now }
+    requires job { HasJob (B.sight pass.old).number job (B.sight pass.old).seen.order }
+    ensures { TurnsOrEnds FitsIn job result (B.sight pass.old) (B.sight pass.new) }
+{
+    match desk.context.board.turn(desk.context.rt, pass, job) {
+        Ok(next) => Ok(next),
+        Err((job, Spent)) => Err(fail(desk, pass, job, Reason::Spent)),
     }
 }
 
@@ -134,71 +153,98 @@ impl<'g, P, G: Allocator, A: Allocator + Copy, S: PathSet<A>> Worker<'g, P, G, A
         }
     }
 
-    /// Posts all that the table owes, and completes the message. Returns how the worker ended, if it did.
+    /// Posts all that the table owes, completes the message, and takes the next one. Returns what the take answers,
+    /// or how the worker ended.
+    #[inline(always)]
     fn post_all_owed<R: Wait, H: Allocator, B: Board<Due, Graphs<G>, H, Pass = P>, K: Gate>(
         &mut self,
         desk: &Desk<'_, '_, R, G, B, K>,
         job: Job,
-    ) -> Option<Finish>
+    ) -> Result<Taken<Due>, Finish>
         requires { IsDealing (start_of B.identity desk.now) S.members job
             (B.sight self.old.pass) self.old }
-        ensures { HasDealt (start_of B.identity desk.now) S.members result
+        ensures { HasDealt (start_of B.identity desk.now) S.members job result
             (B.sight self.old.pass) (B.sight self.new.pass) self.new }
     {
         for _ in desk.context.rt.forever() {
             match self.answer(desk, &job) {
                 Ok(true) => {}
-                Ok(false) => return complete(desk, &mut self.pass, job),
-                Err(why) => return Some(give_up(desk, &mut self.pass, job, why)),
+                Ok(false) => return turn(desk, &mut self.pass, job),
+                Err(why) => return Err(give_up(desk, &mut self.pass, job, why)),
             }
         }
         unreachable!()
     }
 
-    /// The table takes a message, and all that it owes then is posted. Returns how the worker ended, if it did.
+    /// The table takes a message, and all that it owes then is posted. Returns what the take of the next message
+    /// answers, or how the worker ended.
+    #[inline(always)]
     fn serve<R: Wait, H: Allocator, B: Board<Due, Graphs<G>, H, Pass = P>, K: Gate>(
         &mut self,
         desk: &Desk<'_, '_, R, G, B, K>,
         job: Job,
         due: Due,
-    ) -> Option<Finish>
+    ) -> Result<Taken<Due>, Finish>
         requires { IsTaking (start_of B.identity desk.now) S.members job due
             (B.sight self.old.pass) self.old }
-        ensures { HasDealt (start_of B.identity desk.now) S.members result
+        ensures { HasDealt (start_of B.identity desk.now) S.members job result
             (B.sight self.old.pass) (B.sight self.new.pass) self.new }
     {
+        self.empty = 0;
+        self.taken = self.taken.wrapping_add(1);
+        desk.context.gate.taken(desk.number, self.taken);
         match deliver(&mut self.table, due) {
             Ok(()) => self.post_all_owed(desk, job),
-            Err(why) => Some(fail(desk, &mut self.pass, Some(job), why)),
+            Err(why) => Err(fail(desk, &mut self.pass, Some(job), why)),
         }
     }
 
-    /// Takes a message, if there is one, and works on it; if there is none, waits for a moment. Returns how the
-    /// worker ended, if it did: it continues only if it took a message, or saw neither the close nor an abort.
+    /// Takes a message, if there is one; if there is none, waits for a moment. Returns what the take answers, or how
+    /// the worker ended.
+    #[inline(never)]
+    fn look<R: Wait, H: Allocator, B: Board<Due, Graphs<G>, H, Pass = P>, K: Gate>(
+        &mut self,
+        desk: &Desk<'_, '_, R, G, B, K>,
+    ) -> Result<Taken<Due>, Finish>
+        requires { IsReady (start_of B.identity desk.now) S.members
+            (B.sight self.old.pass) self.old }
+        ensures { HasTurned (start_of B.identity desk.now) S.members answer.Empty result
+            (B.sight self.old.pass) (B.sight self.new.pass) self.new }
+    {
+        // Read before the take, so that `pause` sees a visit that the take came too early for.
+        let visits = desk.context.board.visits(&self.pass);
+        match desk.context.board.take(desk.context.rt, &mut self.pass) {
+            Ok(Taken::Empty) => {
+                // One of the visits since then was its own.
+                pause(desk, &self.pass, visits.saturating_add(1), self.empty);
+                self.empty = self.empty.saturating_add(1);
+                Ok(Taken::Empty)
+            }
+            Ok(taken) => Ok(taken),
+            Err(Spent) => Err(fail(desk, &mut self.pass, None, Reason::Spent)),
+        }
+    }
+
+    /// Goes on from what the last take answered: works on the message, looks for one if there was none, or ends.
+    /// Returns what the take answers that comes next, or how the worker ended: it continues only if it has completed
+    /// the message that it was given, or was given none and saw neither the close nor an abort.
+    #[inline(always)]
     pub(crate) fn step<R: Wait, H: Allocator, B: Board<Due, Graphs<G>, H, Pass = P>, K: Gate>(
         &mut self,
         desk: &Desk<'_, '_, R, G, B, K>,
-    ) -> Option<Finish>
-        requires { IsReady (start_of B.identity desk.now) S.members
+        taken: Taken<Due>,
+    ) -> Result<Taken<Due>, Finish>
+        requires { HasFound (start_of B.identity desk.now) S.members taken
             (B.sight self.old.pass) self.old }
-        ensures { HasTurned (start_of B.identity desk.now) S.members result
+        ensures { HasTurned (start_of B.identity desk.now) S.members taken result
             (B.sight self.old.pass) (B.sight self.new.pass) self.new }
     {
-        match desk.context.board.take(desk.context.rt, &mut self.pass) {
-            Ok(Taken::Message(job, due)) => {
-                self.empty = 0;
-                self.taken = self.taken.wrapping_add(1);
-                desk.context.gate.taken(desk.number, self.taken);
-                self.serve(desk, job, due)
-            }
-            Ok(Taken::Empty) => {
-                pause(desk.context.rt, self.empty);
-                self.empty = self.empty.saturating_add(1);
-                None
-            }
-            Ok(Taken::Closed) => Some(Ok(())),
-            Ok(Taken::Aborted) => Some(Err(None)),
-            Err(Spent) => Some(fail(desk, &mut self.pass, None, Reason::Spent)),
+        match taken {
+            Taken::Message(job, due) => self.serve(desk, job, due),
+            // At once even if a turn found none, since only a look knows the visits before it.
+            Taken::Empty => self.look(desk),
+            Taken::Closed => Err(Ok(())),
+            Taken::Aborted => Err(Err(None)),
         }
     }
 }

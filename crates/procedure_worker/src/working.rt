@@ -15,14 +15,14 @@ use path_sets::PathSet;
 use std::alloc::Allocator;
 use std::sync::Wait;
 use summaries::{Due, Table};
-use switchboard::Board;
+use switchboard::{Board, Taken};
 
-/// Works for a procedure: takes one message of its mailbox, posts all that its table then owes, completes it, and
-/// begins again, until the board is closed, or aborted by another pass, or by this one for a cause of its own. It fails
+/// Works for a procedure: takes one message of its mailbox, posts all that its table then owes, completes it and takes
+/// the next, until the board is closed, or aborted by another pass, or by this one for a cause of its own. It fails
 /// for lack of memory only if memory was refused to its table or to a post, which its outcome shows; if its table has
-/// failed, it fails for the table's fault. Between two takes that find the mailbox empty it lets other threads run, and
-/// sleeps if that continues. The pass must be that of the procedure, as the board gave it, and the board must be one of
-/// the graphs of the context that the starter's message opened. The table is in memory of `alloc`.
+/// failed, it fails for the table's fault. While the mailbox is empty it looks for visits of it, and sleeps if there is
+/// none. The pass must be that of the procedure, as the board gave it, and the board must be one of the graphs of the
+/// context that the starter's message opened. The table is in memory of `alloc`.
 pub fn work<'c, 'g, R, G, H, A, B, S, K>(
     context: &'c Context<'c, 'g, R, G, B, K>,
     alloc: A,
@@ -54,21 +54,26 @@ where
         posted: 0,
         empty: 0,
     };
+    // It begins as behind a take that found none.
+    let mut taken = Taken::Empty;
     for _ in context.rt.forever() {
-        if let Some(finish) = worker.step(&desk) {
-            let Worker {
-                pass,
-                table,
-                taken: _,
-                posted: _,
-                empty: _,
-            } = worker;
-            let outcome = Outcome {
-                table: Some(table),
-                end: end_of(finish),
-                out_of_memory: memory_of(finish),
-            };
-            return (pass, outcome);
+        match worker.step(&desk, taken) {
+            Ok(next) => taken = next,
+            Err(finish) => {
+                let Worker {
+                    pass,
+                    table,
+                    taken: _,
+                    posted: _,
+                    empty: _,
+                } = worker;
+                let outcome = Outcome {
+                    table: Some(table),
+                    end: end_of(finish),
+                    out_of_memory: memory_of(finish),
+                };
+                return (pass, outcome);
+            }
         }
     }
     unreachable!()

@@ -215,6 +215,34 @@ module _ {M W : Type 0} (fits : W → ℕ → M → Type 0) where
           looked_is id' u.0.seen same some_of l list,
         )
 
+    -- a seat of the pass recorded an event of the pass's own
+    module _ (q : ℕ) (x : List (Event M)) (v o : SeatView M W) (board : v.boards ≡ m.0.boards) (later : Later w boxes m.0.seen v.seen)
+        (e : Event M) (maker : maker_of (entry_of q v.under e) ≡ number) (rec : Recorded fits q own_part e x v o) where
+      abbrev made_entry : Entry M
+      made_entry = entry_of q v.under e
+
+      pub order_after : o.seen.order ≡ rec.front ++ made_entry ∷ []
+      order_after = ap (λ (z : SeatView M W). z.seen.order) rec.after
+
+      pub own_after : own number o.seen.order ≡ own number m.0.seen.order ++ made_entry ∷ []
+      own_after = ap (own number) order_after
+          ∙ (own-append number rec.front (made_entry ∷ []) ∙ (λ i. rec.own i ++ own_here number made_entry [] maker i))
+
+      pub later_after : Later w boxes m.0.seen o.seen
+      later_after = step_later v o.seen board later rec.news
+
+      abbrev pub added_after : (id' : TableId) → id' ≡ id → (left ≡ 0 → ⊥)
+          → Added fits made_entry sight (box_sight id' number (left - 1) made w boxes o.seen)
+      added_after id' same some_of = record {
+        goes = goes id' (left - 1) made o.seen same later_after (seen_on w boxes made m.0.seen o.seen p.seen later_after).known;
+        made = refl;
+        calls = omega (arith, some_of);
+        front = rec.front;
+        last = order_after;
+        found = StartsWith-trans rec.front v.seen.order m.0.seen.order rec.begins later.begins;
+        own = own_after;
+      }
+
     module _ (q : ℕ) (x y : List (Event M)) (b in_it v out : Seat M W) (visit : Visit q x y b in_it v out)
         (idle : (k : ℕ) → k < boxes → IsIdleHand left (hand_at k b.0)) (b_out : b.1 ≡ m.1) (some_of : left ≡ 0 → ⊥)
         (board : v.0.boards ≡ m.0.boards) (lanes : v.0.lanes ≡ m.0.lanes) (told : v.0.told ≡ m.0.told) (budget : left ≤ v.0.budget + 1)
@@ -244,29 +272,9 @@ module _ {M W : Type 0} (fits : W → ℕ → M → Type 0) where
         pub recorded_is : Recorded fits q own_part e x v.0 out.0
         recorded_is = (visit_tells q x y b in_it v out visit).1 own_part e (lanes ∙ p.lanes) grown
 
-        abbrev entry : Entry M
-        entry = entry_of q v.0.under e
-
-        pub grown_order : out.0.seen.order ≡ recorded_is.front ++ entry ∷ []
-        grown_order = ap (λ (z : SeatView M W). z.seen.order) recorded_is.after
-
-        pub grown_own : own number out.0.seen.order ≡ own number m.0.seen.order ++ entry ∷ []
-        grown_own = ap (own number) grown_order
-            ∙ (own-append number recorded_is.front (entry ∷ []) ∙ (λ i. recorded_is.own i ++ own_here number entry [] maker i))
-
-        pub later_out : Later w boxes m.0.seen out.0.seen
-        later_out = step_later v.0 out.0.seen board later recorded_is.news
-
-        abbrev pub added_is : (id' : TableId) → id' ≡ id → Added fits entry sight (box_sight id' number (left - 1) made w boxes out.0.seen)
-        added_is id' same = record {
-          goes = goes id' (left - 1) made out.0.seen same later_out (seen_on w boxes made m.0.seen out.0.seen p.seen later_out).known;
-          made = refl;
-          calls = omega (arith, some_of);
-          front = recorded_is.front;
-          last = grown_order;
-          found = StartsWith-trans recorded_is.front v.0.seen.order m.0.seen.order recorded_is.begins later.begins;
-          own = grown_own;
-        }
+        abbrev pub added_is : (id' : TableId) → id' ≡ id
+            → Added fits (entry_of q v.0.under e) sight (box_sight id' number (left - 1) made w boxes out.0.seen)
+        added_is id' same = added_after q x v.0 out.0 board later e maker recorded_is id' same some_of
 
         pub record_on : (id' : TableId) (u : Seat M W) → id' ≡ id → u.0.boards ≡ out.0.boards → u.0.hands ≡ out.0.hands
             → u.0.lanes ≡ out.0.lanes → u.0.seen ≡ out.0.seen → u.0.told ≡ out.0.told → u.0.budget ≡ out.0.budget → u.0.owes ≡ 0
@@ -274,12 +282,13 @@ module _ {M W : Type 0} (fits : W → ℕ → M → Type 0) where
             → IsBoxPass fits id' number (left - 1) made w boxes u
         record_on id' u same board' hands lanes' seen told' budget' owes slots =
             let is = recorded_is.after in
-            let l : Later w boxes m.0.seen u.0.seen = subst (λ z. Later w boxes m.0.seen z) (sym seen) later_out in
+            let l : Later w boxes m.0.seen u.0.seen =
+            subst (λ z. Later w boxes m.0.seen z) (sym seen) (later_after q x v.0 out.0 board later e maker recorded_is) in
             pass_on id' (left - 1) made u same (board' ∙ (ap (λ (z : SeatView M W). z.boards) is ∙ board))
             (lanes'
             ∙ (ap (λ (z : SeatView M W). z.lanes) is
             ∙ ap (λ l. record { number = number; events = l; made = made } ∷ [])
-            (sym (ap (λ (z : Seen M). own number z.order) seen ∙ grown_own))))
+            (sym (ap (λ (z : Seen M). own number z.order) seen ∙ own_after q x v.0 out.0 board later e maker recorded_is))))
             (slots ∙ (visit_out q x y b in_it v out visit ∙ (b_out ∙ p.outside)))
             (told' ∙ (ap (λ (z : SeatView M W). z.told) is ∙ (told ∙ p.told))) owes
             (omega (arith, budget', ap (λ (z : SeatView M W). z.budget) is))

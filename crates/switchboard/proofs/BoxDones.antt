@@ -1,5 +1,5 @@
 -- What a completion and an abort of the board with a lock for each mailbox promise.
-use Rattle.std.proofs.Common.{◌≡◌, inr, ℕ, ◌+◌, ◌-◌, ◌<◌, ◌≤◌, Bool, true, false, List, [], ◌∷◌, ◌++◌, map, length, Contains, Some}
+use Rattle.std.proofs.Common.{◌≡◌, inl, inr, ℕ, ◌+◌, ◌-◌, ◌<◌, ◌≤◌, Bool, true, false, List, [], ◌∷◌, ◌++◌, map, length, Contains, Some}
 use Rattle.std.proofs.Common.{refl, sym, ap, ◌∙◌, subst, arith}
 use Rattle.std.specs.Prelude.{IsSome, is_some}
 use Rattle.atomic_table.specs.Table.{rest}
@@ -19,7 +19,7 @@ use Rattle.switchboard.specs.Sights.{Sight}
 use Rattle.switchboard.specs.Promises.{WasDone, Added, MadeAbort}
 use Rattle.switchboard.specs.Proved.Entries.{job_stays}
 use Rattle.switchboard.specs.Knowing.{hand_at, counted_down, made_abort}
-use Rattle.switchboard.specs.PerBox.{SeatView, LeavesOneEvent, TellsOrder, IsInside, Raised, Seat}
+use Rattle.switchboard.specs.PerBox.{SeatView, LeavesEvents, TellsOrder, IsInside, Raised, Seat}
 use Rattle.switchboard.specs.BoxPasses.{IsIdleHand, box_sight, IsBoxPass}
 use Rattle.switchboard.proofs.BoxCalls.{Later, Visit, own_part, first_later, step_later, own_same, goes, pass_on, recorded_is, added_is}
 use Rattle.switchboard.proofs.BoxCalls.{record_on}
@@ -58,12 +58,12 @@ module _ {M W : Type 0} (fits : W → ℕ → M → Type 0) (id : TableId) (numb
       lanes : v.0.lanes ≡ m.0.lanes
       lanes = ap (λ (z : SeatView M W). z.lanes) inside.after
 
-      done_asks : (z : List (Event M)) → EndsIn (hand_at number v.0).seen z → LeavesOneEvent fits number (passes z y) v.0
+      done_asks : (z : List (Event M)) → EndsIn (hand_at number v.0).seen z → LeavesEvents fits number (passes z y) v.0
       done_asks z ends =
-          subst (λ k. LeavesOneEvent fits number (passes k y) v.0) (EndsIn-same (hand_at number v.0).seen x z inside.found ends)
-          (inr (own_part fits id number left made w boxes m p, Done take, lanes ∙ p.lanes, list, grown, (refl, may_complete)))
+          subst (λ k. LeavesEvents fits number (passes k y) v.0) (EndsIn-same (hand_at number v.0).seen x z inside.found ends)
+          (inr (inl (own_part fits id number left made w boxes m p, Done take, lanes ∙ p.lanes, list, grown, (refl, may_complete))))
 
-      pub done_leaves : lock.MayPass (hand_at number) (LeavesOneEvent fits number) number (v.0, (k, Some y) ∷ rest v.1)
+      pub done_leaves : lock.MayPass (hand_at number) (LeavesEvents fits number) number (v.0, (k, Some y) ∷ rest v.1)
       done_leaves = may_leave fits number x m v inside k slot y done_asks
 
       module _ (out : Seat M W)

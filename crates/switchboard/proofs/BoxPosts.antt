@@ -22,7 +22,7 @@ use Rattle.switchboard.specs.Sights.{Sight}
 use Rattle.switchboard.specs.Promises.{Looked, Added, WasPosted, WasRefused}
 use Rattle.switchboard.specs.Proved.Entries.{job_stays}
 use Rattle.switchboard.specs.Knowing.{fresh_hand, hand_at, with_seen, counted_up}
-use Rattle.switchboard.specs.PerBox.{SeatView, LeavesOneEvent, TellsOrder, IsInside, Seat}
+use Rattle.switchboard.specs.PerBox.{SeatView, LeavesEvents, TellsOrder, IsInside, Seat}
 use Rattle.switchboard.specs.BoxPasses.{box_sight, IsBoxPass}
 use Rattle.switchboard.specs.BoxAnswers.{SawMore, PutIn, after_post, LiesAfter}
 use Rattle.switchboard.proofs.BoxCalls.{Later, Visit, own_part, first_later, step_later, own_same, stays_on, recorded_is, added_is}
@@ -89,10 +89,10 @@ module _ {M W : Type 0} (fits : W → ℕ → M → Type 0) (id : TableId) (numb
               let was : HasJob number job m.0.seen.order = subst (λ (z : Sight M W). HasJob z.number job z.seen.order) (sym see) has in
               subst (λ k. HasJob number k v.0.seen.order) (sym under) (job_stays number job m.0.seen.order v.0.seen.order (sym list) was)
 
-          pub made_asks : LeavesOneEvent fits to (passes x y) v.0
+          pub made_asks : LeavesEvents fits to (passes x y) v.0
           made_asks =
               let world : s.seen.world ≡ p.base.world.value = sym (ap (λ (z : Sight M W). z.seen.world) see) ∙ sym p.world in
-              inr (
+              inr (inl (
                 own_part fits id number left made w boxes m p,
                 Post number message,
                 lanes ∙ p.lanes,
@@ -104,7 +104,7 @@ module _ {M W : Type 0} (fits : W → ℕ → M → Type 0) (id : TableId) (numb
                   (p.base, ap (λ l. get_elem? l 0) board ∙ p.is_base, subst (λ z. fits z to message) world fit),
                   omega (arith, owes),
                 ),
-              )
+              ))
 
           module _ (out : Seat M W) (gone : lock.Left (hand_at to) (TellsOrder fits to) y v out) (id' : TableId) (same : id' ≡ id) where
             visit : Visit fits to x y m in_it v out
@@ -175,21 +175,21 @@ module _ {M W : Type 0} (fits : W → ℕ → M → Type 0) (id : TableId) (numb
         slots : table.rest v.1 ≡ table.rest in_it.1
         slots = ap table.rest (lies x (inside.lies ∙ ap (λ l. (to, Some x) ∷ l) (sym (ap table.rest inside.lies))))
 
-        post_asks : (z : List (Event M)) → EndsIn (hand_at to v.0).seen z → LeavesOneEvent fits to (passes z left_there) v.0
+        post_asks : (z : List (Event M)) → EndsIn (hand_at to v.0).seen z → LeavesEvents fits to (passes z left_there) v.0
         post_asks z ends =
             let hand : (hand_at to v.0).seen ≡ (hand_at to in_it.0).seen =
             ap (λ l. (get_or l to (fresh_hand 0)).seen) (put_hands fits job message r in_it.0 v.0 put) in
-            subst (λ k. LeavesOneEvent fits to (passes k left_there) v.0)
+            subst (λ k. LeavesEvents fits to (passes k left_there) v.0)
             (EndsIn-same (hand_at to in_it.0).seen x z inside.found (subst (λ l. EndsIn l z) hand ends)) (asks r put)
           where
             asks : (q : Result (Unit {0}) (PostFault M)) → PutIn fits job message q in_it.0 v.0
-                → LeavesOneEvent fits to (passes x (after_post number message q x)) v.0
+                → LeavesEvents fits to (passes x (after_post number message q x)) v.0
             asks (Ok o) t = made_asks v t.0 slots (x ++ Post number message ∷ []) t.2 refl
             asks (Err (fault.Spent back)) t = absurd t
             asks (Err (fault.Memory back)) t = inl refl
             asks (Err (fault.Aborted back)) t = inl refl
 
-        pub may_leave : lock.MayPass (hand_at to) (LeavesOneEvent fits to) to v
+        pub may_leave : lock.MayPass (hand_at to) (LeavesEvents fits to) to v
         may_leave =
             let hands = put_hands fits job message r in_it.0 v.0 put in
             let t = inside.inside in

@@ -20,7 +20,7 @@ use Rattle.switchboard.specs.declared.lock_per_box.knowing.Seen.{Seen}
 use Rattle.switchboard.specs.Sights.{Sight}
 use Rattle.switchboard.specs.Promises.{Took}
 use Rattle.switchboard.specs.Knowing.{hand_at}
-use Rattle.switchboard.specs.PerBox.{SeatView, flag, LeavesOneEvent, TellsOrder, IsInside, LookedAtWord, Seat}
+use Rattle.switchboard.specs.PerBox.{SeatView, flag, LeavesEvents, TellsOrder, IsInside, LookedAtWord, Seat}
 use Rattle.switchboard.specs.BoxPasses.{IsIdleHand, box_sight, IsBoxPass}
 use Rattle.switchboard.specs.BoxAnswers.{TookOut}
 use Rattle.switchboard.proofs.Visits.{posted_fits}
@@ -93,19 +93,19 @@ module _ {M W : Type 0} (fits : W → ℕ → M → Type 0) (id : TableId) (numb
       took : TookOut r x y
       took = subst (λ z. TookOut r z y) (lent_is fits number x u v inside k slot lent lies) took_lent
 
-      take_asks : (z : List (Event M)) → EndsIn (hand_at number v.0).seen z → LeavesOneEvent fits number (passes z y) v.0
+      take_asks : (z : List (Event M)) → EndsIn (hand_at number v.0).seen z → LeavesEvents fits number (passes z y) v.0
       take_asks z ends =
-          subst (λ k. LeavesOneEvent fits number (passes k y) v.0) (EndsIn-same (hand_at number v.0).seen x z inside.found ends)
+          subst (λ k. LeavesEvents fits number (passes k y) v.0) (EndsIn-same (hand_at number v.0).seen x z inside.found ends)
           (asks r took)
         where
-          asks : (q : Taken M) → TookOut q x y → LeavesOneEvent fits number (passes x y) v.0
+          asks : (q : Taken M) → TookOut q x y → LeavesEvents fits number (passes x y) v.0
           asks (answer.Message job k) t =
-              inr (own_part fits id number left made w boxes m p, event.Take t.0 k, same_lanes ∙ p.lanes, list, t.3, (refl, t.1))
+              inr (inl (own_part fits id number left made w boxes m p, event.Take t.0 k, same_lanes ∙ p.lanes, list, t.3, (refl, t.1)))
           asks answer.Empty t = inl t.0
           asks answer.Closed t = absurd t
           asks answer.Aborted t = absurd t
 
-      pub take_leaves : lock.MayPass (hand_at number) (LeavesOneEvent fits number) number (v.0, (k, Some y) ∷ rest v.1)
+      pub take_leaves : lock.MayPass (hand_at number) (LeavesEvents fits number) number (v.0, (k, Some y) ∷ rest v.1)
       take_leaves = may_leave fits number x u v inside k slot y take_asks
 
       module _ (out : Seat M W)

@@ -11,7 +11,7 @@ use Rattle.ticket_lock.proofs.Carried.{same_some, passed_left}
 use Rattle.post_ledger.specs.declared.event.Event.{Event}
 use Rattle.switchboard.specs.declared.lock_per_box.knowing.Seen.{Seen}
 use Rattle.switchboard.specs.Knowing.{hand_at, with_hand, with_seen}
-use Rattle.switchboard.specs.PerBox.{SeatView, CanDraw, LeavesOneEvent, TellsOrder, IsInside, News, HasOwn, Seat}
+use Rattle.switchboard.specs.PerBox.{SeatView, CanDraw, LeavesEvents, TellsOrder, IsInside, News, HasOwn, Seat}
 
 only_ticket : (n : ℕ) (l : List ℕ) → l ≡ [] → without n (l ++ n ∷ []) ≡ []
 only_ticket n l none = ap (λ k. without n (k ++ n ∷ [])) none ∙ rw (eq-eqb n n refl) refl
@@ -70,8 +70,8 @@ module _ {M W : Type 0} (fits : W → ℕ → M → Type 0) where
 
     module _ (y : List (Event M)) where
       -- leaves another there, if it may,
-      pub may_leave : ((z : List (Event M)) → EndsIn (hand_at q in_it.0).seen z → LeavesOneEvent fits q (passes z y) in_it.0)
-          → lock.MayPass (hand_at q) (LeavesOneEvent fits q) q (in_it.0, (k, Some y) ∷ rest in_it.1)
+      pub may_leave : ((z : List (Event M)) → EndsIn (hand_at q in_it.0).seen z → LeavesEvents fits q (passes z y) in_it.0)
+          → lock.MayPass (hand_at q) (LeavesEvents fits q) q (in_it.0, (k, Some y) ∷ rest in_it.1)
       may_leave asks = (y, ap (λ i. (i, Some y) ∷ rest in_it.1) slot, inside.inside, asks)
 
       -- and has left that one then

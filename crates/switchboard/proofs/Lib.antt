@@ -12,6 +12,7 @@ pub mod BoxPuts
 pub mod BoxCalls
 pub mod BoxTakes
 pub mod BoxDones
+pub mod BoxTurns
 pub mod BoxPosts
 pub mod BoxSeats
 pub mod BoxLearns

@@ -1,8 +1,8 @@
 -- What a pass of the board with a lock for each mailbox does while it is inside the lock of one.
-use Rattle.std.specs.Prelude.{◌≡◌, ℕ, List, [], ◌∷◌, ◌++◌, Option, Some, None, IsSome, Result, Ok, Err, length, slice_get}
+use Rattle.std.specs.Prelude.{◌≡◌, ℕ, ◌^◌, ◌<◌, List, [], ◌∷◌, ◌++◌, Option, Some, None, IsSome, Result, Ok, Err, length, slice_get}
 use Rattle.atomic_table.specs.Table.{rest}
 use Rattle.post_ledger.specs.declared.event.Event.{Event}
-use Rattle.post_ledger.specs.declared.event.Event.TheVariants.{Post, Take}
+use Rattle.post_ledger.specs.declared.event.Event.TheVariants.{Post, Take, Done}
 use Rattle.post_ledger.specs.History.{posts, takes}
 use Rattle.switchboard.specs.declared.calls.PostFault.{PostFault}
 use Rattle.switchboard.specs.declared.calls.PostFault.TheVariants as fault
@@ -21,6 +21,14 @@ module _ {M : Type 0} where
   TookOut answer.Empty before after = (after ≡ before) × (length (posts before) ≡ length (takes before))
   TookOut answer.Closed before after = ⊥
   TookOut answer.Aborted before after = ⊥
+
+  -- the take is completed, and no more is done, since every message is taken or the word found says that the board is
+  -- aborted; or then the oldest message is taken out, and the word found says that it is not
+  abbrev pub Finished : ℕ → ℕ → Option (ℕ × M) → List (Event M) → List (Event M) → Type 0
+  Finished take found None before after =
+      (after ≡ before ++ Done take ∷ []) × (found < 2 ^ 63 → length (posts after) ≡ length (takes after))
+  Finished take found (Some next) before after =
+      TookOut (answer.Message next.0 next.1) (before ++ Done take ∷ []) after × (found < 2 ^ 63)
 
   -- a mailbox's history after a post with this answer
   abbrev pub after_post : ℕ → M → Result (Unit {0}) (PostFault M) → List (Event M) → List (Event M)

@@ -14,6 +14,7 @@ use Rattle.ticket_lock.specs.Turns.{StepKind, draws, waits, enters, passes, Kept
 use Rattle.post_ledger.specs.declared.event.Event.{Event}
 use Rattle.post_ledger.specs.declared.event.Event.TheVariants.{Post, Take, Done}
 use Rattle.post_ledger.specs.declared.entry.Entry.{Entry}
+use Rattle.post_ledger.specs.declared.entry.Entry.TheVariants.{Completed}
 use Rattle.post_ledger.specs.History.{MayFollow}
 use Rattle.post_ledger.specs.Orders.{part, own, posted, completed, HasJob, IsClosed}
 use Rattle.switchboard.specs.declared.calls.Abort.{Abort}
@@ -149,15 +150,20 @@ module _ {M W : Type 0} where
     MayRecord mailbox number (Take sender message) history view = (number ≡ mailbox) × MayFollow history (Take sender message)
     MayRecord mailbox number (Done job) history view = (number ≡ mailbox) × MayFollow history (Done job)
 
-    -- the history is left as it was found, or with one event that the pass may record
-    abbrev pub LeavesOneEvent : ℕ → StepKind (List (Event M)) → SeatView M W → Type 0
-    LeavesOneEvent mailbox draws view = Unit {0}
-    LeavesOneEvent mailbox waits view = Unit {0}
-    LeavesOneEvent mailbox (enters found) view = Unit {0}
-    LeavesOneEvent mailbox (passes found left) view = (left ≡ found)
-        ⊎ ((lane : Own M) × (event : Event M) × (view.lanes ≡ lane ∷ []) × (own lane.number view.seen.order ≡ lane.events)
+    -- the history is left as it was found, or with one event that the pass may record, or with two: a Done of its own
+    -- mailbox, and a Take that may follow it
+    abbrev pub LeavesEvents : ℕ → StepKind (List (Event M)) → SeatView M W → Type 0
+    LeavesEvents mailbox draws view = Unit {0}
+    LeavesEvents mailbox waits view = Unit {0}
+    LeavesEvents mailbox (enters found) view = Unit {0}
+    LeavesEvents mailbox (passes found left) view = (left ≡ found)
+        ⊎ (((lane : Own M) × (event : Event M) × (view.lanes ≡ lane ∷ []) × (own lane.number view.seen.order ≡ lane.events)
         × (left ≡ found ++ event ∷ [])
         × MayRecord mailbox lane.number event found view)
+        ⊎ ((lane : Own M) × (job sender : ℕ) × (message : M) × (view.lanes ≡ lane ∷ [])
+        × (own lane.number view.seen.order ≡ lane.events)
+        × (left ≡ (found ++ Done job ∷ []) ++ Take sender message ∷ [])
+        × (lane.number ≡ mailbox) × MayFollow found (Done job) × MayFollow (found ++ Done job ∷ []) (Take sender message)))
 
     -- the event is the last of the order that the pass has seen then, and of its own; the history found was the part of
     -- the order before it
@@ -175,8 +181,14 @@ module _ {M W : Type 0} where
       pub part : part mailbox front ≡ history
       pub news : News earlier later.seen
 
+    -- the Done was recorded, and then the Take
+    abbrev pub RecordedTwo : ℕ → Own M → ℕ → ℕ → M → List (Event M) → SeatView M W → SeatView M W → Type 0
+    RecordedTwo mailbox lane job sender message history earlier later = (between : SeatView M W)
+        × Recorded mailbox lane (Done job) history earlier between
+        × Recorded mailbox (with_event (Completed mailbox job) lane) (Take sender message) (history ++ Done job ∷ []) between later
+
     -- a look in turn tells the order, whose projection to the mailbox is the history found; a pass on records the
-    -- event, if there is one
+    -- event, if there is one, or both if there are two
     abbrev pub TellsOrder : ℕ → StepKind (List (Event M)) → SeatView M W → SeatView M W → Type 0
     TellsOrder mailbox draws before after = after ≡ with_hand mailbox (hand_at mailbox after) before
     TellsOrder mailbox waits before after = after ≡ before
@@ -186,6 +198,9 @@ module _ {M W : Type 0} where
     TellsOrder mailbox (passes found left) before after = (left ≡ found → after ≡ with_hand mailbox (hand_at mailbox after) before)
         × ((lane : Own M) (event : Event M) → before.lanes ≡ lane ∷ [] → left ≡ found ++ event ∷ []
         → Recorded mailbox lane event found before after)
+        × ((lane : Own M) (job sender : ℕ) (message : M) → before.lanes ≡ lane ∷ []
+        → left ≡ (found ++ Done job ∷ []) ++ Take sender message ∷ []
+        → RecordedTwo mailbox lane job sender message found before after)
 
     -- the seat is inside the lock of a mailbox, whose history lies in its slot, and is the part of the order that the
     -- seat has seen then

@@ -1,6 +1,6 @@
 -- What the calls of a board promise.
 use Rattle.std.specs.Prelude.{◌≡◌, ◌≢◌, ◌⊎◌, ◌↔◌, ℕ, ◌+◌, Bool, true, false, IsTrue, IsSome, List, []}
-use Rattle.std.specs.Prelude.{◌∷◌, ◌++◌, Some, None, Result, Ok, Err, MatchResult, length, slice_get}
+use Rattle.std.specs.Prelude.{◌∷◌, ◌++◌, Option, Some, None, Result, Ok, Err, MatchResult, length, slice_get}
 use Rattle.atomic_table.specs.Seated.{TableId}
 use Rattle.ticket_lock.specs.declared.lane.Spent.{Spent}
 use Rattle.ticket_lock.specs.History.{StartsWith}
@@ -128,6 +128,15 @@ module _ {M W : Type 0} (fits : W → ℕ → M → Type 0) where
   -- the take of the job is completed
   abbrev pub WasDone : ℕ → Sight M W → Sight M W → Type 0
   WasDone job before after = Added (Completed before.number job) before after
+
+  -- the take of the job is completed, and then a take answers this
+  abbrev pub DidTurn : ℕ → answers.Taken M → Sight M W → Sight M W → Type 0
+  DidTurn job taken before after = (between : Sight M W) × WasDone job before between × Took (Ok taken) between after
+
+  -- the calls are used up: before the job's take is completed, which then comes back; or after it
+  abbrev pub LeftTurn : ℕ → Option ℕ → Sight M W → Sight M W → Type 0
+  LeftTurn job (Some back) before after = (back ≡ job) × WasSpent before after
+  LeftTurn job None before after = (between : Sight M W) × WasDone job before between × WasSpent between after
 
   -- The board is aborted: by this pass for this cause, unless another pass aborted it before; no call is used up, and
   -- the pass made no event. A second abort of the pass changes nothing.

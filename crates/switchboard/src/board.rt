@@ -4,7 +4,7 @@ ghost use Rattle.std.specs.Option.{ForSome};
 ghost use Rattle.atomic_table.specs.Seated.{TableId};
 ghost use Rattle.post_ledger.specs.Orders.{HasJob};
 ghost use Rattle.switchboard.specs.Sights.{Sight, Account, opened, fresh_sights, told_by};
-ghost use Rattle.switchboard.specs.Promises.{WasSpent, WasPosted, WasRefused, Took, WasDone};
+ghost use Rattle.switchboard.specs.Promises.{WasSpent, WasPosted, WasRefused, Took, WasDone, DidTurn, LeftTurn};
 ghost use Rattle.switchboard.specs.Promises.{MadeAbort, Learned, AreAll, Settles};
 
 use crate::calls::{Cause, Job, PostFault, Taken};
@@ -98,6 +98,38 @@ pub trait Board<M: Mail<W>, W, A: Allocator>: Sized {
         requires job { HasJob (sight pass.old).number job (sight pass.old).seen.order }
         ensures { MatchResult result (λ _. WasDone M.fits job (sight pass.old) (sight pass.new))
             (λ e. (e.0 ≡ job) × WasSpent (sight pass.old) (sight pass.new)) };
+
+    /// Like `done` and then `take`. If the calls are used up before the first, the job comes back; if before the
+    /// second, it does not.
+    fn turn<R: Wait>(
+        &self,
+        rt: &R,
+        pass: &mut Self::Pass,
+        job: Job,
+    ) -> Result<Taken<M>, (Option<Job>, Spent)>
+        requires board { (sight pass.old).board ≡ identity self.now }
+        requires job { HasJob (sight pass.old).number job (sight pass.old).seen.order }
+        ensures { MatchResult result
+            (λ taken. DidTurn M.fits job taken (sight pass.old) (sight pass.new))
+            (λ e. LeftTurn M.fits job e.0 (sight pass.old) (sight pass.new)) }
+    {
+        if let Err((job, Spent)) = self.done(rt, pass, job) {
+            return Err((Some(job), Spent));
+        }
+        match self.take(rt, pass) {
+            Ok(taken) => Ok(taken),
+            Err(Spent) => Err((None, Spent)),
+        }
+    }
+
+    /// How many visits of the pass's mailbox have begun, or fewer: a hint, by which a pass that waits sees that a
+    /// take may find a message now. No contract says what it returns, and no promise rests on it.
+    fn visits(&self, pass: &Self::Pass) -> u64
+        requires { (sight pass.now).board ≡ identity self.now }
+    {
+        let _ = pass;
+        0
+    }
 
     /// Aborts the board, and spends the job without completing its message.
     fn abort<R: Wait>(&self, rt: &R, pass: &mut Self::Pass, job: Option<Job>, cause: Cause)

@@ -14,6 +14,7 @@ mod place;
 mod plays;
 mod rule;
 mod view;
+mod waiting;
 
 pub use alone::Alone;
 pub use hand::Hand;
@@ -25,3 +26,4 @@ pub use open::MOST_TICKETS;
 pub use place::{come_when_free_at, draw_at, enter_at, leave_at, look_at, serve_next_at, value_at};
 pub use rule::LockRule;
 pub use view::{Opening, View};
+pub use waiting::sleep;

@@ -15,18 +15,21 @@ ghost use Rattle.ticket_lock.specs.Calls.{WentInside, Came, MayPass, Passed, Lef
 
 use crate::plays::{Draws, DrawsIfNext, Looks, Passes};
 use crate::rule::{At, LockRule};
+use crate::waiting::sleep;
 use atomic_table::{Seat, Shared};
 use crossbeam_utils::Backoff;
 use std::marker::Brand;
 use std::sync::Wait;
 use std::{hint, thread};
 
-// How often a seat pauses while another is inside, and how often it yields after that, before it draws a ticket that it
-// waits with. Tickets are served in turn, so one whose thread has no processor holds up all behind it; a seat without a
-// ticket holds up nobody.
-const PAUSES: u32 = 16;
+// How often a seat pauses while another is inside, and how often it yields and then sleeps after that, before it
+// draws a ticket that it waits with. Tickets are served in turn, so one whose thread has no processor holds up all
+// behind it; a seat without a ticket holds up nobody.
+const PAUSES: u32 = 64;
 
-const YIELDS: u32 = 32;
+const YIELDS: u32 = 16;
+
+const SLEEPS: u32 = 8;
 
 // How often a ticket is looked at before its thread yields, since the one that it waits for may have no processor.
 const LOOKS: u32 = 16;
@@ -178,16 +181,19 @@ fn draw_if_next<T, V, K, P: LockRule<T, V, K>>(
     draw_if_next_step::<Brand, T, V, K, P>(shared, seat, word, slot, next)
 }
 
-fn wait_a_moment(tries: u32) {
+fn wait_a_moment<R: Wait>(rt: &R, tries: u32) {
     if tries < PAUSES {
         hint::spin_loop();
-    } else {
+    } else if tries < PAUSES + YIELDS {
         thread::yield_now();
+    } else {
+        sleep(rt, tries - (PAUSES + YIELDS));
     }
 }
 
 /// Draws the next ticket of the lock at this place as soon as it is served at once, and after some tries in any case.
-fn draw_when_free<T, V, K, P: LockRule<T, V, K>>(
+fn draw_when_free<R: Wait, T, V, K, P: LockRule<T, V, K>>(
+    rt: &R,
     shared: &Shared<Option<T>, V, K, P>,
     seat: &mut Seat<Option<T>, V>,
     word: usize,
@@ -201,12 +207,12 @@ fn draw_when_free<T, V, K, P: LockRule<T, V, K>>(
     ensures { IsSameSeat seat.old seat.new
         × Drew (P.see slot) (P.tells slot) seat.old.me result seat.new.me }
 {
-    for tries in 0..PAUSES + YIELDS {
+    for tries in 0..PAUSES + YIELDS + SLEEPS {
         let next = shared.peek(word + 1);
         if shared.peek(word) == next && draw_if_next(shared, seat, word, slot, next) {
             return next;
         }
-        wait_a_moment(tries);
+        wait_a_moment(rt, tries);
     }
     draw_at(shared, seat, word, slot)
 }
@@ -288,7 +294,7 @@ pub fn come_when_free_at<R: Wait, T, V, K, P: LockRule<T, V, K>>(
         × (value : T) × Came (P.see slot)
         (P.tells slot) slot seat.old.me result value (Some value) seat.new.me }
 {
-    let ticket = draw_when_free(shared, seat, word, slot);
+    let ticket = draw_when_free(rt, shared, seat, word, slot);
     wait_with(rt, shared, seat, word, slot, ticket);
     ticket
 }

@@ -1,16 +1,17 @@
 -- The rule of a board with a lock for each mailbox allows a lock at each mailbox's place.
 use Rattle.std.proofs.Common.{◌≡◌, ◌≢◌, ◌⊎◌, inl, inr, ℕ, zero, suc, ◌+◌, ◌<◌, false, List, [], ◌∷◌, ◌++◌, map, length, set}
-use Rattle.std.proofs.Common.{refl, sym, ap, ◌∙◌, subst, arith, length-set, length-append, get_or-set_other, lt_of_not-le}
-use Rattle.std.proofs.lemmas.List.{append-nil}
+use Rattle.std.proofs.Common.{refl, sym, ap, ◌∙◌, subst, arith, length-set, length-append, get_or-set_other, lt_of_not-le, set-set}
+use Rattle.std.proofs.lemmas.List.{append-nil, append_assoc, append_cancel_left}
 use mathlib.Core.Option.{some, some-injective, some-ne-none}
 use mathlib.Core.Logic.{dite}
 use native.Mathlib.Decide.{ℕ_discrete, dec_le}
 use lib.ListN.{get_elem?}
 use Rattle.ticket_lock.specs.declared.hand.Hand.{Hand}
 use Rattle.ticket_lock.specs.Count.{times, total}
-use Rattle.ticket_lock.specs.History.{EndsIn}
+use Rattle.ticket_lock.specs.History.{StartsWith, EndsIn}
 use Rattle.ticket_lock.specs.Turns.{draws, waits, enters, passes, Kept, Follows, Opens}
 use Rattle.ticket_lock.specs.Proved.Facts.{set_here, at_inside, at-map, times-one, EndsIn-same, EndsIn-more, StartsWith-refl}
+use Rattle.ticket_lock.specs.Proved.Facts.{StartsWith-trans}
 use Rattle.post_ledger.specs.declared.event.Event.{Event}
 use Rattle.post_ledger.specs.declared.event.Event.TheVariants.{Post, Take, Done}
 use Rattle.post_ledger.specs.declared.entry.Entry.{Entry}
@@ -21,11 +22,13 @@ use Rattle.post_ledger.proofs.Orders.{nothing_follows}
 use Rattle.switchboard.specs.declared.lock_per_box.knowing.Ground.{Ground}
 use Rattle.switchboard.specs.declared.lock_per_box.knowing.Seen.{Seen}
 use Rattle.switchboard.specs.declared.lock_per_box.knowing.Own.{Own}
-use Rattle.switchboard.specs.Sights.{IsSound}
+use Rattle.switchboard.specs.Sights.{BoardState, IsSound}
+use Rattle.switchboard.specs.Books.{with_new_event}
 use Rattle.switchboard.specs.Proved.Entries.{Allowed, sound_push, job_stays}
-use Rattle.switchboard.specs.Knowing.{entry_of, owes_after, with_event, made_by, state_of, hand_at, with_hand, with_seen, pass_numbers}
+use Rattle.switchboard.specs.Knowing.{entry_of, owes_after, made_by, state_of, hand_at, with_hand, with_seen, pass_numbers}
 use Rattle.switchboard.specs.Knowing.{makes}
-use Rattle.switchboard.specs.PerBox.{SeatView, word_of, IsBox, Saw, KnowsBoard, Rule, MayRecord, LeavesOneEvent, Recorded, TellsOrder}
+use Rattle.switchboard.specs.PerBox.{SeatView, word_of, IsBox, Saw, KnowsBoard, News, Rule, MayRecord, LeavesEvents, Recorded, RecordedTwo}
+use Rattle.switchboard.specs.PerBox.{TellsOrder}
 use Rattle.switchboard.specs.PerBox.{Boxes}
 use Rattle.switchboard.specs.PerBox.{Slots, owed}
 use Rattle.switchboard.specs.Proved.PerBoxFacts.{hand_here, hand_else, has_hand, closed_at_zero, BoardGrows, grows_same, saw_grows, saw_all}
@@ -44,6 +47,22 @@ module _ {M : Type 0} where
 
   longer_no : (x : List (Event M)) (e : Event M) → x ≡ x ++ e ∷ [] → ⊥
   longer_no x e is = omega (arith, ap length is, length-append x (e ∷ []))
+
+  longer_two : (x : List (Event M)) (e f : Event M) → x ≡ (x ++ e ∷ []) ++ f ∷ [] → ⊥
+  longer_two x e f is = omega (arith, ap length is, length-append (x ++ e ∷ []) (f ∷ []), length-append x (e ∷ []))
+
+  one_not_two : (x : List (Event M)) (d e f : Event M) → x ++ d ∷ [] ≡ (x ++ e ∷ []) ++ f ∷ [] → ⊥
+  one_not_two x d e f is =
+      omega (arith, ap length is, length-append x (d ∷ []), length-append (x ++ e ∷ []) (f ∷ []), length-append x (e ∷ []))
+
+  two_are : (x : List (Event M)) (t u a b : ℕ) (m k : M)
+      → (x ++ Done t ∷ []) ++ Take a m ∷ [] ≡ (x ++ Done u ∷ []) ++ Take b k ∷ [] → (t ≡ u) × (a ≡ b) × (m ≡ k)
+  two_are x t u a b m k is =
+      let l : List (Event M) = Done t ∷ Take a m ∷ [] in
+      let r : List (Event M) = Done u ∷ Take b k ∷ [] in
+      let same : l ≡ r = append_cancel_left x l r
+      (sym (append_assoc x (Done t ∷ []) (Take a m ∷ [])) ∙ (is ∙ append_assoc x (Done u ∷ []) (Take b k ∷ []))) in
+      (cc, cc, cc)
 
   one_lane : (o p : Own M) → (let l : List (Own M) = o ∷ [] in let k : List (Own M) = p ∷ [] in l ≡ k) → o ≡ p
   one_lane o p e = cc
@@ -162,11 +181,88 @@ module _ {M W : Type 0} (fits : W → ℕ → M → Type 0) (g : Ground M W) whe
         has_hand (λ (z : Hand (List (Event M))). z.parts) q v refl
         (elim (dec_le 1 h.parts) [ yes d ↦ omega arith | no d ↦ (let lt = lt_of_not-le d in absurd (busy (fit.idle (omega arith)))) ])
 
+    -- what the seat has seen when it has seen a later order, and no other abort
+    abbrev seen_of : List (Entry M) → Seen M
+    seen_of order = record v.seen { order = order }
+
+    saw_of : (order : List (Entry M)) → IsSound fits (state_of g record { order = order; aborted = r.first; knows = false })
+        → Saw fits g order r.first r.low (seen_of order)
+    saw_of order sound =
+        let saw = (r.each id v is_at).saw in
+        saw_all fits g order r.first r.low (seen_of order) sound refl saw.aborted (λ k. (saw.close k).0)
+
+    news_of : (order : List (Entry M)) (more : ℕ)
+        → IsSound fits (state_of g record { order = order; aborted = r.first; knows = false })
+        → r.low + completed order ≡ posted order + more → StartsWith order r.order → News fits v (seen_of order)
+    news_of order more sound count begins =
+        news_is fits g s r id v is_at order r.first r.low more (seen_of order) sound.lawful count (saw_of order sound)
+        (StartsWith-trans order r.order v.seen.order begins (r.each id v is_at).saw.begins) (λ b k. k) (λ k. k)
+
+    -- a post is outstanding if something may follow
+    not_closed : (e : Entry M) → IsSound fits (state_of g record { order = r.order ++ e ∷ []; aborted = r.first; knows = false })
+        → r.low ≡ 0 → ⊥
+    not_closed e sound none = none_more
+        (nothing_follows g.boxes r.order (e ∷ []) r.sound.lawful
+        (closed_at_zero g.boxes r.order r.low (owed s.views) r.sound.lawful r.count none) sound.lawful)
+      where
+        none_more : {k : Entry M} → (let l : List (Entry M) = k ∷ [] in l ≡ []) → ⊥
+        none_more k = cc
+
+    module _ (o : Own M) (lanes : v.lanes ≡ o ∷ []) where
+      named : pass_numbers v ≡ o.number ∷ []
+      named = ap (map (λ (p : Own M). p.number)) lanes
+
+      -- an entry of the pass is in no other's list
+      own_apart : (order : List (Entry M)) (e : Entry M) → maker_of e ≡ o.number → (k : ℕ) → times k (pass_numbers v) ≡ 0
+          → own k (order ++ e ∷ []) ≡ own k order
+      own_apart order e maker k none =
+          own-append k order (e ∷ [])
+          ∙ (ap (λ l. own k order ++ l) (own_else k e [] (λ j. absurd (let one = times-one k in
+          let there : times k (o.number ∷ []) ≡ 1 = subst (λ m. times k (m ∷ []) ≡ 1) (sym (sym maker ∙ j)) one in
+          omega (arith, ap (times k) named)))) ∙ append-nil (own k order))
+
+      own_grows : (order list : List (Entry M)) (e : Entry M) → maker_of e ≡ o.number → own o.number order ≡ list
+          → own o.number (order ++ e ∷ []) ≡ list ++ e ∷ []
+      own_grows order list e maker is = own-append o.number order (e ∷ []) ∙ (λ j. is j ++ own_here o.number e [] maker j)
+
+      -- the rule after the pass has recorded events of its own behind the order
+      module _ (q i n : ℕ) (homes : Slots M) (log : List (List (Event M))) (h : Hand (List (Event M)))
+          (where_i : (i ≡ word_of q) ⊎ (i ≡ word_of q + 1)) (same_homes : (k : ℕ) → k ≢ q → get_elem? homes k ≡ get_elem? s.homes k)
+          (kept : Kept (word_of q) q log (set s.words i n) homes (set (map (hand_at q) s.views) id h)) (short : q < length v.hands)
+          (parts : h.parts ≡ (hand_at q v).parts) (order list : List (Entry M)) (owes : ℕ) where
+        abbrev recorded : SeatView M W
+        recorded = record v {
+          hands = set v.hands q h;
+          lanes = record o { events = list } ∷ [];
+          seen = seen_of order;
+          owes = owes;
+        }
+
+        recorded_rule : EndsIn log (part q order) → ((k : ℕ) → k ≢ q → part k order ≡ part k r.order)
+            → ((k : ℕ) → times k (pass_numbers v) ≡ 0 → own k order ≡ own k r.order) → own o.number order ≡ list
+            → IsSound fits (state_of g record { order = order; aborted = r.first; knows = false })
+            → StartsWith order r.order → (r.low ≡ 0 → ⊥)
+            → r.low + completed order + v.owes ≡ posted order + owed s.views + owes
+            → Rule fits g record { words = set s.words i n; homes = homes; views = set s.views id recorded }
+        recorded_rule ends others apart grown sound begins open_still count =
+            let mine = r.each id v is_at in
+            let on : BoardGrows r.order order r.first r.first r.low r.low =
+            record { begins = begins; aborted = λ b z. z; still = λ z. absurd (open_still z) } in
+            turned order q i n homes log h recorded where_i same_homes (hand_here q h v short) (λ k ne. hand_else q k h v ne) kept ends
+            others on apart sound count refl record {
+              board = mine.board;
+              saw = saw_of order sound;
+              told = saw_grows fits g r.order order r.first r.first r.low r.low v.told on mine.told;
+              owns = λ j p at. subst (λ (t : Own M). own t.number order ≡ t.events) (only_at (record o { events = list }) p j at) grown;
+              parts = λ k nearby. (knows_hand q h v.seen short parts mine.saw).parts k nearby ∙ ap length lanes;
+              idle = λ none. absurd (omega arith);
+            } (sym named) (λ k. sym (ap (total (made_by k)) lanes))
+
     module _ (q : ℕ) (near : q < g.boxes) where
       abbrev log : List (List (Event M))
       log = (r.locks q near).0
 
-      follows : Follows (Rule fits g) (hand_at q) (LeavesOneEvent fits q) (TellsOrder fits q) (word_of q) q s log id v
+      follows : Follows (Rule fits g) (hand_at q) (LeavesEvents fits q) (TellsOrder fits q) (word_of q) q s log id v
       follows draws i n homes log' h where_i _ same_homes turn kept asked =
           let parts = ap (λ (z : Hand (List (Event M))). z.parts) turn.1.1 in
           let short =
@@ -231,9 +327,13 @@ module _ {M W : Type 0} (fits : W → ℕ → M → Type 0) (g : Ground M W) whe
               turned r.order q i n homes log' h w where_i same_homes is_h (λ k ne. hand_else q k h v ne) kept
                   (subst (λ z. EndsIn log' z) (same ∙ sym part_is) last) (λ k ne. refl) (grows_same r.order r.first r.low)
                   (λ k _. refl) r.sound (omega (arith, r.count)) refl (knows_hand q h v.seen short parts mine.saw) refl (λ k. refl),
-              ((λ _. sym (ap (λ z. with_hand q z v) is_h)), (λ o e lanes is. absurd (longer_no x e (sym same ∙ is)))),
+              (
+                (λ _. sym (ap (λ z. with_hand q z v) is_h)),
+                (λ o e lanes is. absurd (longer_no x e (sym same ∙ is))),
+                (λ o t a m lanes is. absurd (longer_two x (Done t) (Take a m) (sym same ∙ is))),
+              ),
             ))
-            | inr a ↦ (
+            | inr (inl a) ↦ (
                 let o : Own M = a.0 in
                 let e : Event M = a.1 in
                 let lanes = a.2 in
@@ -246,55 +346,25 @@ module _ {M W : Type 0} (fits : W → ℕ → M → Type 0) (g : Ground M W) whe
                 let come = may_come q o e x near part_is (a.3 ∙ sym list) may in
                 let sound : IsSound fits (state_of g record { order = order; aborted = r.first; knows = false }) =
                 sound_push fits more (state_of g record { order = r.order; aborted = r.first; knows = false }) r.sound come in
-                let not_closed : r.low ≡ 0 → ⊥ = λ z. none_more
-                (nothing_follows g.boxes r.order (more ∷ []) r.sound.lawful
-                (closed_at_zero g.boxes r.order r.low (owed s.views) r.sound.lawful r.count z) sound.lawful) in
-                let on : BoardGrows r.order order r.first r.first r.low
-                r.low = record { begins = (more ∷ [], refl); aborted = λ b z. z; still = λ z. absurd (not_closed z) } in
+                let begins : StartsWith order r.order = (more ∷ [], refl) in
                 let count = counted q o.number r.low (owed s.views) e x v r.order may r.count in
-                let z : Seen M = record v.seen { order = order } in
-                let saw : Saw fits g order r.first r.low z =
-                saw_all fits g order r.first r.low z sound refl mine.saw.aborted (λ k. (mine.saw.close k).0) in
-                let w : SeatView M
-                W = record v { hands = set v.hands q h; lanes = with_event more o ∷ []; seen = z; owes = owes_after e v.owes } in
-                let grown : own o.number order ≡ o.events ++ more ∷ [] = own-append o.number r.order (more ∷ [])
-                ∙ ((λ j. list j ++ own_here o.number more [] maker j)) in
-                let named : pass_numbers v ≡ o.number ∷ [] = ap (map (λ (p : Own M). p.number)) lanes in
+                let events : List (Entry M) = o.events ++ more ∷ [] in
+                let w : SeatView M W =
+                recorded o lanes q i n homes log' h where_i same_homes kept short parts order events (owes_after e v.owes) in
                 let holds =
-                turned order q i n homes log' h w where_i same_homes is_h (λ k ne. hand_else q k h v ne) kept
+                recorded_rule o lanes q i n homes log' h where_i same_homes kept short parts order events (owes_after e v.owes)
                 (subst (λ l. EndsIn log' l) (is ∙ (ap (λ l. l ++ e ∷ []) (sym part_is) ∙ sym (part_after q v.under r.order e))) last)
-                (λ k ne. part_other q k v.under r.order e ne) on
-                (λ k none. own-append k r.order (more ∷ [])
-                ∙ (ap (λ l. own k r.order ++ l) (own_else k more [] (λ j. absurd (let one = times-one k in
-                let there : times k (o.number ∷ []) ≡ 1 = subst (λ m. times k (m ∷ []) ≡ 1) (sym (sym maker ∙ j)) one in
-                omega (arith, ap (times k) named)))) ∙ append-nil (own k r.order)))
-                sound count refl record {
-                  board = mine.board;
-                  saw = saw;
-                  told = saw_grows fits g r.order order r.first r.first r.low r.low v.told on mine.told;
-                  owns = λ j p at. subst (λ (t : Own M). own t.number order ≡ t.events) (only_at (with_event more o) p j at) grown;
-                  parts = λ k nearby. (knows_hand q h v.seen short parts mine.saw).parts k nearby ∙ ap length lanes;
-                  idle = λ none. absurd (omega arith);
-                } (sym named) (λ k. sym (ap (total (made_by k)) lanes)) in
-                let news = news_is fits g s r id v is_at order r.first r.low (owed (set s.views id w)) z sound.lawful
-                (Rattle.switchboard.specs.Proved.PerBoxFacts.count_after fits g s r id v is_at order r.low w count) saw
-                (Rattle.ticket_lock.specs.Proved.Facts.StartsWith-trans order r.order v.seen.order on.begins mine.saw.begins) (λ b k. k)
-                (λ k. k) in
+                (λ k ne. part_other q k v.under r.order e ne) (own_apart o lanes r.order more maker)
+                (own_grows o lanes r.order o.events more maker list) sound begins (not_closed more sound) count in
                 let done : Recorded fits q o e x v w = record {
                   front = r.order;
-                  after =
-                      sym
-                      (ap
-                      (λ (k : Hand (List (Event M))). record v {
-                        hands = set v.hands q k;
-                        lanes = with_event more o ∷ [];
-                        seen = z;
-                        owes = owes_after e v.owes;
-                      }) is_h);
+                  after = sym (ap (λ (k : Hand (List (Event M))). record w { hands = set v.hands q k }) is_h);
                   begins = mine.saw.begins;
                   own = list;
                   part = part_is;
-                  news = news;
+                  news =
+                      news_of order (owed (set s.views id w)) sound
+                      (Rattle.switchboard.specs.Proved.PerBoxFacts.count_after fits g s r id v is_at order r.low w count) begins;
                 } in (
                   w,
                   is_h,
@@ -304,18 +374,104 @@ module _ {M W : Type 0} (fits : W → ℕ → M → Type 0) (g : Ground M W) whe
                     (λ p f lanes' is'.
                         subst (λ k. Recorded fits q k f x v w) (one_lane o p (sym lanes ∙ lanes'))
                         (subst (λ k. Recorded fits q o k x v w) (EndsIn-same y e f (x, is) (x, is')) done)),
+                    (λ p t b m lanes' is'. absurd (one_not_two x e (Done t) (Take b m) (sym is ∙ is'))),
+                  ),
+                ))
+            | inr (inr a) ↦ (
+                let o : Own M = a.0 in
+                let job : ℕ = a.1 in
+                let sender : ℕ = a.2 in
+                let message : M = a.3 in
+                let lanes = a.4 in
+                let is = a.6 in
+                let first : Event M = Done job in
+                let second : Event M = Take sender message in
+                let x1 : List (Event M) = x ++ first ∷ [] in
+                let e1 : Entry M = entry_of q v.under first in
+                let e2 : Entry M = entry_of q v.under second in
+                let order1 : List (Entry M) = r.order ++ e1 ∷ [] in
+                let order : List (Entry M) = order1 ++ e2 ∷ [] in
+                let list : own o.number r.order ≡ o.events = mine.owns 0 o (ap (λ l. get_elem? l 0) lanes) in
+                let maker : q ≡ o.number = sym a.7 in
+                let part1 : part q order1 ≡ x1 = part_after q v.under r.order first ∙ ap (λ l. l ++ first ∷ []) part_is in
+                let start : BoardState M W = state_of g record { order = r.order; aborted = r.first; knows = false } in
+                let sound1 : IsSound fits (state_of g record { order = order1; aborted = r.first; knows = false }) =
+                sound_push fits e1 start r.sound (may_come q o first x near part_is (a.5 ∙ sym list) (a.7, a.8)) in
+                let sound : IsSound fits (state_of g record { order = order; aborted = r.first; knows = false }) =
+                sound_push fits e2 (with_new_event e1 start) sound1 record {
+                  near = near;
+                  follows = subst (λ l. MayFollow l second) (sym part1) a.9;
+                  under = tt;
+                  fit = tt;
+                } in
+                let begins1 : StartsWith order1 r.order = (e1 ∷ [], refl) in
+                let begins : StartsWith order r.order = StartsWith-trans order order1 r.order (e2 ∷ [], refl) begins1 in
+                let posts1 = posted-append r.order (e1 ∷ []) in
+                let dones1 = completed-append r.order (e1 ∷ []) in
+                let count : r.low + completed order + v.owes ≡ posted order + owed s.views + (v.owes + 1) =
+                omega (arith, posts1, dones1, posted-append order1 (e2 ∷ []), completed-append order1 (e2 ∷ []), r.count) in
+                let events1 : List (Entry M) = o.events ++ e1 ∷ [] in
+                let events : List (Entry M) = events1 ++ e2 ∷ [] in
+                let grown1 = own_grows o lanes r.order o.events e1 maker list in
+                let middle : SeatView M W =
+                recorded o lanes q i n homes log' h where_i same_homes kept short parts order1 events1 (v.owes + 1) in
+                let w : SeatView M W =
+                recorded o lanes q i n homes log' h where_i same_homes kept short parts order events (v.owes + 1) in
+                let holds =
+                recorded_rule o lanes q i n homes log' h where_i same_homes kept short parts order events (v.owes + 1)
+                (subst (λ l. EndsIn log' l)
+                (is ∙ (ap (λ l. l ++ second ∷ []) (sym part1) ∙ sym (part_after q v.under order1 second))) last)
+                (λ k ne. part_other q k v.under order1 second ne ∙ part_other q k v.under r.order first ne)
+                (λ k none. own_apart o lanes order1 e2 maker k none ∙ own_apart o lanes r.order e1 maker k none)
+                (own_grows o lanes order1 events1 e2 maker grown1) sound begins (not_closed e1 sound1) count in
+                let news = news_of order (owed s.views + 1) sound (omega (arith, count)) begins in
+                let did : RecordedTwo fits q o job sender message x v w = (
+                  middle,
+                  record {
+                    front = r.order;
+                    after = sym (ap (λ (k : Hand (List (Event M))). record middle { hands = set v.hands q k }) is_h);
+                    begins = mine.saw.begins;
+                    own = list;
+                    part = part_is;
+                    news = news_of order1 (owed s.views + 1) sound1 (omega (arith, posts1, dones1, r.count)) begins1;
+                  },
+                  record {
+                    front = order1;
+                    after =
+                        sym (ap (λ (k : Hand (List (Event M))). record w { hands = set (set v.hands q h) q k }) is_h
+                        ∙ ap (λ l. record w { hands = l }) (set-set v.hands q h h));
+                    begins = StartsWith-refl order1;
+                    own = grown1;
+                    part = part1;
+                    news = record {
+                      begins = (e2 ∷ [], refl);
+                      aborted = λ b k. k;
+                      knows = λ k. k;
+                      sound = news.sound;
+                      close = news.close;
+                    };
+                  },
+                ) in (
+                  w,
+                  is_h,
+                  holds,
+                  (
+                    (λ same. absurd (longer_two x first second (sym same ∙ is))),
+                    (λ p f lanes' is'. absurd (one_not_two x f first second (sym is' ∙ is))),
+                    (λ p t b m lanes' is'. let same = two_are x job t sender b message m (sym is ∙ is') in
+                        subst (λ k. RecordedTwo fits q k t b m x v w) (one_lane o p (sym lanes ∙ lanes'))
+                        (subst (λ k. RecordedTwo fits q o k b m x v w) same.0
+                        (subst (λ k. RecordedTwo fits q o job k m x v w) same.1
+                        (subst (λ k. RecordedTwo fits q o job sender k x v w) same.2 did)))),
                   ),
                 ))
           ]
-        where
-          none_more : {e : Entry M} → (let l : List (Entry M) = e ∷ [] in l ≡ []) → ⊥
-          none_more e = cc
 
-  boxes_open_at : (q : ℕ) → q < g.boxes → Opens (Rule fits g) (hand_at q) (LeavesOneEvent fits q) (TellsOrder fits q) (word_of q) q
+  boxes_open_at : (q : ℕ) → q < g.boxes → Opens (Rule fits g) (hand_at q) (LeavesEvents fits q) (TellsOrder fits q) (word_of q) q
   boxes_open_at q near s r = let l = r.locks q near in (l.0, l.1, λ id v is_at. follows s r id v is_at q near)
 
   pub boxes_open : (word slot : ℕ) → IsBox g word slot
-      → Opens (Rule fits g) (hand_at slot) (LeavesOneEvent fits slot) (TellsOrder fits slot) word slot
+      → Opens (Rule fits g) (hand_at slot) (LeavesEvents fits slot) (TellsOrder fits slot) word slot
   boxes_open word slot is =
-      subst (λ w. Opens (Rule fits g) (hand_at slot) (LeavesOneEvent fits slot) (TellsOrder fits slot) w slot) (sym is.0)
+      subst (λ w. Opens (Rule fits g) (hand_at slot) (LeavesEvents fits slot) (TellsOrder fits slot) w slot) (sym is.0)
       (boxes_open_at slot is.1)

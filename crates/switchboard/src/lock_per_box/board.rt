@@ -1,13 +1,14 @@
 //! The board with a lock for each mailbox.
 ghost use Rattle.std.specs.Prelude.{◌≡◌, ℕ, Bool, ◌<◌, ◌≤◌, ◌∷◌, map, [], List, Some, MatchResult};
-ghost use Rattle.std.specs.Prelude.{vec_len, vec_capacity};
+ghost use Rattle.std.specs.Prelude.{vec_len, vec_capacity, length, Contains};
 ghost use Rattle.atomic_table.specs.Table.{rest};
 ghost use Rattle.ticket_lock.specs.Calls.{IsSameSeat};
 ghost use Rattle.post_ledger.specs.declared.event.Event.{Event};
+ghost use Rattle.post_ledger.specs.History.{takes, dones};
 ghost use Rattle.post_ledger.specs.Orders.{HasJob};
 ghost use Rattle.switchboard.specs.Promises.{WasPosted, WasRefused, AreAll, Settles};
 ghost use Rattle.switchboard.specs.PerBox.{IsBoardTable, HasOwnJob};
-ghost use Rattle.switchboard.specs.BoxAnswers.{TookOut, PutIn, LiesAfter};
+ghost use Rattle.switchboard.specs.BoxAnswers.{TookOut, Finished, PutIn, LiesAfter};
 
 use crate::board::Board;
 use crate::calls::{Cause, Job, PostFault, Taken};
@@ -17,7 +18,7 @@ use crate::lock_per_box::outstanding::{
 };
 use crate::lock_per_box::pass::{BoxPass, BoxTold};
 use crate::lock_per_box::rule::Boxes;
-use crate::lock_per_box::visiting::{enter_box, leave_box};
+use crate::lock_per_box::visiting::{enter_box, first_word, leave_box};
 use crate::mail::Mail;
 use crate::world::Shown;
 use atomic_table::Table;
@@ -53,6 +54,25 @@ fn take_out<M: Copy, A: Allocator>(mailbox: &mut Mailbox<M, A>) -> Taken<M>
         None => Taken::Empty,
         Some((take, _, message)) => Taken::Message(Job { take }, message),
     }
+}
+
+/// Records that a take is completed, and then takes the oldest message that is not taken, if there is one and the
+/// word found does not say that the board is aborted.
+fn finish<M: Copy, A: Allocator>(
+    mailbox: &mut Mailbox<M, A>,
+    take: u64,
+    found: u64,
+) -> Option<(Job, M)>
+    requires taken { take < length (takes mailbox.old) }
+    requires open { Contains (dones mailbox.old) take → ⊥ }
+    ensures { Finished take found result mailbox.old mailbox.new }
+{
+    mailbox.done(take);
+    if found >= ABORTED {
+        return None;
+    }
+    let (take, _, message) = mailbox.take_from()?;
+    Some((Job { take }, message))
 }
 
 /// Puts a message into mailbox `to`, whose lock the seat is inside, if the board is not aborted, and counts it up.
@@ -199,6 +219,46 @@ impl<M: Mail<W>, W, A: Allocator> Board<M, W, A> for LockPerBox<M, W, A> {
         leave_box(shared, &mut pass.seat, pass.number);
         count_down(shared, &mut pass.seat);
         Ok(())
+    }
+
+    #[inline(always)]
+    fn turn<R: Wait>(
+        &self,
+        rt: &R,
+        pass: &mut BoxPass<M, W, A>,
+        job: Job,
+    ) -> Result<Taken<M>, (Option<Job>, Spent)> {
+        if pass.left < 2 {
+            return match self.done(rt, pass, job) {
+                Ok(()) => Err((None, Spent)),
+                Err((job, Spent)) => Err((Some(job), Spent)),
+            };
+        }
+        pass.left -= 1;
+        let Job { take } = job;
+        let shared = &self.table.shared;
+        let seat = &mut pass.seat;
+        let found = look(shared, seat);
+        enter_box(rt, shared, seat, pass.number);
+        let mailbox = value_at(seat, shared, usize::from(pass.number));
+        let next = finish(mailbox, take, found);
+        leave_box(shared, seat, pass.number);
+        count_down(shared, seat);
+        match next {
+            Some((job, message)) => {
+                // The visit was that of a Done and of a Take.
+                pass.left -= 1;
+                Ok(Taken::Message(job, message))
+            }
+            None => match self.take(rt, pass) {
+                Ok(taken) => Ok(taken),
+                Err(Spent) => Err((None, Spent)),
+            },
+        }
+    }
+
+    fn visits(&self, pass: &BoxPass<M, W, A>) -> u64 {
+        self.table.shared.peek(first_word(pass.number) + 1)
     }
 
     fn abort<R: Wait>(&self, rt: &R, pass: &mut BoxPass<M, W, A>, job: Option<Job>, cause: Cause) {

@@ -28,14 +28,14 @@ impl<W, M: Mail<W>, A: Allocator> LockRule<
     Ground<M, W>,
 > for Boxes {
     ghost use Rattle.switchboard.specs.Knowing.{hand_at};
-    ghost use Rattle.switchboard.specs.PerBox.{IsBox, LeavesOneEvent, TellsOrder};
+    ghost use Rattle.switchboard.specs.PerBox.{IsBox, LeavesEvents, TellsOrder};
     ghost use Rattle.switchboard.specs.Proved.PerBoxOpens.{boxes_open};
 
     ghost is_place = { IsBox };
 
     ghost see = { hand_at };
 
-    ghost asks = { LeavesOneEvent M.fits };
+    ghost asks = { LeavesEvents M.fits };
 
     ghost tells = { TellsOrder M.fits };
 

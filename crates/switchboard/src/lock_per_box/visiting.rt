@@ -3,7 +3,7 @@ ghost use Rattle.std.specs.Prelude.{◌≡◌, List};
 ghost use Rattle.ticket_lock.specs.Calls.{IsSameSeat, MayPass, Passed};
 ghost use Rattle.post_ledger.specs.declared.event.Event.{Event};
 ghost use Rattle.switchboard.specs.Knowing.{hand_at};
-ghost use Rattle.switchboard.specs.PerBox.{word_of, IsBoxOf, CanDraw, IsInside, LeavesOneEvent};
+ghost use Rattle.switchboard.specs.PerBox.{word_of, IsBoxOf, CanDraw, IsInside, LeavesEvents};
 ghost use Rattle.switchboard.specs.PerBox.{TellsOrder};
 
 use crate::lock_per_box::outstanding::{Boards, BoxSeat};
@@ -16,7 +16,7 @@ use ticket_lock::{come_when_free_at, serve_next_at};
 /// How many words lie between the locks of two mailboxes: 64 bytes, so that no two share a cache line.
 pub(crate) const STRIDE: usize = 8;
 
-fn first_word(number: u8) -> usize
+pub(crate) fn first_word(number: u8) -> usize
     ensures { result ≡ word_of number }
 {
     STRIDE * (usize::from(number) + 1)
@@ -44,7 +44,7 @@ pub(crate) fn leave_box<W, M: Mail<W>, A: Allocator>(
     number: u8,
 )
     requires table { IsBoxOf shared.now.key shared.now.table_id seat.old.table_id number }
-    requires inside { MayPass (hand_at number) (LeavesOneEvent M.fits number) number seat.old.me }
+    requires inside { MayPass (hand_at number) (LeavesEvents M.fits number) number seat.old.me }
     ensures { IsSameSeat seat.old seat.new
         × Passed (hand_at number) (TellsOrder M.fits number) number seat.old.me seat.new.me }
 {

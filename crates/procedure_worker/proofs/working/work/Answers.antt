@@ -1,4 +1,4 @@
--- A new worker is ready, and so it is after each turn that does not end it.
+-- A new worker is ready, and so it is after each step that does not end it.
 use Rattle.std.proofs.Common.{refl, sym, subst}
 use Rattle.procedure_worker.specs.Stops.{end_of}
 use Rattle.procedure_worker.specs.Works.{begun_in, EndsSo, IsFounded}
@@ -14,12 +14,12 @@ loop-init g c = (
   tt,
 )
 
-pub returns-in-Some-step : goal.returns-in-Some-step
-returns-in-Some-step g c =
+pub returns-in-Err : goal.returns-in-Err
+returns-in-Err g c =
     let b = begun_in g.B.Board.identity c.args.context.now c.args.procedure in
-    let e = c.in-Some-step.finish in
+    let e = c.in-Err.finish in
     let w = c.step.new.self in
-    let stopped = c.in-Some-step.ensures in (
+    let stopped = c.in-Err.ensures in (
       w.table,
       refl,
       (

@@ -2,23 +2,19 @@
 use Rattle.std.proofs.Common.{refl, ◌∙◌, subst}
 use Rattle.std.specs.Bool.{OnFalse}
 use Rattle.summaries.specs.Tables.{IsQuiet}
-use Rattle.procedure_worker.specs.Works.{start_of, took_by}
-use Rattle.procedure_worker.proofs.Works.{complete_ends, dealt, job_to_pass, stopped_ends, took_completed, took_still}
+use Rattle.procedure_worker.specs.Works.{start_of}
+use Rattle.procedure_worker.proofs.Works.{turn_dealt, job_to_pass, stopped_ends}
 use Rattle.procedure_worker.proofs.worker.Worker.post_all_owed.Goals as goal
 
 pub returns-in-Ok-false : goal.returns-in-Ok-false
 returns-in-Ok-false g c =
-    let start = start_of g.B.Board.identity c.args.desk.now in
     let w = c.answer.new.self in
-    let s = g.B.Board.sight w.pass in
-    let t = g.B.Board.sight c.complete.new.pass in
     let answered = c.in-Ok-false.ensures in
-    let quiet = subst (λ more. OnFalse more (IsQuiet g.S.PathSet.members w.table)) c.in-Ok-false.field-0-test answered.none in
-    dealt start g.S.PathSet.members c.complete.result _ t _
-    (complete_ends start g.S.PathSet.members c.args.job c.complete.result s t w c.complete.new.pass answered.dealing quiet
-    c.complete.ensures)
-    (took_still c.complete.result (took_by t) (took_by s) _ (took_completed c.args.job c.complete.result s t c.complete.ensures)
-    (answered.takes ∙ c.loop.invariant.0.1))
+    turn_dealt (start_of g.B.Board.identity c.args.desk.now) g.S.PathSet.members c.args.job c.turn.result
+    (g.B.Board.sight c.args.self.now.pass) (g.B.Board.sight w.pass) (g.B.Board.sight c.turn.new.pass) w c.turn.new.pass
+    answered.dealing
+    (subst (λ more. OnFalse more (IsQuiet g.S.PathSet.members w.table)) c.in-Ok-false.field-0-test answered.none)
+    (answered.takes ∙ c.loop.invariant.0.1) c.turn.ensures
 
 pub returns-in-Err : goal.returns-in-Err
 returns-in-Err g c =
@@ -40,8 +36,8 @@ give_up-requires g c =
           stopped.stands.pass stopped.has;
     }
 
-pub complete-requires : goal.complete-requires
-complete-requires g c =
+pub turn-requires : goal.turn-requires
+turn-requires g c =
     let dealing = c.in-Ok-false.ensures.dealing in
     let pass = dealing.sent.0.stands.pass in record {
       board = pass.board;
