@@ -9,14 +9,14 @@ use lib.ListN.{get_elem?}
 use Rattle.atomic_table.specs.Table as table
 use Rattle.atomic_table.specs.Seated.{TableId}
 use Rattle.ticket_lock.specs.declared.hand.Hand.{Hand}
-use Rattle.ticket_lock.specs.History.{StartsWith, EndsIn}
+use Rattle.ticket_lock.specs.History.{StartsWith}
 use Rattle.ticket_lock.specs.Turns.{passes, with_leave}
 use Rattle.ticket_lock.specs.Calls as lock
 use Rattle.ticket_lock.specs.Proved.Facts.{StartsWith-refl, StartsWith-trans, EndsIn-same}
 use Rattle.ticket_lock.proofs.HistoryFacts.{StartsWith-length}
 use Rattle.post_ledger.specs.declared.event.Event.{Event}
 use Rattle.post_ledger.specs.declared.entry.Entry.{Entry}
-use Rattle.post_ledger.specs.Orders.{own, maker_of, IsClosed}
+use Rattle.post_ledger.specs.Orders.{own, maker_of, HasJob, IsClosed}
 use Rattle.post_ledger.proofs.Orders.{own-append, own_here}
 use Rattle.switchboard.specs.declared.calls.Abort.{Abort}
 use Rattle.switchboard.specs.declared.lock_per_box.knowing.Ground.{Ground}
@@ -24,10 +24,15 @@ use Rattle.switchboard.specs.declared.lock_per_box.knowing.Seen.{Seen}
 use Rattle.switchboard.specs.declared.lock_per_box.knowing.Own.{Own}
 use Rattle.switchboard.specs.Sights.{Sight, IsSound}
 use Rattle.switchboard.specs.Promises.{GoesOn, Looked, Added}
-use Rattle.switchboard.specs.Knowing.{fresh_hand, entry_of, owes_after, with_event, state_of, unseen, hand_at, with_hand}
-use Rattle.switchboard.specs.PerBox.{SeatView, Seat, News, HasOwn, IsInside, Recorded, TellsOrder}
+use Rattle.switchboard.specs.Proved.Entries.{job_stays}
+use Rattle.switchboard.specs.Knowing.{fresh_hand, entry_of, unseen, hand_at, with_hand, counted_down}
+use Rattle.switchboard.specs.PerBox.{SeatView, Seat, News, HasOwn, IsInside, LookedAtWord, CountedUp, Recorded, TellsOrder}
 use Rattle.switchboard.specs.BoxPasses.{IsIdleHand, state_seen, box_sight, IsSeen, IsBoxPass}
 use Rattle.switchboard.proofs.Visits.{some_later}
+
+-- a seat that has counted down differs in that alone
+pub is_counted_down : {M W : Type 0} (u z : Seat M W) → z ≡ (counted_down u.0, u.1) → z ≡ (record u.0 { owes = z.0.owes }, u.1)
+is_counted_down {M} {W} u z is = is ∙ ap (λ k. (record u.0 { owes = k }, u.1)) (sym (ap (λ (k : Seat M W). k.0.owes) is))
 
 module _ {M W : Type 0} (fits : W → ℕ → M → Type 0) where
   -- what a pass sees continues from what it had seen
@@ -78,25 +83,19 @@ module _ {M W : Type 0} (fits : W → ℕ → M → Type 0) where
         } (s.known e);
   }
 
-  -- a pass was inside the lock of a mailbox, found x, and left y
-  pub record Visit (q : ℕ) (x y : List (Event M)) (b in_it v out : Seat M W) : Type 0 where
-    pub inside : IsInside fits q x b in_it
-    pub hands : v.0.hands ≡ in_it.0.hands
-    pub slots : table.rest v.1 ≡ table.rest in_it.1
+  -- a pass entered the lock of a mailbox, found x, and left y
+  pub record Visit (q : ℕ) (x y : List (Event M)) (b v out : Seat M W) : Type 0 where
+    pub inside : IsInside fits q x b v
     pub left : lock.Left (hand_at q) (TellsOrder fits q) y v out
 
-  module _ (q : ℕ) (x y : List (Event M)) (b in_it v out : Seat M W) (visit : Visit q x y b in_it v out) where
-    same_hand : hand_at q v.0 ≡ hand_at q in_it.0
-    same_hand = ap (λ l. get_or l q (fresh_hand 0)) visit.hands
-
+  module _ (q : ℕ) (x y : List (Event M)) (b v out : Seat M W) (visit : Visit q x y b v out) where
     pub visit_tells : TellsOrder fits q (passes x y) v.0 out.0
     visit_tells =
         let t = visit.left.2 in
-        let ends : EndsIn (hand_at q in_it.0).seen t.0 = subst (λ (h : Hand (List (Event M))). EndsIn h.seen t.0) same_hand t.1 in
-        subst (λ z. TellsOrder fits q (passes z y) v.0 out.0) (EndsIn-same (hand_at q in_it.0).seen t.0 x ends visit.inside.found) t.2
+        subst (λ z. TellsOrder fits q (passes z y) v.0 out.0) (EndsIn-same (hand_at q v.0).seen t.0 x t.1 visit.inside.found) t.2
 
     pub visit_out : out.1 ≡ b.1
-    visit_out = visit.left.0 ∙ (visit.slots ∙ ap table.rest visit.inside.lies)
+    visit_out = visit.left.0 ∙ ap table.rest visit.inside.lies
 
     -- it has one ticket fewer to draw in that lock, and is ready again
     pub visit_hands : (left boxes : ℕ) → (left ≡ 0 → ⊥) → ((k : ℕ) → k < boxes → IsIdleHand left (hand_at k b.0))
@@ -106,28 +105,18 @@ module _ {M W : Type 0} (fits : W → ℕ → M → Type 0) where
         let was = idle q (subst (λ i. i < boxes) e near) in
         let h : hand_at q out.0 ≡ with_leave y (hand_at q v.0) = visit.left.1 in
         record {
-          tickets = ap (λ (z : Hand (List (Event M))). z.tickets) h
-              ∙ (ap (λ (z : Hand (List (Event M))). z.tickets) same_hand ∙ visit.inside.tickets);
+          tickets = ap (λ (z : Hand (List (Event M))). z.tickets) h ∙ visit.inside.tickets;
           inside = ap (λ (z : Hand (List (Event M))). z.inside) h;
-          parts = ap (λ (z : Hand (List (Event M))). z.parts) h
-              ∙ (ap (λ (z : Hand (List (Event M))). z.parts) same_hand ∙ (visit.inside.parts ∙ was.parts));
-          drawn =
-              omega (
-                arith,
-                ap (λ (z : Hand (List (Event M))). length z.drawn) h,
-                ap (λ (z : Hand (List (Event M))). length z.drawn) same_hand,
-                visit.inside.drawn,
-                was.drawn,
-                some_of,
-              );
+          parts = ap (λ (z : Hand (List (Event M))). z.parts) h ∙ (visit.inside.parts ∙ was.parts);
+          drawn = omega (arith, ap (λ (z : Hand (List (Event M))). length z.drawn) h, visit.inside.drawn, was.drawn, some_of);
         }))
         (λ (ne : k ≢ q).
         let was = idle k near in
         let there : hand_at k out.0 ≡ hand_at k b.0 =
         ap (λ l. get_or l k (fresh_hand 0)) hands
-        ∙ (get_or-set_other v.0.hands q k (hand_at q out.0) (fresh_hand 0) ne ∙ (ap (λ l. get_or l k (fresh_hand 0)) visit.hands
+        ∙ (get_or-set_other v.0.hands q k (hand_at q out.0) (fresh_hand 0) ne
         ∙ (ap (λ (z : SeatView M W). get_or z.hands k (fresh_hand 0)) visit.inside.after
-        ∙ get_or-set_other b.0.hands q k (hand_at q in_it.0) (fresh_hand 0) ne))) in
+        ∙ get_or-set_other b.0.hands q k (hand_at q v.0) (fresh_hand 0) ne)) in
         subst (λ h. IsIdleHand (left - 1) h)
         (sym there) record { tickets = was.tickets; inside = was.inside; parts = was.parts; drawn = omega (arith, was.drawn) })
 
@@ -147,10 +136,21 @@ module _ {M W : Type 0} (fits : W → ℕ → M → Type 0) where
         → Later w boxes m.0.seen y
     step_later v y same l n = later_next w boxes p.base m.0.seen v y (ap (λ l. get_elem? l 0) same ∙ p.is_base) p.world p.mailboxes l n
 
+    -- and after its first step
+    pub next_later : (y : Seen M) → News fits m.0 y → Later w boxes m.0.seen y
+    next_later y news = step_later m.0 y refl first_later news
+
     -- the pass made none but its own events
     pub own_same : (v : SeatView M W) (order : List (Entry M)) → v.lanes ≡ m.0.lanes → HasOwn fits v order
         → own number order ≡ own number m.0.seen.order
     own_same v order same has = has 0 own_part (ap (λ l. get_elem? l 0) (same ∙ p.lanes))
+
+    -- so it has its jobs still
+    pub still_has : (job : ℕ) (s : Sight M W) (order : List (Entry M)) → sight ≡ s → HasJob s.number job s.seen.order
+        → own number order ≡ own number m.0.seen.order → HasJob number job order
+    still_has job s order see has list =
+        job_stays number job m.0.seen.order order (sym list)
+        (subst (λ (z : Sight M W). HasJob z.number job z.seen.order) (sym see) has)
 
     pub goes : (id' : TableId) (left' : ℕ) (made' : Bool) (x : Seen M) → id' ≡ id → Later w boxes m.0.seen x
         → (made' ≡ true → IsSome x.aborted) → GoesOn fits sight (box_sight id' number left' made' w boxes x)
@@ -197,23 +197,89 @@ module _ {M W : Type 0} (fits : W → ℕ → M → Type 0) where
         → u.lanes ≡ record { number = number; events = own number u.seen.order; made = made } ∷ []
     same_lanes u same list = same ∙ (p.lanes ∙ ap (λ l. record { number = number; events = l; made = made } ∷ []) (sym list))
 
-    -- a pass that looked, and did no more
-    pub look_on : (id' : TableId) (u : Seat M W) → id' ≡ id → (left ≡ 0 → ⊥)
-        → u ≡ (Rattle.switchboard.specs.Knowing.with_seen u.0.seen m.0, m.1) → News fits m.0 u.0.seen → HasOwn fits m.0 u.0.seen.order
-        → IsBoxPass fits id' number (left - 1) made w boxes u × Looked fits sight (box_sight id' number (left - 1) made w boxes u.0.seen)
-    look_on id' u same some_of is news has =
-        let l = step_later m.0 u.0.seen refl first_later news in
-        let list = own_same m.0 u.0.seen.order refl has in
-        let l' = l in (
-          pass_on id' (left - 1) made u same (ap (λ (z : Seat M W). z.0.boards) is)
-              (same_lanes u.0 (ap (λ (z : Seat M W). z.0.lanes) is) list) (ap (λ (z : Seat M W). z.1) is ∙ p.outside)
-              (ap (λ (z : Seat M W). z.0.told) is ∙ p.told) (ap (λ (z : Seat M W). z.0.owes) is ∙ p.owes)
-              (omega (arith, ap (λ (z : Seat M W). z.0.budget) is, p.budget))
-              (λ q near. let was = p.hands q near in subst (λ h. IsIdleHand (left - 1) h) (sym (ap (λ (z : Seat M W). hand_at q z.0) is))
-              record { tickets = was.tickets; inside = was.inside; parts = was.parts; drawn = omega (arith, was.drawn) })
-              (seen_on w boxes made m.0.seen u.0.seen p.seen l),
-          looked_is id' u.0.seen same some_of l list,
-        )
+    -- In a call, before it enters a mailbox: the seat is as it was but for what it sees and what it has in the count.
+    pub record Outside (u : Seat M W) : Type 0 where
+      pub boards : u.0.boards ≡ m.0.boards
+      pub hands : u.0.hands ≡ m.0.hands
+      pub lanes : u.0.lanes ≡ m.0.lanes
+      pub told : u.0.told ≡ m.0.told
+      pub slots : u.1 ≡ m.1
+      pub budget : left ≤ u.0.budget + 1
+      pub later : Later w boxes m.0.seen u.0.seen
+      pub list : own number u.0.seen.order ≡ own number m.0.seen.order
+
+    -- when it has done nothing yet,
+    pub outside_now : Outside m
+    outside_now = record {
+      boards = refl;
+      hands = refl;
+      lanes = refl;
+      told = refl;
+      slots = refl;
+      budget = omega (arith, p.budget);
+      later = first_later;
+      list = refl;
+    }
+
+    -- looked,
+    pub outside_looked : (n : ℕ) (u : Seat M W) → LookedAtWord fits m n u → Outside u
+    outside_looked n u looked =
+        let is = looked.after in
+        record {
+          boards = ap (λ (z : Seat M W). z.0.boards) is;
+          hands = ap (λ (z : Seat M W). z.0.hands) is;
+          lanes = ap (λ (z : Seat M W). z.0.lanes) is;
+          told = ap (λ (z : Seat M W). z.0.told) is;
+          slots = ap (λ (z : Seat M W). z.1) is;
+          budget = omega (arith, ap (λ (z : Seat M W). z.0.budget) is, p.budget);
+          later = next_later u.0.seen looked.news;
+          list = own_same m.0 u.0.seen.order refl looked.own;
+        }
+
+    -- or looked and counted up
+    pub outside_counted : (job n : ℕ) (u : Seat M W) → CountedUp fits job m n u → Outside u
+    outside_counted job n u counted =
+        let is = counted.2 in
+        let l = outside_looked n counted.0 counted.1 in
+        let seen : u.0.seen ≡ counted.0.0.seen = ap (λ (z : Seat M W). z.0.seen) is in
+        record {
+          boards = ap (λ (z : Seat M W). z.0.boards) is ∙ l.boards;
+          hands = ap (λ (z : Seat M W). z.0.hands) is ∙ l.hands;
+          lanes = ap (λ (z : Seat M W). z.0.lanes) is ∙ l.lanes;
+          told = ap (λ (z : Seat M W). z.0.told) is ∙ l.told;
+          slots = ap (λ (z : Seat M W). z.1) is ∙ l.slots;
+          budget =
+              omega (arith, ap (λ (z : Seat M W). z.0.budget) is, ap (λ (z : Seat M W). z.0.budget) counted.1.after, p.budget);
+          later = subst (λ z. Later w boxes m.0.seen z) (sym seen) l.later;
+          list = ap (λ (z : Seen M). own number z.order) seen ∙ l.list;
+        }
+
+    -- a call that ends there
+    module _ (u : Seat M W) (outside : Outside u) (z : Seat M W) (is : z ≡ (record u.0 { owes = z.0.owes }, u.1)) where
+      seen : z.0.seen ≡ u.0.seen
+      seen = ap (λ (k : Seat M W). k.0.seen) is
+
+      later : Later w boxes m.0.seen z.0.seen
+      later = subst (λ k. Later w boxes m.0.seen k) (sym seen) outside.later
+
+      list : own number z.0.seen.order ≡ own number m.0.seen.order
+      list = ap (λ (k : Seen M). own number k.order) seen ∙ outside.list
+
+      pub stays_on : (id' : TableId) → id' ≡ id → (left ≡ 0 → ⊥) → z.0.owes ≡ 0 → IsBoxPass fits id' number (left - 1) made w boxes z
+      stays_on id' same some_of owes =
+          pass_on id' (left - 1) made z same (ap (λ (k : Seat M W). k.0.boards) is ∙ outside.boards)
+          (same_lanes z.0 (ap (λ (k : Seat M W). k.0.lanes) is ∙ outside.lanes) list)
+          (ap (λ (k : Seat M W). k.1) is ∙ (outside.slots ∙ p.outside)) (ap (λ (k : Seat M W). k.0.told) is ∙ (outside.told ∙ p.told))
+          owes (omega (arith, ap (λ (k : Seat M W). k.0.budget) is, outside.budget))
+          (λ q near. let was = p.hands q near in
+          subst (λ h. IsIdleHand (left - 1) h)
+          (sym (ap (λ l. get_or l q (fresh_hand 0)) (ap (λ (k : Seat M W). k.0.hands) is ∙ outside.hands)))
+          record { tickets = was.tickets; inside = was.inside; parts = was.parts; drawn = omega (arith, was.drawn) })
+          (seen_on w boxes made m.0.seen z.0.seen p.seen later)
+
+      pub stays_looked : (id' : TableId) → id' ≡ id → (left ≡ 0 → ⊥)
+          → Looked fits sight (box_sight id' number (left - 1) made w boxes z.0.seen)
+      stays_looked id' same some_of = looked_is id' z.0.seen same some_of later list
 
     -- a seat of the pass recorded an event of the pass's own
     module _ (q : ℕ) (x : List (Event M)) (v o : SeatView M W) (board : v.boards ≡ m.0.boards) (later : Later w boxes m.0.seen v.seen)
@@ -243,56 +309,113 @@ module _ {M W : Type 0} (fits : W → ℕ → M → Type 0) where
         own = own_after;
       }
 
-    module _ (q : ℕ) (x y : List (Event M)) (b in_it v out : Seat M W) (visit : Visit q x y b in_it v out)
-        (idle : (k : ℕ) → k < boxes → IsIdleHand left (hand_at k b.0)) (b_out : b.1 ≡ m.1) (some_of : left ≡ 0 → ⊥)
-        (board : v.0.boards ≡ m.0.boards) (lanes : v.0.lanes ≡ m.0.lanes) (told : v.0.told ≡ m.0.told) (budget : left ≤ v.0.budget + 1)
-        (later : Later w boxes m.0.seen v.0.seen) where
+    -- In a call, inside a mailbox, which it entered from b: but for its hand and what it sees it is as it was there.
+    pub record Within (b v : Seat M W) : Type 0 where
+      pub boards : v.0.boards ≡ m.0.boards
+      pub lanes : v.0.lanes ≡ m.0.lanes
+      pub told : v.0.told ≡ m.0.told
+      pub owes : v.0.owes ≡ b.0.owes
+      pub under : v.0.under ≡ b.0.under
+      pub budget : left ≤ v.0.budget + 1
+      pub later : Later w boxes m.0.seen v.0.seen
+      pub list : own number v.0.seen.order ≡ own number m.0.seen.order
+
+    pub within_is : (q : ℕ) (x : List (Event M)) (b v : Seat M W) → Outside b → IsInside fits q x b v → Within b v
+    within_is q x b v outside inside =
+        let is = inside.after in
+        record {
+          boards = ap (λ (z : SeatView M W). z.boards) is ∙ outside.boards;
+          lanes = ap (λ (z : SeatView M W). z.lanes) is ∙ outside.lanes;
+          told = ap (λ (z : SeatView M W). z.told) is ∙ outside.told;
+          owes = ap (λ (z : SeatView M W). z.owes) is;
+          under = ap (λ (z : SeatView M W). z.under) is;
+          budget = omega (arith, ap (λ (z : SeatView M W). z.budget) is, outside.budget);
+          later = step_later b.0 v.0.seen outside.boards outside.later inside.news;
+          list = own_same b.0 v.0.seen.order outside.lanes inside.own;
+        }
+
+    -- In a call, after it left the mailbox: it has its own events there still.
+    pub record Departed (q : ℕ) (v out : Seat M W) : Type 0 where
+      pub boards : out.0.boards ≡ v.0.boards
+      pub hands : out.0.hands ≡ set v.0.hands q (hand_at q out.0)
+      pub lanes : out.0.lanes ≡ record { number = number; events = own number out.0.seen.order; made = made } ∷ []
+      pub told : out.0.told ≡ v.0.told
+      pub budget : out.0.budget ≡ v.0.budget
+      pub later : Later w boxes m.0.seen out.0.seen
+
+    module _ (q : ℕ) (x y : List (Event M)) (b v out : Seat M W) (outside : Outside b) (visit : Visit q x y b v out) where
+      abbrev within : Within b v
+      within = within_is q x b v outside visit.inside
+
+      -- a call that ends there: the pass has some calls fewer
+      pub departed_on : Departed q v out → (id' : TableId) → id' ≡ id → (calls : ℕ) → calls < left → (z : Seat M W)
+          → z ≡ (record out.0 { owes = z.0.owes }, out.1) → z.0.owes ≡ 0 → IsBoxPass fits id' number calls made w boxes z
+      departed_on d id' same calls fewer z is none =
+          let seen : z.0.seen ≡ out.0.seen = ap (λ (k : Seat M W). k.0.seen) is in
+          pass_on id' calls made z same (ap (λ (k : Seat M W). k.0.boards) is ∙ (d.boards ∙ within.boards))
+          (ap (λ (k : Seat M W). k.0.lanes) is
+          ∙ (d.lanes
+          ∙ ap (λ (k : Seen M). record { number = number; events = own number k.order; made = made } ∷ []) (sym seen)))
+          (ap (λ (k : Seat M W). k.1) is ∙ (visit_out q x y b v out visit ∙ (outside.slots ∙ p.outside)))
+          (ap (λ (k : Seat M W). k.0.told) is ∙ (d.told ∙ (within.told ∙ p.told))) none
+          (omega (arith, ap (λ (k : Seat M W). k.0.budget) is, d.budget, within.budget, fewer))
+          (λ k near.
+          let hand =
+          visit_hands q x y b v out visit left boxes (λ e. omega (arith, e, fewer))
+          (λ j by. subst (λ h. IsIdleHand left h) (sym (ap (λ l. get_or l j (fresh_hand 0)) outside.hands)) (p.hands j by))
+          d.hands k near in
+          subst (λ h. IsIdleHand calls h) (sym (ap (λ (j : Seat M W). hand_at k j.0) is))
+          record { tickets = hand.tickets; inside = hand.inside; parts = hand.parts; drawn = omega (arith, hand.drawn, fewer) })
+          (seen_on w boxes made m.0.seen z.0.seen p.seen (subst (λ k. Later w boxes m.0.seen k) (sym seen) d.later))
+
       -- it left the mailbox as it was
-      pub stays_on : (id' : TableId) → id' ≡ id → y ≡ x → v.0.owes ≡ 0 → own number v.0.seen.order ≡ own number m.0.seen.order
-          → IsBoxPass fits id' number (left - 1) made w boxes out
-          × Looked fits sight (box_sight id' number (left - 1) made w boxes out.0.seen) × (out.0.seen ≡ v.0.seen)
-      stays_on id' same unchanged owes list =
-          let is : out.0 ≡ with_hand q (hand_at q out.0) v.0 = (visit_tells q x y b in_it v out visit).0 unchanged in
-          let seen : out.0.seen ≡ v.0.seen = ap (λ (z : SeatView M W). z.seen) is in
-          let l : Later w boxes m.0.seen out.0.seen = subst (λ z. Later w boxes m.0.seen z) (sym seen) later in
-          let list' : own number out.0.seen.order ≡ own number m.0.seen.order = ap (λ (z : Seen M). own number z.order) seen ∙ list in (
-            pass_on id' (left - 1) made out same (ap (λ (z : SeatView M W). z.boards) is ∙ board)
-                (same_lanes out.0 (ap (λ (z : SeatView M W). z.lanes) is ∙ lanes) list')
-                (visit_out q x y b in_it v out visit ∙ (b_out ∙ p.outside))
-                (ap (λ (z : SeatView M W). z.told) is ∙ (told ∙ p.told)) (ap (λ (z : SeatView M W). z.owes) is ∙ owes)
-                (omega (arith, ap (λ (z : SeatView M W). z.budget) is))
-                (visit_hands q x y b in_it v out visit left boxes some_of idle (ap (λ (z : SeatView M W). z.hands) is))
-                (seen_on w boxes made m.0.seen out.0.seen p.seen l),
-            looked_is id' out.0.seen same some_of l list',
-            seen,
-          )
+      module _ (unchanged : y ≡ x) where
+        is_same : out.0 ≡ with_hand q (hand_at q out.0) v.0
+        is_same = (visit_tells q x y b v out visit).0 unchanged
+
+        pub same_seen : out.0.seen ≡ v.0.seen
+        same_seen = ap (λ (z : SeatView M W). z.seen) is_same
+
+        pub same_owes : out.0.owes ≡ b.0.owes
+        same_owes = ap (λ (z : SeatView M W). z.owes) is_same ∙ within.owes
+
+        list_same : own number out.0.seen.order ≡ own number m.0.seen.order
+        list_same = ap (λ (z : Seen M). own number z.order) same_seen ∙ within.list
+
+        pub departed_same : Departed q v out
+        departed_same = record {
+          boards = ap (λ (z : SeatView M W). z.boards) is_same;
+          hands = ap (λ (z : SeatView M W). z.hands) is_same;
+          lanes = same_lanes out.0 (ap (λ (z : SeatView M W). z.lanes) is_same ∙ within.lanes) list_same;
+          told = ap (λ (z : SeatView M W). z.told) is_same;
+          budget = ap (λ (z : SeatView M W). z.budget) is_same;
+          later = subst (λ z. Later w boxes m.0.seen z) (sym same_seen) within.later;
+        }
+
+        pub same_looked : (id' : TableId) → id' ≡ id → (left ≡ 0 → ⊥)
+            → Looked fits sight (box_sight id' number (left - 1) made w boxes out.0.seen)
+        same_looked id' same some_of = looked_is id' out.0.seen same some_of departed_same.later list_same
 
       -- it recorded an event of its own
       module _ (e : Event M) (grown : y ≡ x ++ e ∷ []) (maker : maker_of (entry_of q v.0.under e) ≡ number) where
         pub recorded_is : Recorded fits q own_part e x v.0 out.0
-        recorded_is = (visit_tells q x y b in_it v out visit).1 own_part e (lanes ∙ p.lanes) grown
+        recorded_is = (visit_tells q x y b v out visit).1 own_part e (within.lanes ∙ p.lanes) grown
 
-        abbrev pub added_is : (id' : TableId) → id' ≡ id
-            → Added fits (entry_of q v.0.under e) sight (box_sight id' number (left - 1) made w boxes out.0.seen)
-        added_is id' same = added_after q x v.0 out.0 board later e maker recorded_is id' same some_of
-
-        pub record_on : (id' : TableId) (u : Seat M W) → id' ≡ id → u.0.boards ≡ out.0.boards → u.0.hands ≡ out.0.hands
-            → u.0.lanes ≡ out.0.lanes → u.0.seen ≡ out.0.seen → u.0.told ≡ out.0.told → u.0.budget ≡ out.0.budget → u.0.owes ≡ 0
-            → u.1 ≡ out.1
-            → IsBoxPass fits id' number (left - 1) made w boxes u
-        record_on id' u same board' hands lanes' seen told' budget' owes slots =
+        pub departed_recorded : Departed q v out
+        departed_recorded =
             let is = recorded_is.after in
-            let l : Later w boxes m.0.seen u.0.seen =
-            subst (λ z. Later w boxes m.0.seen z) (sym seen) (later_after q x v.0 out.0 board later e maker recorded_is) in
-            pass_on id' (left - 1) made u same (board' ∙ (ap (λ (z : SeatView M W). z.boards) is ∙ board))
-            (lanes'
-            ∙ (ap (λ (z : SeatView M W). z.lanes) is
-            ∙ ap (λ l. record { number = number; events = l; made = made } ∷ [])
-            (sym (ap (λ (z : Seen M). own number z.order) seen ∙ own_after q x v.0 out.0 board later e maker recorded_is))))
-            (slots ∙ (visit_out q x y b in_it v out visit ∙ (b_out ∙ p.outside)))
-            (told' ∙ (ap (λ (z : SeatView M W). z.told) is ∙ (told ∙ p.told))) owes
-            (omega (arith, budget', ap (λ (z : SeatView M W). z.budget) is))
-            (λ k near.
-            subst (λ h. IsIdleHand (left - 1) h) (sym (ap (λ l. get_or l k (fresh_hand 0)) hands))
-            (visit_hands q x y b in_it v out visit left boxes some_of idle (ap (λ (z : SeatView M W). z.hands) is) k near))
-            (seen_on w boxes made m.0.seen u.0.seen p.seen l)
+            record {
+              boards = ap (λ (z : SeatView M W). z.boards) is;
+              hands = ap (λ (z : SeatView M W). z.hands) is;
+              lanes =
+                  ap (λ (z : SeatView M W). z.lanes) is
+                  ∙ ap (λ l. record { number = number; events = l; made = made } ∷ [])
+                  (sym (own_after q x v.0 out.0 within.boards within.later e maker recorded_is));
+              told = ap (λ (z : SeatView M W). z.told) is;
+              budget = ap (λ (z : SeatView M W). z.budget) is;
+              later = later_after q x v.0 out.0 within.boards within.later e maker recorded_is;
+            }
+
+        abbrev pub added_is : (id' : TableId) → id' ≡ id → (left ≡ 0 → ⊥)
+            → Added fits (entry_of q v.0.under e) sight (box_sight id' number (left - 1) made w boxes out.0.seen)
+        added_is id' same some_of = added_after q x v.0 out.0 within.boards within.later e maker recorded_is id' same some_of

@@ -1,5 +1,5 @@
 -- What a completion and an abort of the board with a lock for each mailbox promise.
-use Rattle.std.proofs.Common.{◌≡◌, inl, inr, ℕ, ◌+◌, ◌-◌, ◌<◌, ◌≤◌, Bool, true, false, List, [], ◌∷◌, ◌++◌, map, length, Contains, Some}
+use Rattle.std.proofs.Common.{◌≡◌, inl, inr, ℕ, ◌+◌, ◌-◌, ◌<◌, Bool, true, false, List, [], ◌∷◌, ◌++◌, map, length, Contains, Some}
 use Rattle.std.proofs.Common.{refl, sym, ap, ◌∙◌, subst, arith}
 use Rattle.std.specs.Prelude.{IsSome, is_some}
 use Rattle.atomic_table.specs.Table.{rest}
@@ -17,12 +17,11 @@ use Rattle.switchboard.specs.declared.calls.Cause.{Cause}
 use Rattle.switchboard.specs.declared.lock_per_box.knowing.Seen.{Seen}
 use Rattle.switchboard.specs.Sights.{Sight}
 use Rattle.switchboard.specs.Promises.{WasDone, Added, MadeAbort}
-use Rattle.switchboard.specs.Proved.Entries.{job_stays}
 use Rattle.switchboard.specs.Knowing.{hand_at, counted_down, made_abort}
 use Rattle.switchboard.specs.PerBox.{SeatView, LeavesEvents, TellsOrder, IsInside, Raised, Seat}
 use Rattle.switchboard.specs.BoxPasses.{IsIdleHand, box_sight, IsBoxPass}
-use Rattle.switchboard.proofs.BoxCalls.{Later, Visit, own_part, first_later, step_later, own_same, goes, pass_on, recorded_is, added_is}
-use Rattle.switchboard.proofs.BoxCalls.{record_on}
+use Rattle.switchboard.proofs.BoxCalls.{Later, Visit, Outside, outside_now, Within, within_is, own_part, next_later, own_same, still_has}
+use Rattle.switchboard.proofs.BoxCalls.{goes, pass_on, recorded_is, departed_on, departed_recorded, added_is, is_counted_down}
 use Rattle.switchboard.proofs.BoxVisits.{lent_is, may_leave, has_left}
 
 module _ {M W : Type 0} (fits : W → ℕ → M → Type 0) (id : TableId) (number left : ℕ) (made : Bool) (w : W) (boxes : ℕ) (m : Seat M W)
@@ -36,17 +35,18 @@ module _ {M W : Type 0} (fits : W → ℕ → M → Type 0) (id : TableId) (numb
     found : lent ≡ x
     found = lent_is fits number x m v inside k slot lent lies
 
-    list : own number v.0.seen.order ≡ own number m.0.seen.order
-    list = own_same fits id number left made w boxes m p m.0 v.0.seen.order refl inside.own
+    outside : Outside fits id number left made w boxes m p m
+    outside = outside_now fits id number left made w boxes m p
+
+    within : Within fits id number left made w boxes m p m v
+    within = within_is fits id number left made w boxes m p number x m v outside inside
 
     -- the mailbox has the Take, and no Done of it
     may_complete : (take < length (takes x)) × (Contains (dones x) take → ⊥)
     may_complete =
-        let was : HasJob number job m.0.seen.order = subst (λ (z : Sight M W). HasJob z.number job z.seen.order) (sym see) has in
-        let now : HasJob number take v.0.seen.order =
-        subst (λ k. HasJob number k v.0.seen.order) (sym same_job)
-        (job_stays number job m.0.seen.order v.0.seen.order (sym list) was) in
-        subst (λ h. (take < length (takes h)) × (Contains (dones h) take → ⊥)) inside.part now
+        subst (λ h. (take < length (takes h)) × (Contains (dones h) take → ⊥)) inside.part
+        (subst (λ k. HasJob number k v.0.seen.order) (sym same_job)
+        (still_has fits id number left made w boxes m p job s v.0.seen.order see has within.list))
 
     pub may_complete_lent : (take < length (takes lent)) × (Contains (dones lent) take → ⊥)
     may_complete_lent = subst (λ h. (take < length (takes h)) × (Contains (dones h) take → ⊥)) (sym found) may_complete
@@ -55,13 +55,17 @@ module _ {M W : Type 0} (fits : W → ℕ → M → Type 0) (id : TableId) (numb
       grown : y ≡ x ++ Done take ∷ []
       grown = grown_lent ∙ ap (λ h. h ++ Done take ∷ []) found
 
-      lanes : v.0.lanes ≡ m.0.lanes
-      lanes = ap (λ (z : SeatView M W). z.lanes) inside.after
-
       done_asks : (z : List (Event M)) → EndsIn (hand_at number v.0).seen z → LeavesEvents fits number (passes z y) v.0
       done_asks z ends =
           subst (λ k. LeavesEvents fits number (passes k y) v.0) (EndsIn-same (hand_at number v.0).seen x z inside.found ends)
-          (inr (inl (own_part fits id number left made w boxes m p, Done take, lanes ∙ p.lanes, list, grown, (refl, may_complete))))
+          (inr (inl (
+            own_part fits id number left made w boxes m p,
+            Done take,
+            within.lanes ∙ p.lanes,
+            within.list,
+            grown,
+            (refl, may_complete),
+          )))
 
       pub done_leaves : lock.MayPass (hand_at number) (LeavesEvents fits number) number (v.0, (k, Some y) ∷ rest v.1)
       done_leaves = may_leave fits number x m v inside k slot y done_asks
@@ -69,47 +73,28 @@ module _ {M W : Type 0} (fits : W → ℕ → M → Type 0) (id : TableId) (numb
       module _ (out : Seat M W)
           (passed : lock.Passed (hand_at number) (TellsOrder fits number) number (v.0, (k, Some y) ∷ rest v.1) out)
           (some_of : left ≡ 0 → ⊥) where
-        gone : lock.Left (hand_at number) (TellsOrder fits number) y v out
-        gone = has_left fits number x m v inside k slot y out passed
-
-        visit : Visit fits number x y m v v out
-        visit = record { inside = inside; hands = refl; slots = refl; left = gone }
-
-        later : Later fits w boxes m.0.seen v.0.seen
-        later =
-            step_later fits id number left made w boxes m p m.0 v.0.seen refl (first_later fits id number left made w boxes m p) inside.news
-
-        board : v.0.boards ≡ m.0.boards
-        board = ap (λ (z : SeatView M W). z.boards) inside.after
-
-        told : v.0.told ≡ m.0.told
-        told = ap (λ (z : SeatView M W). z.told) inside.after
-
-        budget : left ≤ v.0.budget + 1
-        budget = omega (arith, ap (λ (z : SeatView M W). z.budget) inside.after, p.budget)
+        visit : Visit fits number x y m v out
+        visit = record { inside = inside; left = has_left fits number x m v inside k slot y out passed }
 
         -- it has its Done in the count
         pub done_owes : out.0.owes ≡ 1
         done_owes =
             ap (λ (z : SeatView M W). z.owes)
-            (recorded_is fits id number left made w boxes m p number x y m v v out visit p.hands refl some_of board lanes told budget later
-            (Done take) grown refl).after
-            ∙ omega (arith, ap (λ (z : SeatView M W). z.owes) inside.after, p.owes)
+            (recorded_is fits id number left made w boxes m p number x y m v out outside visit (Done take) grown refl).after
+            ∙ omega (arith, within.owes, p.owes)
 
         module _ (u : Seat M W) (counted : u ≡ (counted_down out.0, out.1)) (id' : TableId) (same : id' ≡ id) where
-          abbrev after : Seat M W
-          after = (counted_down out.0, out.1)
-
           pub done_on : IsBoxPass fits id' number (left - 1) made w boxes u
-          done_on = subst (λ z. IsBoxPass fits id' number (left - 1) made w boxes z) (sym counted)
-              (record_on fits id number left made w boxes m p number x y m v v out visit p.hands refl some_of board lanes told budget later
-              (Done take) grown refl id' after same refl refl refl refl refl refl (omega (arith, done_owes)) refl)
+          done_on =
+              departed_on fits id number left made w boxes m p number x y m v out outside visit
+              (departed_recorded fits id number left made w boxes m p number x y m v out outside visit (Done take) grown refl) id' same
+              (left - 1) (omega (arith, some_of)) u (is_counted_down out u counted)
+              (ap (λ (z : Seat M W). z.0.owes) counted ∙ omega (arith, done_owes))
 
           pub was_done : WasDone fits job s (box_sight id' number (left - 1) made w boxes u.0.seen)
           was_done =
               let a =
-              added_is fits id number left made w boxes m p number x y m v v out visit p.hands refl some_of board lanes told budget
-              later (Done take) grown refl id' same in
+              added_is fits id number left made w boxes m p number x y m v out outside visit (Done take) grown refl id' same some_of in
               let b : Added fits (Completed number job) before (box_sight id' number (left - 1) made w boxes out.0.seen) =
               subst
               (λ k. Added fits (Completed number k) before (box_sight id' number (left - 1) made w boxes out.0.seen)) same_job a in
@@ -124,8 +109,7 @@ module _ {M W : Type 0} (fits : W → ℕ → M → Type 0) (id : TableId) (numb
     is = ap (λ (z : Seat M W). z.0) raised.after
 
     later_raised : Later fits w boxes m.0.seen u.0.seen
-    later_raised =
-        step_later fits id number left made w boxes m p m.0 u.0.seen refl (first_later fits id number left made w boxes m p) raised.news
+    later_raised = next_later fits id number left made w boxes m p u.0.seen raised.news
 
     list_raised : own number u.0.seen.order ≡ own number m.0.seen.order
     list_raised = own_same fits id number left made w boxes m p m.0 u.0.seen.order refl raised.own

@@ -1,7 +1,6 @@
 -- What a turn of the board with a lock for each mailbox promises: a completion and a take, in one visit of the mailbox.
-use Rattle.std.proofs.Common.{◌≡◌, inl, inr, ℕ, ◌+◌, ◌-◌, ◌<◌, ◌≤◌, Bool, false, List, [], ◌∷◌, ◌++◌, length, slice_get, set}
+use Rattle.std.proofs.Common.{◌≡◌, inl, inr, ℕ, ◌+◌, ◌-◌, ◌<◌, ◌≤◌, Bool, List, [], ◌∷◌, ◌++◌, length, slice_get, set}
 use Rattle.std.proofs.Common.{Option, Some, None, Contains, refl, sym, ap, ◌∙◌, subst, arith, set-set}
-use Rattle.std.proofs.lemmas.Bool.{false_from_ne_true}
 use Rattle.atomic_table.specs.Table.{rest}
 use Rattle.atomic_table.specs.Seated.{TableId}
 use Rattle.ticket_lock.specs.History.{EndsIn}
@@ -14,22 +13,22 @@ use Rattle.post_ledger.specs.declared.entry.Entry.{Entry}
 use Rattle.post_ledger.specs.declared.entry.Entry.TheVariants as entry
 use Rattle.post_ledger.specs.History.{posts, takes, dones}
 use Rattle.post_ledger.specs.Orders.{own, part, HasJob}
-use Rattle.post_ledger.proofs.Orders.{own-append, own_here, part-append, part_here, no_job}
+use Rattle.post_ledger.proofs.Orders.{own-append, own_here, part-append, part_here}
 use Rattle.switchboard.specs.declared.calls.Taken.TheVariants as answer
 use Rattle.switchboard.specs.declared.lock_per_box.knowing.Seen.{Seen}
 use Rattle.switchboard.specs.declared.lock_per_box.knowing.Own.{Own}
 use Rattle.switchboard.specs.Sights.{Sight}
 use Rattle.switchboard.specs.Promises.{Added, WasDone, DidTurn, LeftTurn}
-use Rattle.switchboard.specs.Proved.Entries.{job_stays}
 use Rattle.switchboard.specs.Knowing.{with_event, hand_at, counted_down}
 use Rattle.switchboard.specs.PerBox.{SeatView, LeavesEvents, Recorded, RecordedTwo, TellsOrder, IsInside, LookedAtWord, Seat}
-use Rattle.switchboard.specs.BoxPasses.{IsIdleHand, box_sight, IsBoxPass}
+use Rattle.switchboard.specs.BoxPasses.{box_sight, IsBoxPass}
 use Rattle.switchboard.specs.BoxAnswers.{Finished}
 use Rattle.switchboard.proofs.Visits.{posted_fits}
-use Rattle.switchboard.proofs.BoxPuts.{not_flagged}
+use Rattle.switchboard.proofs.BoxWords.{not_flagged}
 use Rattle.switchboard.proofs.BoxVisits.{lent_is, may_leave, has_left}
-use Rattle.switchboard.proofs.BoxCalls.{Later, Visit, visit_tells, visit_out, visit_hands, seen_on, own_part, first_later, step_later}
-use Rattle.switchboard.proofs.BoxCalls.{own_same, pass_on, recorded_is, own_after, later_after, added_after}
+use Rattle.switchboard.proofs.BoxCalls.{Later, Visit, visit_tells, seen_on, own_part, still_has, step_later, Outside, outside_looked}
+use Rattle.switchboard.proofs.BoxCalls.{Within, within_is, own_after, later_after, added_after, Departed, departed_on, recorded_is}
+use Rattle.switchboard.proofs.BoxCalls.{departed_recorded, is_counted_down}
 
 module _ {M W : Type 0} (fits : W → ℕ → M → Type 0) where
   -- the calls are used up once the completion has used the last
@@ -58,34 +57,18 @@ module _ {M W : Type 0} (fits : W → ℕ → M → Type 0) where
       found : lent ≡ x
       found = lent_is fits number x u v inside k slot lent lies
 
-      lanes : v.0.lanes ≡ m.0.lanes
-      lanes = ap (λ (z : SeatView M W). z.lanes) inside.after ∙ ap (λ (z : Seat M W). z.0.lanes) looked.after
+      outside : Outside fits id number left made w boxes m p u
+      outside = outside_looked fits id number left made w boxes m p n u looked
 
-      later : Later fits w boxes m.0.seen v.0.seen
-      later =
-          let first =
-          step_later fits id number left made w boxes m p m.0 u.0.seen refl
-          (first_later fits id number left made w boxes m p) looked.news in
-          step_later fits id number left made w boxes m p u.0 v.0.seen (ap (λ (z : Seat M W). z.0.boards) looked.after) first inside.news
-
-      list : own number v.0.seen.order ≡ own number m.0.seen.order
-      list = own_same fits id number left made w boxes m p u.0 v.0.seen.order (ap (λ (z : Seat M W). z.0.lanes) looked.after) inside.own
-
-      has_now : HasJob number take v.0.seen.order
-      has_now =
-          let was : HasJob number job m.0.seen.order = subst (λ (z : Sight M W). HasJob z.number job z.seen.order) (sym see) has in
-          subst (λ k. HasJob number k v.0.seen.order) (sym same_job)
-          (job_stays number job m.0.seen.order v.0.seen.order (sym list) was)
-
-      -- whoever has a job does not know the close
-      open_still : v.0.seen.knows ≡ false
-      open_still =
-          false_from_ne_true v.0.seen.knows
-          (λ knows. no_job boxes v.0.seen.order number take later.sound.lawful (later.close knows) has_now)
+      within : Within fits id number left made w boxes m p u v
+      within = within_is fits id number left made w boxes m p number x u v outside inside
 
       -- the mailbox has the Take, and no Done of it
       may_complete : (take < length (takes x)) × (Contains (dones x) take → ⊥)
-      may_complete = subst (λ h. (take < length (takes h)) × (Contains (dones h) take → ⊥)) inside.part has_now
+      may_complete =
+          subst (λ h. (take < length (takes h)) × (Contains (dones h) take → ⊥)) inside.part
+          (subst (λ k. HasJob number k v.0.seen.order) (sym same_job)
+          (still_has fits id number left made w boxes m p job s v.0.seen.order see has within.list))
 
       pub may_finish : (take < length (takes lent)) × (Contains (dones lent) take → ⊥)
       may_finish = subst (λ h. (take < length (takes h)) × (Contains (dones h) take → ⊥)) (sym found) may_complete
@@ -101,7 +84,14 @@ module _ {M W : Type 0} (fits : W → ℕ → M → Type 0) where
           where
             alone : y ≡ x ++ event.Done take ∷ [] → LeavesEvents fits number (passes x y) v.0
             alone is =
-                inr (inl (own_part fits id number left made w boxes m p, event.Done take, lanes ∙ p.lanes, list, is, (refl, may_complete)))
+                inr (inl (
+                  own_part fits id number left made w boxes m p,
+                  event.Done take,
+                  within.lanes ∙ p.lanes,
+                  within.list,
+                  is,
+                  (refl, may_complete),
+                ))
 
             asks : (q : Option (ℕ × M)) → Finished take n q x y → LeavesEvents fits number (passes x y) v.0
             asks (Some next) t =
@@ -110,8 +100,8 @@ module _ {M W : Type 0} (fits : W → ℕ → M → Type 0) where
                   take,
                   t.0.0,
                   next.1,
-                  lanes ∙ p.lanes,
-                  list,
+                  within.lanes ∙ p.lanes,
+                  within.list,
                   t.0.3,
                   refl,
                   may_complete,
@@ -125,75 +115,32 @@ module _ {M W : Type 0} (fits : W → ℕ → M → Type 0) where
         module _ (out : Seat M W)
             (passed : lock.Passed (hand_at number) (TellsOrder fits number) number (v.0, (k, Some y) ∷ rest v.1) out)
             (two_left : 2 ≤ left) where
-          gone : lock.Left (hand_at number) (TellsOrder fits number) y v out
-          gone = has_left fits number x u v inside k slot y out passed
-
-          visit : Visit fits number x y u v v out
-          visit = record { inside = inside; hands = refl; slots = refl; left = gone }
+          visit : Visit fits number x y u v out
+          visit = record { inside = inside; left = has_left fits number x u v inside k slot y out passed }
 
           some_of : left ≡ 0 → ⊥
           some_of none = omega (arith, two_left, none)
 
-          idle : (k : ℕ) → k < boxes → IsIdleHand left (hand_at k u.0)
-          idle k near = subst (λ (z : Seat M W). IsIdleHand left (hand_at k z.0)) (sym looked.after) (p.hands k near)
-
-          board : v.0.boards ≡ m.0.boards
-          board = ap (λ (z : SeatView M W). z.boards) inside.after ∙ ap (λ (z : Seat M W). z.0.boards) looked.after
-
-          told : v.0.told ≡ m.0.told
-          told = ap (λ (z : SeatView M W). z.told) inside.after ∙ ap (λ (z : Seat M W). z.0.told) looked.after
-
-          budget : left ≤ v.0.budget + 1
-          budget =
-              omega (arith, ap (λ (z : SeatView M W). z.budget) inside.after, ap (λ (z : Seat M W). z.0.budget) looked.after, p.budget)
-
-          owes : v.0.owes ≡ 0
-          owes = ap (λ (z : SeatView M W). z.owes) inside.after ∙ (ap (λ (z : Seat M W). z.0.owes) looked.after ∙ p.owes)
-
-          slots : u.1 ≡ m.1
-          slots = ap (λ (z : Seat M W). z.1) looked.after
-
           abbrev mine : Own M
           mine = own_part fits id number left made w boxes m p
 
-          -- what the seat is after the visit
-          record Turned : Type 0 where
-            boards : out.0.boards ≡ v.0.boards
-            hands : out.0.hands ≡ set v.0.hands number (hand_at number out.0)
-            lane : out.0.lanes ≡ record { number = number; events = own number out.0.seen.order; made = made } ∷ []
-            told : out.0.told ≡ v.0.told
-            budget : out.0.budget ≡ v.0.budget
-            owes : out.0.owes ≡ 1
-            later : Later fits w boxes m.0.seen out.0.seen
+          owes_before : v.0.owes ≡ 0
+          owes_before = within.owes ∙ (ap (λ (z : Seat M W). z.0.owes) looked.after ∙ p.owes)
 
           -- it recorded the Done alone
           module _ (alone : y ≡ x ++ event.Done take ∷ []) where
             abbrev rec : Recorded fits number mine (event.Done take) x v.0 out.0
             rec =
-                recorded_is fits id number left made w boxes m p number x y u v v out visit idle slots some_of board lanes told budget
-                later (event.Done take) alone refl
+                recorded_is fits id number left made w boxes m p number x y u v out outside visit (event.Done take) alone refl
 
-            turned_alone : Turned
-            turned_alone =
-                let is = rec.after in
-                record {
-                  boards = ap (λ (z : SeatView M W). z.boards) is;
-                  hands = ap (λ (z : SeatView M W). z.hands) is;
-                  lane =
-                      ap (λ (z : SeatView M W). z.lanes) is
-                      ∙ ap (λ l. record { number = number; events = l; made = made } ∷ [])
-                      (sym
-                      (own_after fits id number left made w boxes m p number x v.0 out.0 board later (event.Done take) refl rec));
-                  told = ap (λ (z : SeatView M W). z.told) is;
-                  budget = ap (λ (z : SeatView M W). z.budget) is;
-                  owes = omega (arith, ap (λ (z : SeatView M W). z.owes) is, owes);
-                  later = later_after fits id number left made w boxes m p number x v.0 out.0 board later (event.Done take) refl rec;
-                }
+            departed_alone : Departed fits id number left made w boxes m p number v out
+            departed_alone =
+                departed_recorded fits id number left made w boxes m p number x y u v out outside visit (event.Done take) alone refl
 
           -- it recorded the Done and the Take
           module _ (sender : ℕ) (message : M) (both : y ≡ (x ++ event.Done take ∷ []) ++ event.Take sender message ∷ []) where
             abbrev two : RecordedTwo fits number mine take sender message x v.0 out.0
-            two = (visit_tells fits number x y u v v out visit).2 mine take sender message (lanes ∙ p.lanes) both
+            two = (visit_tells fits number x y u v out visit).2 mine take sender message (within.lanes ∙ p.lanes) both
 
             abbrev first : Recorded fits number mine (event.Done take) x v.0 two.0
             first = two.1
@@ -203,15 +150,18 @@ module _ {M W : Type 0} (fits : W → ℕ → M → Type 0) where
             second = two.2
 
             later_first : Later fits w boxes m.0.seen two.0.seen
-            later_first = later_after fits id number left made w boxes m p number x v.0 two.0 board later (event.Done take) refl first
+            later_first =
+                later_after fits id number left made w boxes m p number x v.0 two.0 within.boards within.later (event.Done take) refl
+                first
 
             later_second : Later fits w boxes m.0.seen out.0.seen
             later_second =
                 step_later fits id number left made w boxes m p two.0 out.0.seen
-                (ap (λ (z : SeatView M W). z.boards) first.after ∙ board) later_first second.news
+                (ap (λ (z : SeatView M W). z.boards) first.after ∙ within.boards) later_first second.news
 
             own_first : own number two.0.seen.order ≡ mine.events ++ entry.Completed number take ∷ []
-            own_first = own_after fits id number left made w boxes m p number x v.0 two.0 board later (event.Done take) refl first
+            own_first =
+                own_after fits id number left made w boxes m p number x v.0 two.0 within.boards within.later (event.Done take) refl first
 
             own_second : own number out.0.seen.order
                 ≡ (mine.events ++ entry.Completed number take ∷ []) ++ entry.Taken number sender message ∷ []
@@ -220,8 +170,8 @@ module _ {M W : Type 0} (fits : W → ℕ → M → Type 0) where
                 ap (λ (z : SeatView M W). own number z.seen.order) second.after
                 ∙ (own-append number second.front (e ∷ []) ∙ (λ i. second.own i ++ own_here number e [] refl i))
 
-            turned_both : Turned
-            turned_both =
+            departed_both : Departed fits id number left made w boxes m p number v out
+            departed_both =
                 let a = first.after in
                 let b = second.after in
                 record {
@@ -230,36 +180,42 @@ module _ {M W : Type 0} (fits : W → ℕ → M → Type 0) where
                       ap (λ (z : SeatView M W). z.hands) b
                       ∙ (ap (λ (z : SeatView M W). set z.hands number (hand_at number out.0)) a
                       ∙ set-set v.0.hands number (hand_at number two.0) (hand_at number out.0));
-                  lane =
+                  lanes =
                       ap (λ (z : SeatView M W). z.lanes) b
                       ∙ ap (λ l. record { number = number; events = l; made = made } ∷ []) (sym own_second);
                   told = ap (λ (z : SeatView M W). z.told) b ∙ ap (λ (z : SeatView M W). z.told) a;
                   budget = ap (λ (z : SeatView M W). z.budget) b ∙ ap (λ (z : SeatView M W). z.budget) a;
-                  owes = omega (arith, ap (λ (z : SeatView M W). z.owes) b, ap (λ (z : SeatView M W). z.owes) a, owes);
                   later = later_second;
                 }
 
-          turned : Turned
-          turned = of r finished
+          departed : Departed fits id number left made w boxes m p number v out
+          departed = of r finished
             where
-              of : (q : Option (ℕ × M)) → Finished take n q x y → Turned
-              of (Some next) t = turned_both t.0.0 next.1 t.0.3
-              of None t = turned_alone t.0
+              of : (q : Option (ℕ × M)) → Finished take n q x y → Departed fits id number left made w boxes m p number v out
+              of (Some next) t = departed_both t.0.0 next.1 t.0.3
+              of None t = departed_alone t.0
 
           -- it has its Done in the count
           pub turn_owes : out.0.owes ≡ 1
-          turn_owes = turned.owes
+          turn_owes = of r finished
+            where
+              of : (q : Option (ℕ × M)) → Finished take n q x y → out.0.owes ≡ 1
+              of (Some next) t =
+                  let sender = t.0.0 in
+                  omega (
+                    arith,
+                    ap (λ (z : SeatView M W). z.owes) (second sender next.1 t.0.3).after,
+                    ap (λ (z : SeatView M W). z.owes) (first sender next.1 t.0.3).after,
+                    owes_before,
+                  )
+              of None t = omega (arith, ap (λ (z : SeatView M W). z.owes) (rec t.0).after, owes_before)
 
           module _ (z : Seat M W) (counted : z ≡ (counted_down out.0, out.1)) (id' : TableId) (same : id' ≡ id) where
             -- the pass may have any number of calls left that is smaller
             pub turn_on : (calls : ℕ) → calls < left → IsBoxPass fits id' number calls made w boxes z
-            turn_on calls fewer = subst (λ z. IsBoxPass fits id' number calls made w boxes z) (sym counted)
-                (pass_on fits id number left made w boxes m p id' calls made (counted_down out.0, out.1) same
-                (turned.boards ∙ board) turned.lane (visit_out fits number x y u v v out visit ∙ (slots ∙ p.outside))
-                (turned.told ∙ (told ∙ p.told)) (omega (arith, turned.owes)) (omega (arith, turned.budget, budget, fewer))
-                (λ k near. let hand = visit_hands fits number x y u v v out visit left boxes some_of idle turned.hands k near in
-                record { tickets = hand.tickets; inside = hand.inside; parts = hand.parts; drawn = omega (arith, hand.drawn, fewer) })
-                (seen_on fits w boxes made m.0.seen out.0.seen p.seen turned.later))
+            turn_on calls fewer =
+                departed_on fits id number left made w boxes m p number x y u v out outside visit departed id' same calls fewer z
+                (is_counted_down out z counted) (omega (arith, ap (λ (k : Seat M W). k.0.owes) counted, turn_owes))
 
             abbrev sight_at : ℕ → Seen M → Sight M W
             sight_at calls seen = box_sight id' number calls made w boxes seen
@@ -269,7 +225,8 @@ module _ {M W : Type 0} (fits : W → ℕ → M → Type 0) where
                 → WasDone fits job before (sight_at (left - 1) o.seen)
             was_done o rec =
                 subst (λ k. Added fits (entry.Completed number k) before (sight_at (left - 1) o.seen)) same_job
-                (added_after fits id number left made w boxes m p number x v.0 o board later (event.Done take) refl rec id' same some_of)
+                (added_after fits id number left made w boxes m p number x v.0 o within.boards within.later (event.Done take) refl rec id'
+                same some_of)
 
             -- and took a message
             did : (job' : ℕ) (message : M) → Finished take n (Some (job', message)) x y
@@ -293,10 +250,10 @@ module _ {M W : Type 0} (fits : W → ℕ → M → Type 0) where
                         board = refl;
                         number = refl;
                         before = record { world = refl; boxes = refl; order = b.news.begins; aborted = b.news.aborted };
-                        sound = turned.later.sound;
-                        made = (seen_on fits w boxes made m.0.seen out.0.seen p.seen turned.later).known;
+                        sound = departed.later.sound;
+                        made = (seen_on fits w boxes made m.0.seen out.0.seen p.seen departed.later).known;
                         knows = b.news.knows;
-                        close = turned.later.close;
+                        close = departed.later.close;
                       };
                       made = refl;
                       calls = omega (arith, two_left);

@@ -1,4 +1,4 @@
--- Each step on the word of outstanding posts may be taken.
+-- Each step on the word of outstanding posts may be taken, and what the word says of an abort.
 use Rattle.std.proofs.Common.{◌≡◌, ◌≢◌, ◌⊎◌, inl, inr, ℕ, ◌+◌, ◌-◌, ◌*◌, ◌^◌, ◌%◌, ◌<◌, ◌≤◌, ◌==◌, ◌||◌, if◌then◌else◌, Bool}
 use Rattle.std.proofs.Common.{true, false}
 use Rattle.std.proofs.Common.{List, [], ◌∷◌, map, length, set, get_or, Some, None, refl, sym, ap, ◌∙◌, subst, arith, Option, length-set}
@@ -6,6 +6,7 @@ use Rattle.std.proofs.Common.{get_or-set_same, eq-eqb, lt_of_not-le}
 use Rattle.std.proofs.lemmas.Bool.{eqb-true}
 use Rattle.std.proofs.lemmas.Nat.{or_shifted, or_block, or_comm}
 use Rattle.std.specs.Int.Bits.{bit_or}
+use Rattle.std.specs.Prelude.{IsSome}
 use mathlib.Core.Option.{some}
 use native.Mathlib.Decide.{dec_le}
 use lib.ListN.{get_elem?}
@@ -28,13 +29,22 @@ use Rattle.switchboard.specs.Sights.{IsSound, abort_of}
 use Rattle.switchboard.specs.Proved.Entries.{job_stays}
 use Rattle.switchboard.specs.Knowing.{either_abort, state_of, both_seen, with_seen, pass_numbers, makes, made_by, counted_up, counted_down}
 use Rattle.switchboard.specs.Knowing.{made_abort, informed}
-use Rattle.switchboard.specs.PerBox.{SeatView, flag, Saw, Rule, LookedAtWord, Raised, SeatTookIn, Seat, owed, Boxes}
+use Rattle.switchboard.specs.PerBox.{SeatView, flag, Saw, Rule, LookedAtWord, CountedUp, Raised, SeatTookIn, Seat, owed, Boxes}
 use Rattle.switchboard.specs.Proved.PerBoxFacts.{BoardGrows, grows_same, saw_grows, saw_all, sound_with, closed_at_zero, fewer_dones}
 use Rattle.switchboard.specs.Proved.PerBoxFacts.{news_is, rebuilt, locks_still, made_still}
 
 flag_small : (a : Option Abort) → flag a ≤ 2 ^ 63
 flag_small None = omega arith
 flag_small (Some a) = omega arith
+
+-- bit 63 is clear if there was no abort
+pub not_flagged : (low : ℕ) (a : Option Abort) → low + flag a < 2 ^ 63 → a ≡ None
+not_flagged low None small = refl
+not_flagged low (Some a) small = absurd (omega arith)
+
+pub flagged : (low : ℕ) (a : Option Abort) → low < 2 ^ 63 → 2 ^ 63 ≤ low + flag a → IsSome a
+flagged low None small large = absurd (omega arith)
+flagged low (Some a) small large = refl
 
 -- bit 63 is set, whatever it was
 or_flag : (low : ℕ) (first : Option Abort) (a : Abort) → low < 2 ^ 63 → bit_or (low + flag first) (2 ^ 63) ≡ low + flag (abort_of first a)
@@ -51,13 +61,36 @@ or_flag low (Some b) a small =
     ∙ (or_block 63 1 1 low 0 small (omega arith) ∙ (ap (λ k. bit_or 1 1 * 2 ^ 63 + k) zero_or ∙ omega arith)))
 
 module _ {M W : Type 0} (fits : W → ℕ → M → Type 0) (g : Ground M W) where
-  -- a pass with a job counts up
+  -- what a look at the word tells
+  module _ (s : Boxes M W) (r : Rule fits g s) (id : ℕ) (m : Seat M W) (is_at : get_elem? s.views id ≡ some m.0) where
+    abbrev as_it_is : Seen M
+    as_it_is = record { order = r.order; aborted = r.first; knows = r.low == 0 }
+
+    saw_it : Saw fits g r.order r.first r.low as_it_is
+    saw_it = saw_all fits g r.order r.first r.low as_it_is r.sound refl (λ a e. e) (λ e. eqb-true r.low 0 e)
+
+    looked_at : LookedAtWord fits m (get_or s.words 0 0) (with_seen as_it_is m.0, m.1)
+    looked_at =
+        let k = r.each id m.0 is_at in
+        record {
+          after = refl;
+          news = news_is fits g s r id m.0 is_at r.order r.first r.low (owed s.views) as_it_is r.sound.lawful r.count saw_it k.saw.begins
+              k.saw.aborted (λ e. eq-eqb r.low 0 (k.saw.close e).0);
+          own = k.owns;
+          low = r.low;
+          small = omega (arith, r.few);
+          found = r.word;
+          knows = refl;
+        }
+
+  -- a pass with a job looks, and counts up
   pub counts_up : (slots id : ℕ) (m : Seat M W) (job : ℕ) (o : Own M) → m.0.lanes ≡ o ∷ [] → own o.number m.0.seen.order ≡ o.events
       → HasJob o.number job m.0.seen.order → 0 < m.0.budget
-      → table.Allows (Rule fits g) slots id m 0 (λ n. (n + 1) % 2 ^ 64) (λ n w. w ≡ (counted_up job m.0, m.1))
+      → table.Allows (Rule fits g) slots id m 0 (λ n. (n + 1) % 2 ^ 64) (CountedUp fits job m)
   counts_up slots id m job o lanes list has some_of s r len is_at small =
       let v : SeatView M W = m.0 in
-      let w : SeatView M W = counted_up job v in
+      let x : Seen M = as_it_is s r id m is_at in
+      let w : SeatView M W = counted_up job (with_seen x v) in
       let k = r.each id v is_at in
       let mine : own o.number v.seen.order ≡ own o.number r.order = list ∙ sym (k.owns 0 o (ap (λ l. get_elem? l 0) lanes)) in
       let has_still = job_stays o.number job v.seen.order r.order mine has in
@@ -74,13 +107,13 @@ module _ {M W : Type 0} (fits : W → ℕ → M → Type 0) (g : Ground M W) whe
       (omega (arith, length-set s.words 0 n, r.some_word)) (get_or-set_same s.words 0 n 0 r.some_word ∙ e) (omega (arith, r.count))
       (omega arith) record {
         board = k.board;
-        saw = saw_grows fits g r.order r.order r.first r.first r.low (r.low + 1) v.seen on k.saw;
+        saw = saw_grows fits g r.order r.order r.first r.first r.low (r.low + 1) x on (saw_it s r id m is_at);
         told = saw_grows fits g r.order r.order r.first r.first r.low (r.low + 1) v.told on k.told;
         owns = k.owns;
         parts = k.parts;
         idle = λ none. absurd (omega (arith, ap length lanes));
       } refl (made_still fits g s r id v is_at w (λ j. refl)) in
-      (w, table.keeps, tt, holds, refl)
+      (w, table.keeps, tt, holds, ((with_seen x v, m.1), looked_at s r id m is_at, refl))
 
   -- a pass whose Done is recorded counts down
   pub counts_down : (slots id : ℕ) (m : Seat M W) → 0 < m.0.owes
@@ -132,25 +165,12 @@ module _ {M W : Type 0} (fits : W → ℕ → M → Type 0) (g : Ground M W) whe
   pub looks : (slots id : ℕ) (m : Seat M W) → table.Allows (Rule fits g) slots id m 0 (λ n. n) (LookedAtWord fits m)
   looks slots id m s r len is_at small =
       let v : SeatView M W = m.0 in
-      let x : Seen M = record { order = r.order; aborted = r.first; knows = r.low == 0 } in
-      let w : SeatView M W = with_seen x v in
-      let k = r.each id v is_at in
-      let saw : Saw fits g r.order r.first r.low x =
-      saw_all fits g r.order r.first r.low x r.sound refl (λ a e. e) (λ e. eqb-true r.low 0 e) in (
-        w,
+      let x : Seen M = as_it_is s r id m is_at in (
+        with_seen x v,
         table.keeps,
         tt,
-        sees s r id v is_at x v.told saw k.told,
-        record {
-          after = refl;
-          news = news_is fits g s r id v is_at r.order r.first r.low (owed s.views) x r.sound.lawful r.count saw k.saw.begins
-              k.saw.aborted (λ e. eq-eqb r.low 0 (k.saw.close e).0);
-          own = k.owns;
-          low = r.low;
-          small = omega (arith, r.few);
-          found = r.word;
-          knows = refl;
-        },
+        sees s r id v is_at x v.told (saw_it s r id m is_at) (r.each id v is_at).told,
+        looked_at s r id m is_at,
       )
 
   -- a seat takes in what it was told

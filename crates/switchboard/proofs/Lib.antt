@@ -8,7 +8,6 @@ pub mod Jobs
 pub mod Staying
 pub mod BoxWords
 pub mod BoxVisits
-pub mod BoxPuts
 pub mod BoxCalls
 pub mod BoxTakes
 pub mod BoxDones

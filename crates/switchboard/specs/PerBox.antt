@@ -24,7 +24,7 @@ use Rattle.switchboard.specs.declared.lock_per_box.knowing.Own.{Own}
 use Rattle.switchboard.specs.declared.lock_per_box.knowing.Knowing.{Knowing}
 use Rattle.switchboard.specs.Sights.{IsSound}
 use Rattle.switchboard.specs.Knowing.{entry_of, owes_after, with_event, state_of, hand_at, with_hand}
-use Rattle.switchboard.specs.Knowing.{with_seen, pass_numbers, makes, made_abort, informed}
+use Rattle.switchboard.specs.Knowing.{with_seen, counted_up, pass_numbers, makes, made_abort, informed}
 
 -- the first of the two words of a mailbox's lock; those of different mailboxes lie 64 bytes apart
 abbrev pub word_of : ℕ → ℕ
@@ -227,6 +227,11 @@ module _ {M W : Type 0} where
       pub small : low < 2 ^ 63
       pub found : number ≡ low + flag later.0.seen.aborted
       pub knows : later.0.seen.knows ≡ (low == 0)
+
+    -- a look at word 0, and a Post more in the count, in one step
+    abbrev pub CountedUp : ℕ → Seat M W → ℕ → Seat M W → Type 0
+    CountedUp job earlier number later = (looked : Seat M W) × LookedAtWord earlier number looked
+        × (later ≡ (counted_up job looked.0, looked.1))
 
     -- bit 63 is set: the first abort is this one, or that of another pass
     pub record Raised (abort : Abort) (earlier later : Seat M W) : Type 0 where

@@ -4,8 +4,8 @@ ghost use Rattle.std.specs.Option.{ForSome};
 ghost use Rattle.atomic_table.specs.Seated.{TableId};
 ghost use Rattle.post_ledger.specs.Orders.{HasJob};
 ghost use Rattle.switchboard.specs.Sights.{Sight, Account, opened, fresh_sights, told_by};
-ghost use Rattle.switchboard.specs.Promises.{WasSpent, WasPosted, WasRefused, Took, WasDone, DidTurn, LeftTurn};
-ghost use Rattle.switchboard.specs.Promises.{MadeAbort, Learned, AreAll, Settles};
+ghost use Rattle.switchboard.specs.Promises.{WasSpent, WasPosted, WasRefused, Took, WasDone};
+ghost use Rattle.switchboard.specs.Promises.{DidTurn, LeftTurn, MadeAbort, Learned, AreAll, Settles};
 
 use crate::calls::{Cause, Job, PostFault, Taken};
 use crate::mail::Mail;

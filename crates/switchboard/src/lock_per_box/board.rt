@@ -1,20 +1,17 @@
 //! The board with a lock for each mailbox.
-ghost use Rattle.std.specs.Prelude.{◌≡◌, ℕ, Bool, ◌<◌, ◌≤◌, ◌∷◌, map, [], List, Some, MatchResult};
+ghost use Rattle.std.specs.Prelude.{◌≡◌, ◌<◌, ◌≤◌, map, [], MatchResult};
 ghost use Rattle.std.specs.Prelude.{vec_len, vec_capacity, length, Contains};
-ghost use Rattle.atomic_table.specs.Table.{rest};
-ghost use Rattle.ticket_lock.specs.Calls.{IsSameSeat};
-ghost use Rattle.post_ledger.specs.declared.event.Event.{Event};
 ghost use Rattle.post_ledger.specs.History.{takes, dones};
 ghost use Rattle.post_ledger.specs.Orders.{HasJob};
 ghost use Rattle.switchboard.specs.Promises.{WasPosted, WasRefused, AreAll, Settles};
-ghost use Rattle.switchboard.specs.PerBox.{IsBoardTable, HasOwnJob};
-ghost use Rattle.switchboard.specs.BoxAnswers.{TookOut, Finished, PutIn, LiesAfter};
+ghost use Rattle.switchboard.specs.PerBox.{IsBoardTable};
+ghost use Rattle.switchboard.specs.BoxAnswers.{TookOut, Finished};
 
 use crate::board::Board;
 use crate::calls::{Cause, Job, PostFault, Taken};
 use crate::lock_per_box::knowing::{Ground, Knowing};
 use crate::lock_per_box::outstanding::{
-    ABORTED, Boards, BoxSeat, TellsSeen, count_down, count_up, look, raise, take_in,
+    ABORTED, TellsSeen, count_down, count_up, look, raise, take_in,
 };
 use crate::lock_per_box::pass::{BoxPass, BoxTold};
 use crate::lock_per_box::rule::Boxes;
@@ -47,13 +44,11 @@ pub struct LockPerBox<M: Mail<W>, W, A: Allocator> {
 }
 
 /// Takes the oldest message that is not taken, if there is one.
-fn take_out<M: Copy, A: Allocator>(mailbox: &mut Mailbox<M, A>) -> Taken<M>
+fn take_out<M: Copy, A: Allocator>(mailbox: &mut Mailbox<M, A>) -> Option<(Job, M)>
     ensures { TookOut result mailbox.old mailbox.new }
 {
-    match mailbox.take_from() {
-        None => Taken::Empty,
-        Some((take, _, message)) => Taken::Message(Job { take }, message),
-    }
+    let (take, _, message) = mailbox.take_from()?;
+    Some((Job { take }, message))
 }
 
 /// Records that a take is completed, and then takes the oldest message that is not taken, if there is one and the
@@ -71,41 +66,7 @@ fn finish<M: Copy, A: Allocator>(
     if found >= ABORTED {
         return None;
     }
-    let (take, _, message) = mailbox.take_from()?;
-    Some((Job { take }, message))
-}
-
-/// Puts a message into mailbox `to`, whose lock the seat is inside, if the board is not aborted, and counts it up.
-fn put<F: Fn(), W, M: Mail<W>, A: Allocator>(
-    shared: &Boards<M, W, A>,
-    seat: &mut BoxSeat<M, W, A>,
-    to: u8,
-    number: u8,
-    job: &Job,
-    message: M,
-    held: &F,
-) -> Result<(), PostFault<M>>
-    requires callable { F.IsAlwaysCallable held.now }
-    requires table { (seat.old.table_id ≡ shared.now.table_id) × (0 < shared.now.table_id.words) }
-    requires job { HasOwnJob seat.old.me.0 job.now }
-    requires budget { 0 < seat.old.me.0.budget }
-    requires lies { (history : List (Event M))
-        × (seat.old.me.1 ≡ (to, Some history) ∷ rest seat.old.me.1) }
-    ensures { IsSameSeat seat.old seat.new
-        × PutIn M.fits job.now message result seat.old.me.0 seat.new.me.0
-        × LiesAfter to number message result seat.old.me.1 seat.new.me.1 }
-{
-    if look(shared, seat) >= ABORTED {
-        return Err(PostFault::Aborted(message));
-    }
-    match value_at(seat, shared, usize::from(to)).post(number, message) {
-        Err(back) => Err(PostFault::Memory(back)),
-        Ok(()) => {
-            count_up(shared, seat, job);
-            held();
-            Ok(())
-        }
-    }
+    take_out(mailbox)
 }
 
 impl<M: Mail<W>, W, A: Allocator> LockPerBox<M, W, A> {
@@ -132,10 +93,21 @@ impl<M: Mail<W>, W, A: Allocator> LockPerBox<M, W, A> {
         }
         pass.left -= 1;
         let shared = &self.table.shared;
-        enter_box(rt, shared, &mut pass.seat, to);
-        let answer = put(shared, &mut pass.seat, to, pass.number, job, message, held);
-        leave_box(shared, &mut pass.seat, to);
-        answer
+        let seat = &mut pass.seat;
+        // Before the visit, so that the lock is held for less.
+        if count_up(shared, seat, job) >= ABORTED {
+            count_down(shared, seat);
+            return Err(PostFault::Aborted(message));
+        }
+        enter_box(rt, shared, seat, to);
+        if let Err(back) = value_at(seat, shared, usize::from(to)).post(pass.number, message) {
+            leave_box(shared, seat, to);
+            count_down(shared, seat);
+            return Err(PostFault::Memory(back));
+        }
+        held();
+        leave_box(shared, seat, to);
+        Ok(())
     }
 }
 
@@ -197,9 +169,12 @@ impl<M: Mail<W>, W, A: Allocator> Board<M, W, A> for LockPerBox<M, W, A> {
             return Ok(Taken::Aborted);
         }
         enter_box(rt, shared, &mut pass.seat, pass.number);
-        let answer = take_out(value_at(&mut pass.seat, shared, usize::from(pass.number)));
+        let next = take_out(value_at(&mut pass.seat, shared, usize::from(pass.number)));
         leave_box(shared, &mut pass.seat, pass.number);
-        Ok(answer)
+        let Some((job, message)) = next else {
+            return Ok(Taken::Empty);
+        };
+        Ok(Taken::Message(job, message))
     }
 
     fn done<R: Wait>(

@@ -3,8 +3,8 @@ ghost use Rattle.std.specs.Prelude.{◌≡◌, ℕ, ◌<◌, ◌∷◌, [], fals
 ghost use Rattle.ticket_lock.specs.Calls.{IsSameSeat};
 ghost use Rattle.switchboard.specs.declared.calls.Abort.{Abort};
 ghost use Rattle.switchboard.specs.declared.lock_per_box.knowing.Own.{Own};
-ghost use Rattle.switchboard.specs.Knowing.{counted_up, counted_down, hand_at, merged_seats};
-ghost use Rattle.switchboard.specs.PerBox.{HasOwnJob, LookedAtWord, Raised, SeatTookIn};
+ghost use Rattle.switchboard.specs.Knowing.{counted_down, hand_at, merged_seats};
+ghost use Rattle.switchboard.specs.PerBox.{HasOwnJob, LookedAtWord, CountedUp, Raised, SeatTookIn};
 
 use crate::calls::{Cause, Job};
 use crate::lock_per_box::knowing::{Ground, Knowing};
@@ -46,8 +46,11 @@ pub(crate) struct CountsUp<J> {
     of: PhantomData<J>,
 }
 
-impl<J: About, S, M, W, T> Play<S, Knowing<M, W, T>> for CountsUp<J> {
-    ghost then = { λ _ m _ w. w ≡ (counted_up J.job m.0, m.1) };
+impl<J: About, W, M: Mail<W>, A: Allocator> Play<
+    Option<Mailbox<M, A>>,
+    Knowing<M, W, Mailbox<M, A>>,
+> for CountsUp<J> {
+    ghost then = { λ _ m n w. CountedUp M.fits J.job m n w };
 }
 
 pub(crate) struct CountsDown;
@@ -78,33 +81,33 @@ fn count_step<J: About, W, M: Mail<W>, A: Allocator>(
     shared: &Boards<M, W, A>,
     seat: &mut BoxSeat<M, W, A>,
     job: &Job,
-)
+) -> u64
     requires table { (seat.old.table_id ≡ shared.now.table_id) × (0 < shared.now.table_id.words) }
     requires job { HasOwnJob seat.old.me.0 J.job }
     requires budget { 0 < seat.old.me.0.budget }
     ensures { IsSameSeat seat.old seat.new
-        × (seat.new.me ≡ (counted_up J.job seat.old.me.0, seat.old.me.1)) }
+        × CountedUp M.fits J.job seat.old.me result seat.new.me }
 {
     let _ = job;
-    shared.fetch_add::<CountsUp<J>>(seat, 0, 1);
+    shared.fetch_add::<CountsUp<J>>(seat, 0, 1)
 }
 
-/// Counts up a Post that the seat's pass will make under this job: one fetch_add.
+/// Looks at the word, and counts up a Post that the seat's pass will make under this job: one fetch_add.
 pub(crate) fn count_up<W, M: Mail<W>, A: Allocator>(
     shared: &Boards<M, W, A>,
     seat: &mut BoxSeat<M, W, A>,
     job: &Job,
-)
+) -> u64
     requires table { (seat.old.table_id ≡ shared.now.table_id) × (0 < shared.now.table_id.words) }
     requires job { HasOwnJob seat.old.me.0 job.now }
     requires budget { 0 < seat.old.me.0.budget }
     ensures { IsSameSeat seat.old seat.new
-        × (seat.new.me ≡ (counted_up job.now seat.old.me.0, seat.old.me.1)) }
+        × CountedUp M.fits job.now seat.old.me result seat.new.me }
 {
-    count_step::<Brand, W, M, A>(shared, seat, job);
+    count_step::<Brand, W, M, A>(shared, seat, job)
 }
 
-/// Counts down a Post whose Done the seat's pass has recorded: one fetch_sub.
+/// Counts down a Post whose Done the seat's pass has recorded, or that it will not make: one fetch_sub.
 pub(crate) fn count_down<W, M: Mail<W>, A: Allocator>(
     shared: &Boards<M, W, A>,
     seat: &mut BoxSeat<M, W, A>,
