@@ -1,6 +1,6 @@
 -- What a call of the board with a lock for each mailbox promises, from what its steps told.
 use Rattle.std.proofs.Common.{◌≡◌, ◌≢◌, ℕ, ◌+◌, ◌-◌, ◌<◌, ◌≤◌, Bool, true, List, [], ◌∷◌, ◌++◌}
-use Rattle.std.proofs.Common.{length, set, get_or, Some, refl, sym, ap, ◌∙◌, subst, arith, get_or-set_other}
+use Rattle.std.proofs.Common.{length, set, get_or, Contains, Some, refl, sym, ap, ◌∙◌, subst, arith, get_or-set_other}
 use Rattle.std.specs.Prelude.{IsSome}
 use mathlib.Core.Option.{some}
 use mathlib.Core.Logic.{dite}
@@ -16,6 +16,7 @@ use Rattle.ticket_lock.specs.Proved.Facts.{StartsWith-refl, StartsWith-trans, En
 use Rattle.ticket_lock.proofs.HistoryFacts.{StartsWith-length}
 use Rattle.post_ledger.specs.declared.event.Event.{Event}
 use Rattle.post_ledger.specs.declared.entry.Entry.{Entry}
+use Rattle.post_ledger.specs.History.{takes, dones}
 use Rattle.post_ledger.specs.Orders.{own, maker_of, HasJob, IsClosed}
 use Rattle.post_ledger.proofs.Orders.{own-append, own_here}
 use Rattle.switchboard.specs.declared.calls.Abort.{Abort}
@@ -333,6 +334,14 @@ module _ {M W : Type 0} (fits : W → ℕ → M → Type 0) where
           later = step_later b.0 v.0.seen outside.boards outside.later inside.news;
           list = own_same b.0 v.0.seen.order outside.lanes inside.own;
         }
+
+    -- inside its own mailbox, a job that it has is of a Take there, which has no Done
+    pub may_complete : (x : List (Event M)) (b v : Seat M W) → IsInside fits number x b v → Within b v → (job take : ℕ) → take ≡ job
+        → (s : Sight M W) → sight ≡ s → HasJob s.number job s.seen.order
+        → (take < length (takes x)) × (Contains (dones x) take → ⊥)
+    may_complete x b v inside within job take same_job s see has =
+        subst (λ h. (take < length (takes h)) × (Contains (dones h) take → ⊥)) inside.part
+        (subst (λ k. HasJob number k v.0.seen.order) (sym same_job) (still_has job s v.0.seen.order see has within.list))
 
     -- In a call, after it left the mailbox: it has its own events there still.
     pub record Departed (q : ℕ) (v out : Seat M W) : Type 0 where

@@ -20,7 +20,7 @@ use Rattle.switchboard.specs.Promises.{WasDone, Added, MadeAbort}
 use Rattle.switchboard.specs.Knowing.{hand_at, counted_down, made_abort}
 use Rattle.switchboard.specs.PerBox.{SeatView, LeavesEvents, TellsOrder, IsInside, Raised, Seat}
 use Rattle.switchboard.specs.BoxPasses.{IsIdleHand, box_sight, IsBoxPass}
-use Rattle.switchboard.proofs.BoxCalls.{Later, Visit, Outside, outside_now, Within, within_is, own_part, next_later, own_same, still_has}
+use Rattle.switchboard.proofs.BoxCalls.{Later, Visit, Outside, outside_now, Within, within_is, own_part, next_later, own_same, may_complete}
 use Rattle.switchboard.proofs.BoxCalls.{goes, pass_on, recorded_is, departed_on, departed_recorded, added_is, is_counted_down}
 use Rattle.switchboard.proofs.BoxVisits.{lent_is, may_leave, has_left}
 
@@ -41,15 +41,11 @@ module _ {M W : Type 0} (fits : W → ℕ → M → Type 0) (id : TableId) (numb
     within : Within fits id number left made w boxes m p m v
     within = within_is fits id number left made w boxes m p number x m v outside inside
 
-    -- the mailbox has the Take, and no Done of it
-    may_complete : (take < length (takes x)) × (Contains (dones x) take → ⊥)
-    may_complete =
-        subst (λ h. (take < length (takes h)) × (Contains (dones h) take → ⊥)) inside.part
-        (subst (λ k. HasJob number k v.0.seen.order) (sym same_job)
-        (still_has fits id number left made w boxes m p job s v.0.seen.order see has within.list))
+    may_done : (take < length (takes x)) × (Contains (dones x) take → ⊥)
+    may_done = may_complete fits id number left made w boxes m p x m v inside within job take same_job s see has
 
     pub may_complete_lent : (take < length (takes lent)) × (Contains (dones lent) take → ⊥)
-    may_complete_lent = subst (λ h. (take < length (takes h)) × (Contains (dones h) take → ⊥)) (sym found) may_complete
+    may_complete_lent = subst (λ h. (take < length (takes h)) × (Contains (dones h) take → ⊥)) (sym found) may_done
 
     module _ (y : List (Event M)) (grown_lent : y ≡ lent ++ Done take ∷ []) where
       grown : y ≡ x ++ Done take ∷ []
@@ -64,7 +60,7 @@ module _ {M W : Type 0} (fits : W → ℕ → M → Type 0) (id : TableId) (numb
             within.lanes ∙ p.lanes,
             within.list,
             grown,
-            (refl, may_complete),
+            (refl, may_done),
           )))
 
       pub done_leaves : lock.MayPass (hand_at number) (LeavesEvents fits number) number (v.0, (k, Some y) ∷ rest v.1)

@@ -26,7 +26,7 @@ use Rattle.switchboard.specs.BoxAnswers.{Finished}
 use Rattle.switchboard.proofs.Visits.{posted_fits}
 use Rattle.switchboard.proofs.BoxWords.{not_flagged}
 use Rattle.switchboard.proofs.BoxVisits.{lent_is, may_leave, has_left}
-use Rattle.switchboard.proofs.BoxCalls.{Later, Visit, visit_tells, seen_on, own_part, still_has, step_later, Outside, outside_looked}
+use Rattle.switchboard.proofs.BoxCalls.{Later, Visit, visit_tells, seen_on, own_part, may_complete, step_later, Outside, outside_looked}
 use Rattle.switchboard.proofs.BoxCalls.{Within, within_is, own_after, later_after, added_after, Departed, departed_on, recorded_is}
 use Rattle.switchboard.proofs.BoxCalls.{departed_recorded, is_counted_down}
 
@@ -63,15 +63,11 @@ module _ {M W : Type 0} (fits : W → ℕ → M → Type 0) where
       within : Within fits id number left made w boxes m p u v
       within = within_is fits id number left made w boxes m p number x u v outside inside
 
-      -- the mailbox has the Take, and no Done of it
-      may_complete : (take < length (takes x)) × (Contains (dones x) take → ⊥)
-      may_complete =
-          subst (λ h. (take < length (takes h)) × (Contains (dones h) take → ⊥)) inside.part
-          (subst (λ k. HasJob number k v.0.seen.order) (sym same_job)
-          (still_has fits id number left made w boxes m p job s v.0.seen.order see has within.list))
+      may_done : (take < length (takes x)) × (Contains (dones x) take → ⊥)
+      may_done = may_complete fits id number left made w boxes m p x u v inside within job take same_job s see has
 
       pub may_finish : (take < length (takes lent)) × (Contains (dones lent) take → ⊥)
-      may_finish = subst (λ h. (take < length (takes h)) × (Contains (dones h) take → ⊥)) (sym found) may_complete
+      may_finish = subst (λ h. (take < length (takes h)) × (Contains (dones h) take → ⊥)) (sym found) may_done
 
       module _ (r : Option (ℕ × M)) (y : List (Event M)) (finished_lent : Finished take n r lent y) where
         finished : Finished take n r x y
@@ -90,7 +86,7 @@ module _ {M W : Type 0} (fits : W → ℕ → M → Type 0) where
                   within.lanes ∙ p.lanes,
                   within.list,
                   is,
-                  (refl, may_complete),
+                  (refl, may_done),
                 ))
 
             asks : (q : Option (ℕ × M)) → Finished take n q x y → LeavesEvents fits number (passes x y) v.0
@@ -104,7 +100,7 @@ module _ {M W : Type 0} (fits : W → ℕ → M → Type 0) where
                   within.list,
                   t.0.3,
                   refl,
-                  may_complete,
+                  may_done,
                   t.0.1,
                 ))
             asks None t = alone t.0
