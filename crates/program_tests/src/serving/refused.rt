@@ -1,7 +1,7 @@
 //! Each allocation refused in turn.
 
-use crate::case::print_reply;
-use crate::memory::served;
+use crate::serving::memory::served;
+use crate::serving::print_reply;
 use cases::{Outcome, Sweep, Swept};
 use cli::Order;
 use scarce::Scarce;

@@ -1,8 +1,8 @@
 //! What is written for broken texts.
 
-use crate::breaking::{Lot, broken};
-use crate::kinds::{KINDS, kind_of};
-use crate::memory::served;
+use crate::serving::breaking::{Lot, broken};
+use crate::serving::kinds::{KINDS, kind_of};
+use crate::serving::memory::served;
 use cli::Order;
 use std::rt::Files;
 use std::sync::Wait;

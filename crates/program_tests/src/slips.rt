@@ -1,6 +1,6 @@
-//! One case.
+//! Slips, and what standard error says about them.
 
-use crate::bytes::bytes_of;
+use crate::escapes::bytes_of;
 use cases::words_behind;
 use cli::ended;
 use std::io::{self, ErrorKind, Write};
@@ -19,27 +19,22 @@ fn opened<'a>(text: &'a [u8], path: &str) -> io::Result<&'a [u8]> {
     }
 }
 
-/// Prints the result of a case.
+/// Prints what standard error took for a slip, or what standard output took for a text that was mended.
 pub fn answered<R: Print + AllocGlobal + Wait + Threads + Sync>(
     rt: &R,
-    line: &str,
+    how: &str,
+    text: &str,
 ) -> io::Result<()> {
-    if line.starts_with('#') {
-        return Ok(());
-    }
-    if let Some(text) = line.strip_prefix("slip: ") {
-        return print_case(rt, WORDS, text, true);
-    }
-    if let Some(text) = line.strip_prefix("mended: ") {
-        return print_case(rt, WORDS, text, false);
-    }
-    match line.strip_prefix("slip of ") {
-        Some(rest) => {
-            let (words, text) = rest.split_once(": ").unwrap_or((rest, ""));
-            print_case(rt, words, text, true)
-        }
-        None => rt.print("no case\n"),
-    }
+    print_case(rt, WORDS, text, how == "slip")
+}
+
+/// Prints what standard error took for these words and this text.
+pub fn print_slip<R: Print + AllocGlobal + Wait + Threads + Sync>(
+    rt: &R,
+    words: &str,
+    text: &str,
+) -> io::Result<()> {
+    print_case(rt, words, text, true)
 }
 
 /// Prints what standard error took for these words and this text, or else what standard output took.
