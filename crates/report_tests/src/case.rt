@@ -1,11 +1,11 @@
 //! One case.
 
 use crate::gates::{Late, Meeting, Noting};
+use crate::held::Held;
 use crate::program::{Parts, Trial, read_case};
 use crate::refusing::Moment;
 use crate::tried::{parts_at, put};
 use cases::sweep_of;
-use procedure_worker::{Gate, Open};
 use std::alloc::{AllocError, Global};
 use std::sync::Wait;
 use std::thread::Threads;
@@ -85,21 +85,16 @@ impl<R: Wait + Threads + Sync> Trial<'_, R> {
     }
 
     /// Writes the result of one more run with these parts, if it differs from those before.
-    fn again<K: Gate + Sync>(
-        &self,
-        out: &mut String,
-        parts: Parts,
-        gate: &K,
-    ) -> Result<(), AllocError> {
+    fn again(&self, out: &mut String, parts: Parts, held: &Held) -> Result<(), AllocError> {
         let mut one = String::new(self.alloc);
-        self.write_report_of(&mut one, parts, gate)?;
+        self.write_report_of(&mut one, parts, held)?;
         put(out, one.as_str())
     }
 
     /// Writes the result of a run over each board with each set.
     fn with_all(&self, out: &mut String) -> Result<(), AllocError> {
         for number in 0..4u8 {
-            self.again(out, parts_at(number), &Open)?;
+            self.again(out, parts_at(number), &Held::Open)?;
         }
         Ok(())
     }
@@ -129,7 +124,7 @@ impl<R: Wait + Threads + Sync> Trial<'_, R> {
     fn late(&self, out: &mut String) -> Result<(), AllocError> {
         for lane in 0..=self.asked.program.program().procs.len().min(31) {
             let gate = Late { lane: lane as u8 };
-            self.again(out, self.asked.parts, &gate)?;
+            self.again(out, self.asked.parts, &Held::Late(&gate))?;
         }
         Ok(())
     }
@@ -137,14 +132,14 @@ impl<R: Wait + Threads + Sync> Trial<'_, R> {
     /// Writes the results if two calls wait for each other.
     fn meeting(&self, out: &mut String) -> Result<(), AllocError> {
         let gate = Meeting::new();
-        self.write_report_of(out, self.asked.parts, &gate)?;
+        self.write_report_of(out, self.asked.parts, &Held::Meeting(&gate))?;
         write_whether(out, gate.was_held(), "both met", "they did not meet")
     }
 
     /// Writes the results, and whether the workers have begun.
     fn begun(&self, out: &mut String) -> Result<(), AllocError> {
         let gate = Noting::new();
-        self.write_report_of(out, self.asked.parts, &gate)?;
+        self.write_report_of(out, self.asked.parts, &Held::Noting(&gate))?;
         write_whether(out, gate.has_all(), "all came", "not all came")
     }
 }

@@ -2,6 +2,7 @@
 
 ghost use Rattle.std.specs.Prelude.{◌≤◌, ◌^◌};
 
+use crate::held::Held;
 use crate::program::Trial;
 use crate::tried::{parts_at, put, write_came};
 use gather::{Answer, Hire};
@@ -27,7 +28,7 @@ const TRIES: u64 = 20;
 /// which finds the close: lane 1 begins once lane 0 has posted its entry, lane 0 continues once lane 1 has posted
 /// all its summaries, and lane 1 completes its message once lane 0 has taken the last of them.
 #[derive(Drop)]
-struct InTurn {
+pub struct InTurn {
     /// How many summaries lane 1 posts.
     summaries: u64,
     entered: AtomicBool,
@@ -100,13 +101,23 @@ impl<R: Wait + Threads + Sync> Trial<'_, R> {
     {
         for _ in 1..tries {
             let hire = InTurn::new(summaries);
-            let answer = self.tried(parts_at(pair), self.asked.limit, &hire, budget);
+            let answer = self.tried(
+                parts_at(pair),
+                self.asked.limit,
+                &Held::InTurn(&hire),
+                budget,
+            );
             if answer.is_ok() {
                 return answer;
             }
         }
         let hire = InTurn::new(summaries);
-        self.tried(parts_at(pair), self.asked.limit, &hire, budget)
+        self.tried(
+            parts_at(pair),
+            self.asked.limit,
+            &Held::InTurn(&hire),
+            budget,
+        )
     }
 
     /// Writes the results over each pair of board and set with one budget less than is enough for this number of

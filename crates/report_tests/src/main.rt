@@ -26,6 +26,7 @@
 mod case;
 mod exact;
 mod gates;
+mod held;
 mod program;
 mod refusing;
 mod report;

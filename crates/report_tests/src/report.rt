@@ -1,10 +1,10 @@
 //! The results of workers, as text.
 
+use crate::held::Held;
 use crate::program::{Asked, Parts, Trial, on_one_thread};
 use flow_graph::Graphs;
 use gather::{Answer, Report, check_rounds, check_rounds_with};
 use path_sets::{DiagramEdges, OrderedEdges};
-use procedure_worker::{Gate, Open};
 use std::alloc::{AllocError, Allocator, Global};
 use std::sync::Wait;
 use std::thread::Threads;
@@ -12,34 +12,33 @@ use summaries::{Due, NoVerdict, Summaries};
 use switchboard::{LockPerBox, OneLock};
 
 /// The report of the workers with these parts; those of the program are what `check_rounds` has.
-fn report_of<R, K, A>(
+fn report_of<R, A>(
     rt: &R,
     alloc: A,
     asked: &Asked,
     parts: Parts,
-    gate: &K,
+    held: &Held,
 ) -> Result<Report<A, A>, NoVerdict>
 where
     R: Wait + Threads + Sync,
-    K: Gate + Sync,
     A: Allocator + Copy + Send + Sync,
 {
     let (program, rounds, limit) = (&asked.program, asked.rounds, asked.limit);
     match (parts.one_lock, parts.diagrams) {
-        (false, true) => check_rounds(rt, alloc, program, rounds, limit, gate),
+        (false, true) => check_rounds(rt, alloc, program, rounds, limit, held),
         (false, false) => {
-            check_rounds_with::<R, LockPerBox<Due, Graphs<A>, A>, OrderedEdges<A>, K, Global>(
-                rt, alloc, alloc, program, rounds, limit, gate,
+            check_rounds_with::<R, LockPerBox<Due, Graphs<A>, A>, OrderedEdges<A>, Held, Global>(
+                rt, alloc, alloc, program, rounds, limit, held,
             )
         }
         (true, false) => {
-            check_rounds_with::<R, OneLock<Due, Graphs<A>, A>, OrderedEdges<A>, K, Global>(
-                rt, alloc, alloc, program, rounds, limit, gate,
+            check_rounds_with::<R, OneLock<Due, Graphs<A>, A>, OrderedEdges<A>, Held, Global>(
+                rt, alloc, alloc, program, rounds, limit, held,
             )
         }
         (true, true) => {
-            check_rounds_with::<R, OneLock<Due, Graphs<A>, A>, DiagramEdges<A>, K, Global>(
-                rt, alloc, alloc, program, rounds, limit, gate,
+            check_rounds_with::<R, OneLock<Due, Graphs<A>, A>, DiagramEdges<A>, Held, Global>(
+                rt, alloc, alloc, program, rounds, limit, held,
             )
         }
     }
@@ -103,20 +102,20 @@ pub fn answer<R: Wait + Threads + Sync, A: Allocator + Copy + Send + Sync>(
     alloc: A,
     asked: &Asked,
 ) -> Result<Answer, NoVerdict> {
-    let report = report_of(rt, alloc, asked, asked.parts, &Open)?;
+    let report = report_of(rt, alloc, asked, asked.parts, &Held::Open)?;
     Ok(report.answer)
 }
 
 impl<R: Wait + Threads + Sync> Trial<'_, R> {
-    /// Writes the result of the workers with these parts and this gate, and whether one thread comes to the
+    /// Writes the result of the workers with these parts, and whether one thread comes to the
     /// same.
-    pub fn write_report_of<K: Gate + Sync>(
+    pub fn write_report_of(
         &self,
         out: &mut String,
         parts: Parts,
-        gate: &K,
+        held: &Held,
     ) -> Result<(), AllocError> {
-        let report = report_of(self.rt, self.alloc, self.asked, parts, gate);
+        let report = report_of(self.rt, self.alloc, self.asked, parts, held);
         write_report(out, &report)?;
         let same = match (
             &report,

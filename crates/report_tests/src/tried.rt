@@ -2,12 +2,12 @@
 
 ghost use Rattle.std.specs.Prelude.{◌≤◌, ◌^◌};
 
+use crate::held::Held;
 use crate::program::{Parts, Trial};
 use crate::refusing::{Moment, Refusing};
 use flow_graph::Graphs;
-use gather::{Answer, CrewBoard, CrewSet, Hire, check_rounds_tried};
+use gather::{Answer, CrewBoard, CrewSet, check_rounds_tried};
 use path_sets::{DiagramEdges, OrderedEdges};
-use procedure_worker::Gate;
 use std::alloc::{AllocError, Global};
 use std::sync::Wait;
 use std::thread::Threads;
@@ -18,9 +18,6 @@ use ticket_lock::MOST_TICKETS;
 type LockEach = LockPerBox<Due, Graphs<Global>, Global>;
 
 type LockAll = OneLock<Due, Graphs<Global>, Global>;
-
-/// A lane that no program has.
-const NO_LANE: u8 = 64;
 
 /// The parts of a number from 0 to 3.
 pub fn parts_at(number: u8) -> Parts {
@@ -53,19 +50,19 @@ pub fn put(out: &mut String, one: &str) -> Result<(), AllocError> {
 impl<R: Wait + Threads + Sync> Trial<'_, R> {
     /// The answer of the workers over this board and kind of set, with one value as the gate and as `Hire`. At the edge
     /// limit procedure 0 is named, since which one passes it first may depend on the schedule.
-    fn over<B: CrewBoard, S: CrewSet, H: Gate + Hire + Sync>(
+    fn over<B: CrewBoard, S: CrewSet>(
         &self,
         heap: B::Heap,
         alloc: S::Heap,
         limit: EdgeLimit,
-        hire: &H,
+        held: &Held,
         budget: u64,
     ) -> Result<Answer, NoVerdict>
         requires { (2 ≤ budget) × (budget ≤ 2 ^ 56) }
     {
         let (program, rounds) = (&self.asked.program, self.asked.rounds);
-        match check_rounds_tried::<R, B, S, H, H, Global>(
-            self.rt, heap, alloc, program, rounds, limit, hire, hire, budget,
+        match check_rounds_tried::<R, B, S, Held, Held, Global>(
+            self.rt, heap, alloc, program, rounds, limit, held, held, budget,
         ) {
             Ok(report) => Ok(report.answer),
             Err(NoVerdict::EdgeLimit(_)) => Err(NoVerdict::EdgeLimit(0)),
@@ -74,29 +71,23 @@ impl<R: Wait + Threads + Sync> Trial<'_, R> {
     }
 
     /// The answer of the workers with these parts.
-    pub fn tried<H: Gate + Hire + Sync>(
+    pub fn tried(
         &self,
         parts: Parts,
         limit: EdgeLimit,
-        hire: &H,
+        held: &Held,
         budget: u64,
     ) -> Result<Answer, NoVerdict>
         requires { (2 ≤ budget) × (budget ≤ 2 ^ 56) }
     {
         let a = self.alloc;
         match (parts.one_lock, parts.diagrams) {
-            (false, true) => self.over::<LockEach, DiagramEdges<Global>, H>(
-                a, a, limit, hire, budget,
+            (false, true) => self.over::<LockEach, DiagramEdges<Global>>(a, a, limit, held, budget),
+            (false, false) => self.over::<LockEach, OrderedEdges<Global>>(
+                a, a, limit, held, budget,
             ),
-            (false, false) => self.over::<LockEach, OrderedEdges<Global>, H>(
-                a, a, limit, hire, budget,
-            ),
-            (true, true) => self.over::<LockAll, DiagramEdges<Global>, H>(
-                a, a, limit, hire, budget,
-            ),
-            (true, false) => self.over::<LockAll, OrderedEdges<Global>, H>(
-                a, a, limit, hire, budget,
-            ),
+            (true, true) => self.over::<LockAll, DiagramEdges<Global>>(a, a, limit, held, budget),
+            (true, false) => self.over::<LockAll, OrderedEdges<Global>>(a, a, limit, held, budget),
         }
     }
 
@@ -104,7 +95,7 @@ impl<R: Wait + Threads + Sync> Trial<'_, R> {
     fn unrefused(&self, parts: Parts, limit: EdgeLimit, budget: u64) -> Result<Answer, NoVerdict>
         requires { (2 ≤ budget) × (budget ≤ 2 ^ 56) }
     {
-        self.tried(parts, limit, &Refusing::new(NO_LANE, None), budget)
+        self.tried(parts, limit, &Held::Open, budget)
     }
 
     /// Writes the results over each pair of board and set with this lane refused, after this call; once, if all come
@@ -117,7 +108,8 @@ impl<R: Wait + Threads + Sync> Trial<'_, R> {
     ) -> Result<(), AllocError> {
         for number in 0..4u8 {
             let hire = Refusing::new(lane, after);
-            let came = self.tried(parts_at(number), self.asked.limit, &hire, MOST_TICKETS);
+            let held = Held::Refusing(&hire);
+            let came = self.tried(parts_at(number), self.asked.limit, &held, MOST_TICKETS);
             let mut one = String::new(self.alloc);
             write_came(&mut one, came)?;
             let lanes = hire.asked();
