@@ -48,40 +48,34 @@ fn padded(alloc: Global, text: &str, length: usize) -> Result<Vec<u8>, AllocErro
     Ok(bytes)
 }
 
-/// The words and the text of a case.
-fn parts(rest: &str) -> (&str, &str) {
-    rest.split_once(" | ").unwrap_or((rest, ""))
-}
-
-/// Prints what the program does.
-pub fn run<R: Files + Print + AllocGlobal + Wait + Threads + Sync>(
-    rt: &R,
-    how: &str,
-    rest: &str,
-) -> io::Result<()> {
-    let (line, text) = parts(rest);
-    let words = words_of(rt.alloc(), line).map_err(io::Error::from);
-    match how {
-        "program" => print_run(rt, words, |path: &str| fs::open(rt, path)),
-        "file" => {
-            let text = bytes_of(rt.alloc(), text)?;
-            print_run(rt, words, |path: &str| opened(text.as_slice(), path))
-        }
-        "a word is no UTF-8" => print_unread(rt, ErrorKind::InvalidData),
-        _ => print_unread(rt, ErrorKind::OutOfMemory),
-    }
-}
-
-/// Prints what `serve` does, asked in one of the ways of the table in `main.rt`.
+/// Prints the result of a case, asked in one of the ways of the table in `main.rt`.
 pub fn answered<R: Files + Print + AllocGlobal + Wait + Threads + Sync>(
     rt: &R,
     how: &str,
     rest: &str,
 ) -> io::Result<()> {
-    let (line, text) = parts(rest);
-    match order(rt.alloc(), words_of(rt.alloc(), line)?.as_slice()) {
-        Ok((order, _file)) => to_text(rt, how, text, order),
-        Err(_) => rt.print("no order\n"),
+    let (line, text) = rest.split_once(" | ").unwrap_or((rest, ""));
+    let words = words_of(rt.alloc(), line);
+    match how {
+        "program" => print_run(
+            rt,
+            words.map_err(io::Error::from),
+            |path: &str| fs::open(rt, path),
+        ),
+        "file" => {
+            let text = bytes_of(rt.alloc(), text)?;
+            print_run(
+                rt,
+                words.map_err(io::Error::from),
+                |path: &str| opened(text.as_slice(), path),
+            )
+        }
+        "a word is no UTF-8" => print_unread(rt, ErrorKind::InvalidData),
+        "no memory for the words" => print_unread(rt, ErrorKind::OutOfMemory),
+        _ => match order(rt.alloc(), words?.as_slice()) {
+            Ok((order, _file)) => to_text(rt, how, text, order),
+            Err(_) => rt.print("no order\n"),
+        },
     }
 }
 

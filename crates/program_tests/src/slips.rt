@@ -8,7 +8,7 @@ use std::sync::Wait;
 use std::thread::Threads;
 
 /// The words for a slip that names none.
-const WORDS: &str = "check --rounds 1 a.bp";
+pub const WORDS: &str = "check --rounds 1 a.bp";
 
 /// The file of these bytes, under its one name.
 fn opened<'a>(text: &'a [u8], path: &str) -> io::Result<&'a [u8]> {
@@ -19,15 +19,6 @@ fn opened<'a>(text: &'a [u8], path: &str) -> io::Result<&'a [u8]> {
     }
 }
 
-/// Prints what standard error took for a slip, or what standard output took for a text that was mended.
-pub fn answered<R: Print + AllocGlobal + Wait + Threads + Sync>(
-    rt: &R,
-    how: &str,
-    text: &str,
-) -> io::Result<()> {
-    print_case(rt, WORDS, text, how == "slip")
-}
-
 /// Prints what standard error took for these words and this text.
 pub fn print_slip<R: Print + AllocGlobal + Wait + Threads + Sync>(
     rt: &R,
@@ -35,6 +26,14 @@ pub fn print_slip<R: Print + AllocGlobal + Wait + Threads + Sync>(
     text: &str,
 ) -> io::Result<()> {
     print_case(rt, words, text, true)
+}
+
+/// Prints what standard output took for a text that was mended.
+pub fn print_mended<R: Print + AllocGlobal + Wait + Threads + Sync>(
+    rt: &R,
+    text: &str,
+) -> io::Result<()> {
+    print_case(rt, WORDS, text, false)
 }
 
 /// Prints what standard error took for these words and this text, or else what standard output took.

@@ -1,6 +1,6 @@
 //! Each allocation refused in turn.
 
-use crate::verdicts::print_reply;
+use crate::case::print_reply;
 use cases::{Outcome, Sweep, Swept};
 use cli::{Order, Reply, answer, answer_with};
 use flow_graph::Graphs;

@@ -1,18 +1,11 @@
-//! Answers to words of the command line and to texts.
+//! One case.
 
-mod beginnings;
-mod message;
-mod refused;
-mod schedules;
-mod text;
-mod words;
-
-use crate::verdicts::beginnings::beginnings;
-use crate::verdicts::message::{print_edge_limit, print_told, print_told_without};
-use crate::verdicts::refused::{in_turn, over_pairs};
-use crate::verdicts::schedules::schedules;
-use crate::verdicts::text::{bytes_of, name_of};
-use crate::verdicts::words::{asked, print_fault, print_order};
+use crate::beginnings::beginnings;
+use crate::message::{print_edge_limit, print_told, print_told_without};
+use crate::refused::{in_turn, over_pairs};
+use crate::schedules::schedules;
+use crate::text::{bytes_of, name_of};
+use crate::words::{asked, print_fault, print_order};
 use cases::sweep_of;
 use cli::{Order, Reply, answer};
 use std::alloc::Allocator;

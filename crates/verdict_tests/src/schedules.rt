@@ -1,6 +1,6 @@
 //! The same answer whatever the schedule of its workers.
 
-use crate::verdicts::print_reply;
+use crate::case::print_reply;
 use cli::{Order, Reply, answer, answer_with};
 use flow_graph::Graphs;
 use path_sets::OrderedEdges;
