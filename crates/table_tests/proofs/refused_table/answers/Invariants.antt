@@ -1,6 +1,0 @@
--- The table stays one.
-use Rattle.summaries.specs.Tables.{IsTable}
-use Rattle.table_tests.proofs.refused_table.answers.Given as goal
-
-abbrev pub invariant-turns : goal.invariant-turns
-invariant-turns g l = IsTable g.S.PathSet.members l.table

@@ -1,6 +1,0 @@
--- The table stays one.
-use Rattle.summaries.specs.Tables.{IsTable}
-use Rattle.table_tests.proofs.tables.write_turns.Given as goal
-
-abbrev pub invariant-words : goal.invariant-words
-invariant-words g l = IsTable g.S.PathSet.members l.table

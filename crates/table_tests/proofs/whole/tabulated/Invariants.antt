@@ -1,7 +1,0 @@
--- The program that is tabulated is the sequential one.
-use Rattle.language.specs.Sequential.{sequential_of}
-use Rattle.trees.specs.Trees.{tree_of}
-use Rattle.table_tests.proofs.whole.tabulated.Given as goal
-
-abbrev pub ghost-by_graphs : goal.ghost-by_graphs
-ghost-by_graphs g a = sequential_of (tree_of a.sequential.now.program)
