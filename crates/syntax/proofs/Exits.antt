@@ -1,7 +1,9 @@
 -- If a part is refused, so is the whole.
-use Rattle.std.proofs.Common.{◌≡◌, Option, None}
+use Rattle.std.proofs.Common.{◌≡◌, List, Option, None}
 use Rattle.std.specs.Prelude.{Result, Ok, Err, IsErrAnd}
-use Rattle.syntax.specs.Gives.{RefusesTokens, Gives}
+use denote.Ref.{Bor}
+use Rattle.tokens.specs.declared.vocabulary.Token.{Token}
+use Rattle.syntax.specs.Gives.{RefusesTokens, Gives, Shorter}
 use Rattle.syntax.specs.declared.fault.ReadFault.{ReadFault}
 use Rattle.syntax.specs.declared.fault.ReadFault.TheVariants as fault
 
@@ -16,3 +18,9 @@ pub refused : {X Y Z : Type 0} (view : X → Z) (r : Result X ReadFault) (e : Re
     → Gives view r other
 refused view (Ok x) e given other same h f = absurd same
 refused view (Err y) e given other same h f = rw same (fails_on e given other h f)
+
+-- nothing is left of what was refused
+pub refused_shorter : {X : Type 0} (r : Result (X × Bor (List Token)) ReadFault) (e : ReadFault) (ts : List Token)
+    → IsErrAnd r (λ y. y ≡ e) → Shorter r ts
+refused_shorter (Ok x) e ts same = absurd same
+refused_shorter (Err y) e ts same = tt

@@ -103,3 +103,6 @@ module _ (ts : List Tok) {m : Mark Name} {us : List Tok} (e : marked ts ≡ Some
   pub item_whole : {d : Deed} {rest : List Tok} → deed us ≡ Some (d, rest)
       → item ts ≡ Some (record { mark = m; deed = d }, rest)
   item_whole f = item_behind ∙ rw f refl
+
+  pub item_refused : deed us ≡ None → item ts ≡ None
+  item_refused f = item_behind ∙ rw f refl
