@@ -1,9 +1,7 @@
 -- If a part is refused, so is the whole.
-use Rattle.std.proofs.Common.{◌≡◌, List, Option, None}
-use Rattle.std.specs.Prelude.{Result, Ok, Err, IsErrAnd}
-use denote.Ref.{Bor}
-use Rattle.tokens.specs.declared.vocabulary.Token.{Token}
-use Rattle.syntax.specs.Gives.{RefusesTokens, Gives, Shorter}
+use Rattle.std.proofs.Common.{◌≡◌, Option, None}
+use Rattle.std.specs.Prelude.{Result, Ok, Err, IfOk, IsErrAnd}
+use Rattle.syntax.specs.Gives.{RefusesTokens, Gives}
 use Rattle.syntax.specs.declared.fault.ReadFault.{ReadFault}
 use Rattle.syntax.specs.declared.fault.ReadFault.TheVariants as fault
 
@@ -19,8 +17,7 @@ pub refused : {X Y Z : Type 0} (view : X → Z) (r : Result X ReadFault) (e : Re
 refused view (Ok x) e given other same h f = absurd same
 refused view (Err y) e given other same h f = rw same (fails_on e given other h f)
 
--- nothing is left of what was refused
-pub refused_shorter : {X : Type 0} (r : Result (X × Bor (List Token)) ReadFault) (e : ReadFault) (ts : List Token)
-    → IsErrAnd r (λ y. y ≡ e) → Shorter r ts
-refused_shorter (Ok x) e ts same = absurd same
-refused_shorter (Err y) e ts same = tt
+-- what holds if all is well
+pub refused_is_well : {X : Type 0} (P : X → Type 0) (r : Result X ReadFault) (e : ReadFault) → IsErrAnd r (λ y. y ≡ e) → IfOk r P
+refused_is_well P (Ok x) e same = absurd same
+refused_is_well P (Err y) e same = tt

@@ -9,7 +9,7 @@ use Rattle.tokens.specs.declared.vocabulary.Kind.TheVariants as kind
 use Rattle.syntax.proofs.Closings.{closed_read}
 use Rattle.syntax.proofs.Expressions.{operand_begins, starts, goes_on}
 use Rattle.syntax.proofs.Expressions.{ends_before, stops_at_end, no_start, no_right}
-use Rattle.syntax.proofs.Exits.{refused, refused_shorter}
+use Rattle.syntax.proofs.Exits.{refused, refused_is_well}
 use Rattle.syntax.proofs.ChainLemmas.{at_end}
 use Rattle.trees.proofs.Folds.{expr_of-Const, expr_of-Var, expr_of-Not, expr_of-Two}
 use Rattle.syntax.proofs.reader.Reader.+expressions.Goals as goal
@@ -118,7 +118,7 @@ expression-returns-in_err-tree g t c = record {
   gives =
       refused _ c.from_residual.result _ (operand (toks_of c.args.tokens.now)) _
       c.from_residual.ensures.1 (no_start c.args.least (toks_of c.args.tokens.now)) c.in_err-tree.ensures.gives;
-  shorter = refused_shorter c.from_residual.result _ c.args.tokens.now c.from_residual.ensures.1;
+  shorter = refused_is_well _ c.from_residual.result _ c.from_residual.ensures.1;
 }
 
 pub expression-returns-in_err-right : goal.expression-returns-in_err-right
@@ -134,7 +134,7 @@ expression-returns-in_err-right g t c =
           ∙ ap (λ (ts : List Token). reading (after c.args.least (expr_of c.loop-first.tree)) (toks_of ts)) c.in-Some.ensures.cases.0
           ∙ no_right c.args.least (expr_of c.loop-first.tree) (tok_of c.in-Some.first.now)
           (toks_of c.in-Some.others.now) (operator_of op) (sym c.in-Some-operator_of_kind.ensures) none) given;
-      shorter = refused_shorter c.from_residual-in_err-right.result _ c.args.tokens.now c.from_residual-in_err-right.ensures.1;
+      shorter = refused_is_well _ c.from_residual-in_err-right.result _ c.from_residual-in_err-right.ensures.1;
     }
 
 pub operand-returns-in_err-inner-in-Not : goal.operand-returns-in_err-inner-in-Not
@@ -145,5 +145,5 @@ operand-returns-in_err-inner-in-Not g t c = record {
       c.from_residual-in_err-inner-in-Not.ensures.1
       (λ none. operand_begins kind.Not c.args.tokens.now c.in-Some.rest.now c.in-Some.first.now c.in-Some.ensures.cases.0
       c.in-Not.is ∙ rw none refl) c.in_err-inner-in-Not.ensures.gives;
-  shorter = refused_shorter c.from_residual-in_err-inner-in-Not.result _ c.args.tokens.now c.from_residual-in_err-inner-in-Not.ensures.1;
+  shorter = refused_is_well _ c.from_residual-in_err-inner-in-Not.result _ c.from_residual-in_err-inner-in-Not.ensures.1;
 }

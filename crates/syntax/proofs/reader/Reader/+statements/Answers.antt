@@ -8,7 +8,7 @@ use Rattle.trees.proofs.Folds.{item_is, deed_of-Skip, deed_of-Return, deed_of-If
 use Rattle.syntax.proofs.Goings.{sections_start, sections_go_on}
 use Rattle.syntax.proofs.Goings.{item_whole, item_refused, deed_leaves, deed_gives, deed_calls, deed_asks, deed_assigns, deed_begins}
 use Rattle.syntax.proofs.Goings.{sections_no_start, sections_refused, sections_end}
-use Rattle.syntax.proofs.Exits.{refused, refused_shorter}
+use Rattle.syntax.proofs.Exits.{refused, refused_is_well}
 use Rattle.syntax.proofs.Loops.{pushed}
 use Rattle.syntax.proofs.reader.Reader.+statements.Goals as goal
 
@@ -185,7 +185,7 @@ branch-returns-in_err-side g t c = record {
   gives =
       refused _ c.from_residual.result _ (closed kind.Then condition (toks_of c.args.tokens.now)) _
       c.from_residual.ensures.1 (λ none. rw none refl) c.in_err-side.ensures.gives;
-  shorter = refused_shorter c.from_residual.result _ c.args.tokens.now c.from_residual.ensures.1;
+  shorter = refused_is_well _ c.from_residual.result _ c.from_residual.ensures.1;
 }
 
 pub branch-returns-in_err-yes : goal.branch-returns-in_err-yes
@@ -194,7 +194,7 @@ branch-returns-in_err-yes g t c = record {
   gives =
       refused _ c.from_residual-in_err-yes.result _ (closed kind.Else section (toks_of c.in_ok-side.opened.now)) _
       c.from_residual-in_err-yes.ensures.1 (λ none. rw (c.in_ok-side.ensures.gives, none) refl) c.in_err-yes.ensures.gives;
-  shorter = refused_shorter c.from_residual-in_err-yes.result _ c.args.tokens.now c.from_residual-in_err-yes.ensures.1;
+  shorter = refused_is_well _ c.from_residual-in_err-yes.result _ c.from_residual-in_err-yes.ensures.1;
 }
 
 pub branch-returns-in_err-no : goal.branch-returns-in_err-no
@@ -204,7 +204,7 @@ branch-returns-in_err-no g t c = record {
       refused _ c.from_residual-in_err-no.result _ (closed kind.Fi section (toks_of c.in_ok-yes.between.now)) _
       c.from_residual-in_err-no.ensures.1
       (λ none. rw (c.in_ok-side.ensures.gives, c.in_ok-yes.ensures.gives, none) refl) c.in_err-no.ensures.gives;
-  shorter = refused_shorter c.from_residual-in_err-no.result _ c.args.tokens.now c.from_residual-in_err-no.ensures.1;
+  shorter = refused_is_well _ c.from_residual-in_err-no.result _ c.from_residual-in_err-no.ensures.1;
 }
 
 pub repeat-returns-in_err-side : goal.repeat-returns-in_err-side
@@ -213,7 +213,7 @@ repeat-returns-in_err-side g t c = record {
   gives =
       refused _ c.from_residual.result _ (closed kind.Do condition (toks_of c.args.tokens.now)) _
       c.from_residual.ensures.1 (λ none. rw none refl) c.in_err-side.ensures.gives;
-  shorter = refused_shorter c.from_residual.result _ c.args.tokens.now c.from_residual.ensures.1;
+  shorter = refused_is_well _ c.from_residual.result _ c.from_residual.ensures.1;
 }
 
 pub repeat-returns-in_err-body : goal.repeat-returns-in_err-body
@@ -222,7 +222,7 @@ repeat-returns-in_err-body g t c = record {
   gives =
       refused _ c.from_residual-in_err-body.result _ (closed kind.Od section (toks_of c.in_ok-side.opened.now)) _
       c.from_residual-in_err-body.ensures.1 (λ none. rw (c.in_ok-side.ensures.gives, none) refl) c.in_err-body.ensures.gives;
-  shorter = refused_shorter c.from_residual-in_err-body.result _ c.args.tokens.now c.from_residual-in_err-body.ensures.1;
+  shorter = refused_is_well _ c.from_residual-in_err-body.result _ c.from_residual-in_err-body.ensures.1;
 }
 
 pub statement-returns-in_err-label : goal.statement-returns-in_err-label
@@ -231,7 +231,7 @@ statement-returns-in_err-label g t c = record {
   gives =
       refused _ c.from_residual.result _ (marked (toks_of c.args.tokens.now)) _
       c.from_residual.ensures.1 (λ none. rw none refl) c.in_err-label.ensures.gives;
-  shorter = refused_shorter c.from_residual.result _ c.args.tokens.now c.from_residual.ensures.1;
+  shorter = refused_is_well _ c.from_residual.result _ c.from_residual.ensures.1;
 }
 
 pub statement-returns-in_err-core : goal.statement-returns-in_err-core
@@ -241,7 +241,7 @@ statement-returns-in_err-core g t c = record {
       refused _ c.from_residual-in_err-core.result _ (deed (toks_of c.in_ok-label.others.now)) _
       c.from_residual-in_err-core.ensures.1
       (item_refused (toks_of c.args.tokens.now) c.in_ok-label.ensures.gives) c.in_err-core.ensures.gives;
-  shorter = refused_shorter c.from_residual-in_err-core.result _ c.args.tokens.now c.from_residual-in_err-core.ensures.1;
+  shorter = refused_is_well _ c.from_residual-in_err-core.result _ c.from_residual-in_err-core.ensures.1;
 }
 
 pub statements-returns-in_err-first : goal.statements-returns-in_err-first
@@ -249,7 +249,7 @@ statements-returns-in_err-first g t c = record {
   gives =
       refused _ c.from_residual.result _ (item (toks_of c.args.tokens.now)) _
       c.from_residual.ensures.1 (sections_no_start (toks_of c.args.tokens.now)) c.in_err-first.ensures.gives;
-  shorter = refused_shorter c.from_residual.result _ c.args.tokens.now c.from_residual.ensures.1;
+  shorter = refused_is_well _ c.from_residual.result _ c.from_residual.ensures.1;
 }
 
 pub statements-returns-in_err-next : goal.statements-returns-in_err-next
@@ -260,7 +260,7 @@ statements-returns-in_err-next g t c = record {
       (λ none. c.loop-rest.invariant.whole
       ∙ sections_refused (items_of c.loop-rest.list.items) (toks_of c.loop-rest.rest.now)
       (sym c.begins_statement.ensures ∙ c.loop-rest-test.true) none) c.in_err-next.ensures.gives;
-  shorter = refused_shorter c.from_residual-in_err-next.result _ c.args.tokens.now c.from_residual-in_err-next.ensures.1;
+  shorter = refused_is_well _ c.from_residual-in_err-next.result _ c.from_residual-in_err-next.ensures.1;
 }
 
 pub statements-returns : goal.statements-returns

@@ -1,4 +1,7 @@
-use Rattle.syntax.specs.Exact.{calling}
+use Rattle.std.proofs.Common.{refl}
+use Rattle.tokens.specs.Token.{toks_of}
+use Rattle.syntax.specs.Exact.{calling, name, argument_list}
+use Rattle.syntax.proofs.Exits.{refused, refused_is_well}
 use Rattle.syntax.proofs.Closings.{less_still, shorter_behind}
 use Rattle.trees.proofs.Folds.{deed_of-Call}
 use Rattle.syntax.proofs.reader.Reader.calling.Goals as goal
@@ -12,4 +15,22 @@ returns g c = record {
   shorter =
       shorter_behind c.ended.result c.in_ok-arguments.rest.now c.args.tokens.now
       (less_still c.in_ok-arguments.ensures.shorter c.in_ok-name.ensures.shorter) c.ended.ensures.shorter;
+}
+
+pub returns-in_err-name : goal.returns-in_err-name
+unfolding calling
+returns-in_err-name g c = record {
+  gives =
+      refused _ c.from_residual.result _ (name (toks_of c.args.tokens.now)) _
+      c.from_residual.ensures.1 (λ none. rw none refl) c.in_err-name.ensures.gives;
+  shorter = refused_is_well _ c.from_residual.result _ c.from_residual.ensures.1;
+}
+
+pub returns-in_err-arguments : goal.returns-in_err-arguments
+unfolding calling
+returns-in_err-arguments g c = record {
+  gives =
+      refused _ c.from_residual-in_err-arguments.result _ (argument_list (toks_of c.in_ok-name.others.now)) _
+      c.from_residual-in_err-arguments.ensures.1 (λ none. rw (c.in_ok-name.ensures.gives, none) refl) c.in_err-arguments.ensures.gives;
+  shorter = refused_is_well _ c.from_residual-in_err-arguments.result _ c.from_residual-in_err-arguments.ensures.1;
 }
