@@ -1,9 +1,9 @@
 //! Statements appended to others.
 
-ghost use Rattle.std.specs.Prelude.{◌≡◌, IfOk, option_map};
+ghost use Rattle.std.specs.Prelude.{◌≡◌, IfOk, IsOkAnd, option_map};
 ghost use Rattle.language.specs.Tree.{done};
 ghost use Rattle.trees.specs.Trees.{name_of, deed_of, block_of, marked_before};
-ghost use Rattle.round_rewrite.specs.Writing.{Appends};
+ghost use Rattle.round_rewrite.specs.Writing.{Appends, Lays};
 ghost use Rattle.round_rewrite.specs.Table.{no_mark};
 
 use std::alloc::{AllocError, Allocator};
@@ -32,6 +32,17 @@ pub(crate) fn push<A: Allocator>(core: Core<A>, into: &mut Stmts<A>) -> Result<(
     ensures { Appends result into.old.items into.new.items (marked_before no_mark (deed_of core)) }
 {
     push_marked(None, 0, core, into)
+}
+
+/// Appends a statement without a label to others, if it could be made.
+pub(crate) fn push_made<A: Allocator>(
+    core: Result<Core<A>, AllocError>,
+    into: &mut Stmts<A>,
+) -> Result<(), AllocError>
+    ensures { IfOk result (λ _. IsOkAnd core
+        (λ c. Lays into.old.items into.new.items (marked_before no_mark (deed_of c)))) }
+{
+    push(core?, into)
 }
 
 /// The block of one statement.

@@ -8,7 +8,7 @@ ghost use Rattle.round_rewrite.specs.Names.{fresh_name, bit_names};
 ghost use Rattle.round_rewrite.specs.Writing.{carried, raised_bit, stop_testing, stopping};
 ghost use Rattle.round_rewrite.specs.Writing.{failing};
 
-use crate::block::{push, single};
+use crate::block::{push, push_made, single};
 use crate::expression::{bit_of, not, operation, variable};
 use crate::names::{bit, fixed};
 use crate::writer::Writer;
@@ -98,7 +98,7 @@ pub(crate) fn checked<A: Allocator + Copy>(alloc: &A, side: Rhs<A>) -> Result<Co
 {
     let yes = single(alloc, Core::Skip)?;
     let mut no = Vec::new(*alloc);
-    push(set_both(alloc, "bad__", "stop__")?, &mut no)?;
+    push_made(set_both(alloc, "bad__", "stop__"), &mut no)?;
     push(Core::Return, &mut no)?;
     Ok(Core::If(side, yes, no))
 }
@@ -187,8 +187,8 @@ impl<'a, N: Allocator, A: Allocator + Copy> Writer<'a, N, A> {
             (λ c. deed_of c ≡ repeat any (rise (naming_of self.now) self.now.rounds.last)) }
     {
         let mut body = Vec::new(*self.alloc);
-        push(self.not_last()?, &mut body)?;
-        push(self.next_round()?, &mut body)?;
+        push_made(self.not_last(), &mut body)?;
+        push_made(self.next_round(), &mut body)?;
         Ok(Core::While(Rhs::Any, body))
     }
 }

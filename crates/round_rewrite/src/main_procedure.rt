@@ -9,7 +9,7 @@ ghost use Rattle.round_rewrite.specs.Names.{by_names, copy_name, save_name};
 ghost use Rattle.round_rewrite.specs.Writing.{Appends, line_names};
 ghost use Rattle.round_rewrite.specs.Limits.{most_rounds};
 
-use crate::block::{Stmts, push};
+use crate::block::{Stmts, push, push_made};
 use crate::cores::{push_bits, push_name};
 use crate::expression::{copy_of, operation, read_of};
 use crate::lists::{guessed, numbered_all, reads, zeros};
@@ -98,7 +98,7 @@ impl<'a, N: Allocator, A: Allocator + Copy> MainWriter<'a, N, A> {
             (starts (by_names []) self.now.rounds.last (line_names (threads_of threads.now))) }
     {
         for thread in threads {
-            push(reset(self.alloc, self.rounds)?, into)?;
+            push_made(reset(self.alloc, self.rounds), into)?;
             let name = clone_name(*self.alloc, &thread.name)?;
             push(Core::Call(name, Vec::new(*self.alloc)), into)?;
         }
@@ -112,7 +112,7 @@ impl<'a, N: Allocator, A: Allocator + Copy> MainWriter<'a, N, A> {
             (check (by_names []) self.now.rounds.last (names_of self.now.globals.now) round) }
     {
         for x in self.globals {
-            push(agrees(self.alloc, round, x)?, into)?;
+            push_made(agrees(self.alloc, round, x), into)?;
         }
         Ok(())
     }

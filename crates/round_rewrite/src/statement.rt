@@ -9,7 +9,7 @@ ghost use Rattle.round_rewrite.specs.Table.{statement};
 ghost use Rattle.round_rewrite.specs.Writing.{Appends, Lays, bare_form, forms};
 
 use crate::assignment::{any_values, temporaries};
-use crate::block::{Stmts, push, push_marked};
+use crate::block::{Stmts, push, push_made, push_marked};
 use crate::cores::{checked, stop_choice, stop_test};
 use crate::names::{clone_name, drawn};
 use crate::writer::Writer;
@@ -31,8 +31,8 @@ impl<'a, N: Allocator, A: Allocator + Copy> Writer<'a, N, A> {
             (record { label = option_map name_of label; at = at })) }
     {
         push_marked(label, at, self.rising()?, into)?;
-        push(stop_choice(self.alloc)?, into)?;
-        push(stop_test(self.alloc)?, into)
+        push_made(stop_choice(self.alloc), into)?;
+        push_made(stop_test(self.alloc), into)
     }
 
     /// Appends the draw of a given number of temporaries, if any, to others.
@@ -72,7 +72,7 @@ impl<'a, N: Allocator, A: Allocator + Copy> Writer<'a, N, A> {
         let name = clone_name(*self.alloc, p)?;
         let arguments = self.arguments(es)?;
         push(Core::Call(name, arguments), into)?;
-        push(stop_test(self.alloc)?, into)
+        push_made(stop_test(self.alloc), into)
     }
 
     /// Appends the rewriting of a return of a value to others.
@@ -149,8 +149,8 @@ impl<'a, N: Allocator, A: Allocator + Copy> Writer<'a, N, A> {
             (statement (naming_of self.now) self.now.rounds.last
             (call_for (name_of x.now) (name_of p.now) (exprs_of es.now))) }
     {
-        push(self.called(x, p, es)?, into)?;
-        push(stop_test(self.alloc)?, into)?;
+        push_made(self.called(x, p, es), into)?;
+        push_made(stop_test(self.alloc), into)?;
         self.landing(x, into)
     }
 
@@ -203,8 +203,7 @@ impl<'a, N: Allocator, A: Allocator + Copy> Writer<'a, N, A> {
         ensures { Appends result into.old.items into.new.items
             (statement (naming_of self.now) self.now.rounds.last (assert (rhs_of r.now))) }
     {
-        let core = checked(self.alloc, self.side(r)?)?;
-        push(core, into)
+        push_made(checked(self.alloc, self.side(r)?), into)
     }
 
     /// Appends the rewriting of an assume to others.

@@ -3,7 +3,7 @@ use Rattle.language.specs.Tree.{equal, var, value, two, assume, one}
 use Rattle.trees.specs.Trees.{name_of, names_of, items_of, all_before}
 use Rattle.round_rewrite.specs.Table.{no_mark, check}
 use Rattle.round_rewrite.specs.Names.{by_names, copy_name, save_name}
-use Rattle.round_rewrite.proofs.AppendLemmas.{laid}
+use Rattle.round_rewrite.proofs.AppendLemmas.{made}
 use Rattle.round_rewrite.proofs.Mains.{each_more, each_end}
 use Rattle.round_rewrite.proofs.main_procedure.MainWriter.check.Goals as goal
 
@@ -14,7 +14,7 @@ loop-x-preserved g c =
     each_more name_of (λ ys. check (by_names []) last ys c.args.round)
     (λ y k. one no_mark (assume (value (two equal (var (save_name (suc c.args.round) y)) (var (copy_name c.args.round y))))) k)
     (λ y ys k. refl) xs c.loop-x.x-index c.x-item.result c.loop-x-test.true c.x-item.is
-    c.loop-x.into.items c.push.new.into.items (laid _ _ no_mark _ _ c.in_ok-push.ensures c.in_ok-agrees.ensures)
+    c.loop-x.into.items c.push_made.new.into.items (made c.agrees.result _ _ no_mark _ c.in_ok-push_made.ensures c.agrees.ensures)
     (λ rest. all_before (items_of c.args.into.now.items) (check (by_names []) last (names_of xs) c.args.round rest)) c.loop-x.invariant
 
 pub returns : goal.returns
