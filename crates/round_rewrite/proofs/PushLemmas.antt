@@ -1,6 +1,7 @@
 -- What is pushed for one number after the other.
 use Rattle.std.proofs.Common.{◌≡◌, ℕ, zero, suc, ◌+◌, ◌≤◌, List, [], ◌∷◌, ◌++◌, map, sym, ◌∙◌, ap, ap₂}
 use Rattle.std.proofs.Common.{arith, append_assoc, append-nil, drop, get_or, length, ◌<◌}
+use Rattle.std.specs.Prelude.{Result, Ok, Err, IfOk, IsOkAnd}
 use Rattle.std.proofs.lemmas.List.{map-append, drop_more, drop_all}
 use Rattle.language.specs.Sequential.{numbers}
 
@@ -12,6 +13,12 @@ numbers_last start (suc k) =
 
 pub numbers_next : (start k : ℕ) → numbers start (k + 1) ≡ numbers start k ++ (start + k) ∷ []
 numbers_next start k = ap (numbers start) (let e : k + 1 ≡ suc k = omega arith in e) ∙ numbers_last start k
+
+-- a value that could be made is put behind others
+pub put_is : {X Y E : Type 0} (view : X → Y) (r : Result X E) (xs ys : List X) (y : Y) → IsOkAnd r (λ v. ys ≡ xs ++ v ∷ [])
+    → IfOk r (λ v. view v ≡ y) → (x : X) × (ys ≡ xs ++ x ∷ []) × (view x ≡ y)
+put_is view (Ok x) xs ys y put seen = (x, put, seen)
+put_is view (Err e) xs ys y put seen = absurd put
 
 -- one more is pushed
 pub pushed : {A B : Type 0} (view : A → B) (f : ℕ → B) (old : List B) (items : List A) (item : A) (k : ℕ)

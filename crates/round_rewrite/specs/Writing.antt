@@ -53,12 +53,11 @@ abbrev pub stopping : Deed
 stopping =
     branch any (one no_mark (assign (fresh_name (codes "stop__") ∷ []) (value (const true) ∷ [])) done) (one no_mark skip done)
 
--- what an assert of this right side becomes
-abbrev pub failing : tree.RightSide tree.Name → Deed
-failing right_side =
-    branch right_side (one no_mark skip done)
-    (one no_mark (assign (fresh_name (codes "bad__") ∷ fresh_name (codes "stop__") ∷ []) (value (const true) ∷ value (const true) ∷ []))
-    (one no_mark leave done))
+-- what follows if the right side of an assert is 0
+abbrev pub failed : TextBlock
+failed =
+    one no_mark (assign (fresh_name (codes "bad__") ∷ fresh_name (codes "stop__") ∷ []) (value (const true) ∷ value (const true) ∷ []))
+    (one no_mark leave done)
 
 module _ (naming : Naming tree.Name tree.Name tree.Name tree.Name) (last : ℕ) where
   -- a statement rewritten, without its prologue, in front of others

@@ -9,6 +9,7 @@ ghost use Rattle.round_rewrite.specs.Table.{each};
 ghost use Rattle.round_rewrite.specs.Names.{copy_name, drawn_name};
 
 use crate::expression::temporary;
+use crate::lists::{put, put_made};
 use crate::names::{clone_name, copy, drawn};
 use crate::writer::Writer;
 use std::alloc::{AllocError, Allocator};
@@ -27,7 +28,7 @@ pub(crate) fn temporaries<A: Allocator + Copy>(
 {
     let mut list = names;
     for k in 0..number {
-        list.push(drawn(*alloc, k)?)?;
+        put(&mut list, drawn(*alloc, k)?)?;
     }
     Ok(list)
 }
@@ -42,7 +43,7 @@ pub(crate) fn any_values<A: Allocator + Copy>(
 {
     let mut list = Vec::new(*alloc);
     for _ in 0..number {
-        list.push(Rhs::Any)?;
+        put(&mut list, Rhs::Any)?;
     }
     Ok(list)
 }
@@ -79,7 +80,7 @@ impl<'a, N: Allocator, A: Allocator + Copy> Writer<'a, N, A> {
             (numbers 0 (suc self.now.rounds.last))) }
     {
         for round in 0..self.rounds.count() {
-            into.push(copy(*self.alloc, round, x)?)?;
+            put(into, copy(*self.alloc, round, x)?)?;
         }
         Ok(())
     }
@@ -106,7 +107,7 @@ impl<'a, N: Allocator, A: Allocator + Copy> Writer<'a, N, A> {
             self.copies(x, into)?;
             self.targets(more, others, into)
         } else {
-            into.push(clone_name(*self.alloc, x)?)?;
+            put_made(into, clone_name(*self.alloc, x))?;
             self.targets(more, others, into)
         }
     }
@@ -127,7 +128,7 @@ impl<'a, N: Allocator, A: Allocator + Copy> Writer<'a, N, A> {
     {
         for round in 0..self.rounds.count() {
             let value = temporary(self.alloc, number)?;
-            into.push(self.copy_value(value, x, round)?)?;
+            put_made(into, self.copy_value(value, x, round))?;
         }
         Ok(())
     }
@@ -148,7 +149,7 @@ impl<'a, N: Allocator, A: Allocator + Copy> Writer<'a, N, A> {
     {
         for round in 0..self.rounds.count() {
             let value = self.expression(e)?;
-            into.push(self.copy_value(value, x, round)?)?;
+            put_made(into, self.copy_value(value, x, round))?;
         }
         Ok(())
     }
@@ -174,7 +175,7 @@ impl<'a, N: Allocator, A: Allocator + Copy> Writer<'a, N, A> {
             return Ok(());
         };
         if !self.is_shared(x) {
-            into.push(self.side(r)?)?;
+            put_made(into, self.side(r))?;
             return self.sides(number, more, others, into);
         }
         match r {

@@ -6,6 +6,7 @@ ghost use Rattle.trees.specs.Trees.{name_of, deed_of, block_of, marked_before};
 ghost use Rattle.round_rewrite.specs.Writing.{Appends, Lays};
 ghost use Rattle.round_rewrite.specs.Table.{no_mark};
 
+use crate::lists::put;
 use std::alloc::{AllocError, Allocator};
 use trees::{Core, Name, Stmt};
 
@@ -23,7 +24,7 @@ pub(crate) fn push_marked<A: Allocator>(
     ensures { Appends result into.old.items into.new.items
         (marked_before (record { label = option_map name_of label; at = at }) (deed_of core)) }
 {
-    into.push(Stmt { label, at, core })?;
+    put(into, Stmt { label, at, core })?;
     Ok(())
 }
 

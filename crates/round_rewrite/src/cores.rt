@@ -2,14 +2,15 @@
 
 ghost use Rattle.std.specs.Prelude.{◌≡◌, true, [], ◌∷◌, ◌++◌, IfOk, reverse};
 ghost use Rattle.language.specs.Tree.{const, any, negation, value, assign, assume};
-ghost use Rattle.trees.specs.Trees.{simple, repeat, names_of, expr_of, rhs_of, rhss_of, deed_of};
+ghost use Rattle.trees.specs.Trees.{simple, repeat, names_of, expr_of, rhs_of, rhss_of, deed_of, block_of};
 ghost use Rattle.round_rewrite.specs.Table.{in_round, rise, raised};
 ghost use Rattle.round_rewrite.specs.Names.{fresh_name, bit_names};
 ghost use Rattle.round_rewrite.specs.Writing.{carried, raised_bit, stop_testing, stopping};
-ghost use Rattle.round_rewrite.specs.Writing.{failing};
+ghost use Rattle.round_rewrite.specs.Writing.{failed};
 
-use crate::block::{push, push_made, single};
+use crate::block::{Stmts, push, push_made, single};
 use crate::expression::{bit_of, not, operation, variable};
+use crate::lists::put;
 use crate::names::{bit, fixed};
 use crate::writer::Writer;
 use std::alloc::{AllocError, Allocator};
@@ -32,7 +33,7 @@ pub(crate) fn push_name<A: Allocator + Copy>(
         (λ v. names_of v.items ≡ names_of into.items ++ fresh_name text.now ∷ []) }
 {
     let mut list = into;
-    list.push(fixed(*alloc, text)?)?;
+    put(&mut list, fixed(*alloc, text)?)?;
     Ok(list)
 }
 
@@ -41,7 +42,7 @@ fn push_side<A: Allocator>(side: Rhs<A>, into: Vec<Rhs<A>, A>) -> Result<Vec<Rhs
     ensures { IfOk result (λ v. rhss_of v.items ≡ rhss_of into.items ++ rhs_of side ∷ []) }
 {
     let mut list = into;
-    list.push(side)?;
+    put(&mut list, side)?;
     Ok(list)
 }
 
@@ -77,10 +78,10 @@ fn set_both<A: Allocator + Copy>(
 pub(crate) fn stop_test<A: Allocator + Copy>(alloc: &A) -> Result<Core<A>, AllocError>
     ensures { IfOk result (λ c. deed_of c ≡ stop_testing) }
 {
-    let test = Rhs::Value(variable(alloc, "stop__")?);
     let yes = single(alloc, Core::Return)?;
     let no = single(alloc, Core::Skip)?;
-    Ok(Core::If(test, yes, no))
+    let test = variable(alloc, "stop__")?;
+    Ok(Core::If(Rhs::Value(test), yes, no))
 }
 
 /// The choice to stop.
@@ -92,15 +93,14 @@ pub(crate) fn stop_choice<A: Allocator + Copy>(alloc: &A) -> Result<Core<A>, All
     Ok(Core::If(Rhs::Any, yes, no))
 }
 
-/// What an assert becomes: if its right side is 0, `bad__` and `stop__` are raised, and the procedure is left.
-pub(crate) fn checked<A: Allocator + Copy>(alloc: &A, side: Rhs<A>) -> Result<Core<A>, AllocError>
-    ensures { IfOk result (λ c. deed_of c ≡ failing (rhs_of side)) }
+/// What follows if the right side of an assert is 0: `bad__` and `stop__` are raised, and the procedure is left.
+pub(crate) fn failed<A: Allocator + Copy>(alloc: &A) -> Result<Stmts<A>, AllocError>
+    ensures { IfOk result (λ v. block_of v.items ≡ failed) }
 {
-    let yes = single(alloc, Core::Skip)?;
-    let mut no = Vec::new(*alloc);
-    push_made(set_both(alloc, "bad__", "stop__"), &mut no)?;
-    push(Core::Return, &mut no)?;
-    Ok(Core::If(side, yes, no))
+    let mut block = Vec::new(*alloc);
+    push_made(set_both(alloc, "bad__", "stop__"), &mut block)?;
+    push(Core::Return, &mut block)?;
+    Ok(block)
 }
 
 /// Appends the `count` lowest variables of the round's number to others, the highest bit first.
@@ -114,7 +114,7 @@ pub(crate) fn push_bits<A: Allocator + Copy>(
 {
     let mut list = into;
     for number in (0..count).rev() {
-        list.push(bit(*alloc, number)?)?;
+        put(&mut list, bit(*alloc, number)?)?;
     }
     Ok(list)
 }
@@ -149,7 +149,7 @@ fn next_bits<A: Allocator + Copy>(alloc: &A, count: u8) -> Result<Vec<Rhs<A>, A>
 {
     let mut list = Vec::new(*alloc);
     for number in (0..count).rev() {
-        list.push(Rhs::Value(next_bit(alloc, number)?))?;
+        put(&mut list, Rhs::Value(next_bit(alloc, number)?))?;
     }
     Ok(list)
 }

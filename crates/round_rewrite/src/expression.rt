@@ -9,6 +9,7 @@ ghost use Rattle.round_rewrite.specs.Table.{read, expression_form, side, copy_va
 ghost use Rattle.round_rewrite.specs.Names.{fresh_name, bit_name, copy_name, drawn_name};
 ghost use Rattle.round_rewrite.specs.Limits.{most_rounds};
 
+use crate::lists::put_made;
 use crate::names::{bit, clone_name, copy, drawn, fixed};
 use crate::writer::Writer;
 use std::alloc::{AllocError, Allocator};
@@ -217,7 +218,7 @@ impl<'a, N: Allocator, A: Allocator + Copy> Writer<'a, N, A> {
     {
         let mut list = Vec::new(*self.alloc);
         for e in es {
-            list.push(self.expression(e)?)?;
+            put_made(&mut list, self.expression(e))?;
         }
         Ok(list)
     }

@@ -1,6 +1,6 @@
-//! Lists of names and right sides, one for each name.
+//! Lists: one more value; names and right sides, one for each name.
 
-ghost use Rattle.std.specs.Prelude.{◌≡◌, ◌++◌, ◌<◌, false, IfOk, map};
+ghost use Rattle.std.specs.Prelude.{◌≡◌, ◌++◌, ◌∷◌, [], ◌<◌, false, IfOk, IsOkAnd, map};
 ghost use Rattle.language.specs.Tree.{any, const, var, value};
 ghost use Rattle.trees.specs.Trees.{names_of, rhss_of};
 ghost use Rattle.round_rewrite.specs.Table.{each};
@@ -13,6 +13,25 @@ use crate::names::{clone_name, numbered};
 use std::alloc::{AllocError, Allocator};
 use trees::{Name, Rhs};
 
+/// Appends a value to others.
+pub(crate) fn put<T: Drop, A: Allocator>(list: &mut Vec<T, A>, value: T) -> Result<(), AllocError>
+    ensures { IfOk result (λ _. list.new.items ≡ list.old.items ++ value ∷ []) }
+{
+    list.push(value)?;
+    Ok(())
+}
+
+/// Appends a value to others, if it could be made.
+pub(crate) fn put_made<T: Drop, A: Allocator>(
+    list: &mut Vec<T, A>,
+    value: Result<T, AllocError>,
+) -> Result<(), AllocError>
+    ensures { IfOk result
+        (λ _. IsOkAnd value (λ v. list.new.items ≡ list.old.items ++ v ∷ [])) }
+{
+    put(list, value?)
+}
+
 /// Appends copies of names to others.
 pub(crate) fn clone_names<N: Allocator, A: Allocator + Copy>(
     alloc: &A,
@@ -23,7 +42,7 @@ pub(crate) fn clone_names<N: Allocator, A: Allocator + Copy>(
 {
     let mut list = into;
     for x in xs {
-        list.push(clone_name(*alloc, x)?)?;
+        put(&mut list, clone_name(*alloc, x)?)?;
     }
     Ok(list)
 }
@@ -42,7 +61,7 @@ pub(crate) fn numbered_all<N: Allocator, A: Allocator + Copy>(
 {
     let mut list = into;
     for x in xs {
-        list.push(numbered(*alloc, x, mark, round)?)?;
+        put(&mut list, numbered(*alloc, x, mark, round)?)?;
     }
     Ok(list)
 }
@@ -56,7 +75,7 @@ pub(crate) fn guessed<N: Allocator, A: Allocator>(
 {
     let mut list = Vec::new(alloc);
     for _x in xs {
-        list.push(Rhs::Any)?;
+        put(&mut list, Rhs::Any)?;
     }
     Ok(list)
 }
@@ -70,7 +89,7 @@ pub(crate) fn zeros<N: Allocator, A: Allocator>(
 {
     let mut list = Vec::new(alloc);
     for _x in xs {
-        list.push(constant(false))?;
+        put(&mut list, constant(false))?;
     }
     Ok(list)
 }
@@ -87,7 +106,7 @@ pub(crate) fn reads<N: Allocator, A: Allocator + Copy>(
 {
     let mut list = Vec::new(*alloc);
     for x in xs {
-        list.push(Rhs::Value(copy_of(alloc, round, x)?))?;
+        put(&mut list, Rhs::Value(copy_of(alloc, round, x)?))?;
     }
     Ok(list)
 }

@@ -1,7 +1,7 @@
 //! The first procedure of a rewritten program: guesses, threads and checks.
 
-ghost use Rattle.std.specs.Prelude.{◌≡◌, ◌<◌, ◌+◌, suc, false, [], IfOk};
-ghost use Rattle.language.specs.Tree.{equal, var, value, two, const, assign, assume, call};
+ghost use Rattle.std.specs.Prelude.{◌≡◌, ◌<◌, ◌+◌, suc, false, [], IfOk, map};
+ghost use Rattle.language.specs.Tree.{equal, any, var, value, two, const, assign, assume, call};
 ghost use Rattle.trees.specs.Trees.{simple, name_of, names_of, threads_of, deed_of, block_of};
 ghost use Rattle.round_rewrite.specs.Table.{numbers, each, reset_targets, guess, guesses};
 ghost use Rattle.round_rewrite.specs.Table.{starts, check, checks, main};
@@ -57,6 +57,30 @@ fn agrees<N: Allocator, A: Allocator + Copy>(
 }
 
 impl<'a, N: Allocator, A: Allocator + Copy> MainWriter<'a, N, A> {
+    /// The guess of the globals for one round.
+    fn drawn(&self, round: u8) -> Result<Core<A>, AllocError>
+        requires { round < most_rounds }
+        ensures { IfOk result (λ c. deed_of c ≡ simple (assign
+            (map (copy_name round) (names_of self.now.globals.now))
+            (each any (names_of self.now.globals.now)))) }
+    {
+        let targets = numbered_all(self.alloc, COPY, round, self.globals, Vec::new(*self.alloc))?;
+        let sides = guessed(*self.alloc, self.globals)?;
+        Ok(Core::Assign(targets, sides))
+    }
+
+    /// The assignment that saves the guess for one round.
+    fn saved(&self, round: u8) -> Result<Core<A>, AllocError>
+        requires { round < most_rounds }
+        ensures { IfOk result (λ c. deed_of c ≡ simple (assign
+            (map (save_name round) (names_of self.now.globals.now))
+            (map (λ y. value (var (copy_name round y))) (names_of self.now.globals.now)))) }
+    {
+        let kept = numbered_all(self.alloc, GUESS, round, self.globals, Vec::new(*self.alloc))?;
+        let values = reads(self.alloc, round, self.globals)?;
+        Ok(Core::Assign(kept, values))
+    }
+
     /// Appends the guess of the globals for one round, saved, to others.
     fn guess(&self, round: u8, into: &mut Stmts<A>) -> Result<(), AllocError>
         requires { round < most_rounds }
@@ -66,18 +90,8 @@ impl<'a, N: Allocator, A: Allocator + Copy> MainWriter<'a, N, A> {
         let Some((_first, _)) = self.globals.split_first() else {
             return Ok(());
         };
-        let targets = numbered_all(self.alloc, COPY, round, self.globals, Vec::new(*self.alloc))?;
-        let sides = guessed(*self.alloc, self.globals)?;
-        push(Core::Assign(targets, sides), into)?;
-        let kept = numbered_all(
-            self.alloc,
-            GUESS,
-            round,
-            self.globals,
-            Vec::new(*self.alloc),
-        )?;
-        let values = reads(self.alloc, round, self.globals)?;
-        push(Core::Assign(kept, values), into)
+        push_made(self.drawn(round), into)?;
+        push_made(self.saved(round), into)
     }
 
     /// Appends the guesses of the globals for every round from the second on to others.

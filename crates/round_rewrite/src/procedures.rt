@@ -8,7 +8,7 @@ ghost use Rattle.round_rewrite.specs.Writing.{procedure_needs, AreFew};
 ghost use Rattle.resolved.specs.Limits.{most_places};
 
 use crate::assignment::temporaries;
-use crate::lists::clone_names;
+use crate::lists::{clone_names, put_made};
 use crate::main_procedure::main_body;
 use crate::names::{clone_name, fixed};
 use crate::rounds::Rounds;
@@ -31,11 +31,11 @@ fn procedure<N: Allocator, A: Allocator + Copy>(
         formals: proc.formals.as_slice(),
         locals: proc.locals.as_slice(),
     };
-    let name = clone_name(*alloc, &proc.name)?;
     let formals = clone_names(alloc, &proc.formals, Vec::new(*alloc))?;
     let kept = clone_names(alloc, &proc.locals, Vec::new(*alloc))?;
     let locals = temporaries(alloc, kept, writer.needs(&proc.body))?;
     let body = writer.rewritten(&proc.body)?;
+    let name = clone_name(*alloc, &proc.name)?;
     Ok(Proc {
         name,
         formals,
@@ -75,9 +75,9 @@ pub(crate) fn procedures<N: Allocator, A: Allocator + Copy>(
         ∷ map (rewritten_procedure rounds.last) (procs_of program.now.procs.items)) }
 {
     let mut list = Vec::new(*alloc);
-    list.push(first(alloc, rounds, program)?)?;
+    put_made(&mut list, first(alloc, rounds, program))?;
     for proc in &program.procs {
-        list.push(procedure(alloc, rounds, proc)?)?;
+        put_made(&mut list, procedure(alloc, rounds, proc))?;
     }
     Ok(list)
 }

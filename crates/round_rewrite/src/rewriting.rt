@@ -12,6 +12,7 @@ ghost use Rattle.checked.specs.Programs.{checked_tree};
 
 use crate::fault::RewriteFault;
 use crate::globals::globals;
+use crate::lists::put;
 use crate::names::fixed;
 use crate::procedures::procedures;
 use crate::rounds::Rounds;
@@ -28,7 +29,7 @@ fn threads<A: Allocator + Copy>(alloc: &A) -> Result<Vec<Thread<A>, A>, AllocErr
 {
     let mut list = Vec::new(*alloc);
     let name = fixed(*alloc, "main__")?;
-    list.push(Thread { at: 0, name })?;
+    put(&mut list, Thread { at: 0, name })?;
     Ok(list)
 }
 

@@ -9,8 +9,8 @@ ghost use Rattle.round_rewrite.specs.Table.{statement};
 ghost use Rattle.round_rewrite.specs.Writing.{Appends, Lays, bare_form, forms};
 
 use crate::assignment::{any_values, temporaries};
-use crate::block::{Stmts, push, push_made, push_marked};
-use crate::cores::{checked, stop_choice, stop_test};
+use crate::block::{Stmts, push, push_made, push_marked, single};
+use crate::cores::{failed, stop_choice, stop_test};
 use crate::names::{clone_name, drawn};
 use crate::writer::Writer;
 use std::alloc::{AllocError, Allocator};
@@ -203,7 +203,10 @@ impl<'a, N: Allocator, A: Allocator + Copy> Writer<'a, N, A> {
         ensures { Appends result into.old.items into.new.items
             (statement (naming_of self.now) self.now.rounds.last (assert (rhs_of r.now))) }
     {
-        push_made(checked(self.alloc, self.side(r)?), into)
+        let yes = single(self.alloc, Core::Skip)?;
+        let no = failed(self.alloc)?;
+        let test = self.side(r)?;
+        push(Core::If(test, yes, no), into)
     }
 
     /// Appends the rewriting of an assume to others.
@@ -228,9 +231,9 @@ impl<'a, N: Allocator, A: Allocator + Copy> Writer<'a, N, A> {
             (bare_form (naming_of self.now) self.now.rounds.last
             (branch (rhs_of r.now) (block_of a.now) (block_of b.now))) }
     {
-        let test = self.side(r)?;
         let yes = self.rewritten(a)?;
         let no = self.rewritten(b)?;
+        let test = self.side(r)?;
         push(Core::If(test, yes, no), into)
     }
 
@@ -241,9 +244,9 @@ impl<'a, N: Allocator, A: Allocator + Copy> Writer<'a, N, A> {
             (bare_form (naming_of self.now) self.now.rounds.last
             (repeat (rhs_of r.now) (block_of a.now))) }
     {
-        let test = self.side(r)?;
         let mut body = self.rewritten(a)?;
         self.prologue(None, 0, &mut body)?;
+        let test = self.side(r)?;
         push(Core::While(test, body), into)
     }
 

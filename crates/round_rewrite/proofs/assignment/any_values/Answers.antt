@@ -8,7 +8,7 @@ use Rattle.round_rewrite.proofs.assignment.any_values.Goals as goal
 
 pub loop-preserved : goal.loop-preserved
 loop-preserved g c =
-    ap rhss_of c.in_ok-push.ensures.items
+    ap rhss_of c.in_ok-put.ensures
     ∙ pushed rhs_of (λ w. any) [] c.loop.list.items rhs.Any c.loop.counter c.loop.invariant refl
 
 pub returns : goal.returns

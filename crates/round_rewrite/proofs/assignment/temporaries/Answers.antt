@@ -7,7 +7,7 @@ use Rattle.round_rewrite.proofs.assignment.temporaries.Goals as goal
 
 pub loop-k-preserved : goal.loop-k-preserved
 loop-k-preserved g c =
-    ap names_of c.in_ok-push.ensures.items
+    ap names_of c.in_ok-put.ensures
     ∙ pushed name_of drawn_name (names_of c.args.names.items) c.loop-k.list.items _ c.loop-k.k c.loop-k.invariant
     c.in_ok-drawn.ensures
 

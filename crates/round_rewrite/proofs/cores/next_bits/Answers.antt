@@ -10,7 +10,7 @@ pub loop-number-preserved : goal.loop-number-preserved
 loop-number-preserved g c =
     let more = c.loop-number-test.true in
     let e : c.loop-number.number ≡ suc (c.loop-number.number - 1) = omega (arith, more) in
-    ap (λ v. rhss_of v ++ reverse (map (λ j. value (raised_bit j)) (numbers 0 (c.loop-number.number - 1)))) c.in_ok-push.ensures.items
+    ap (λ v. rhss_of v ++ reverse (map (λ j. value (raised_bit j)) (numbers 0 (c.loop-number.number - 1)))) c.in_ok-put.ensures
     ∙ pushed_down (λ j. value (raised_bit j)) rhs_of c.loop-number.list.items _ _ (c.loop-number.number - 1) c.loop-number.number e
     c.loop-number.invariant (ap value c.in_ok-next_bit.ensures)
 

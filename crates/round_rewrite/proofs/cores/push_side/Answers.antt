@@ -5,4 +5,4 @@ use Rattle.round_rewrite.proofs.cores.push_side.Goals as goal
 
 pub returns : goal.returns
 returns g c =
-    ap rhss_of c.in_ok-push.ensures.items ∙ map-append rhs_of c.args.into.items _
+    ap rhss_of c.in_ok-put.ensures ∙ map-append rhs_of c.args.into.items _

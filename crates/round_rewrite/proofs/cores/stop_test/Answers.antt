@@ -9,4 +9,4 @@ pub returns : goal.returns
 returns g c =
     let yes = c.in_ok-yes.ensures ∙ ap (λ d. marked_before no_mark d done) (deed_of-Return g.row.A.Denot) in
     let no = c.in_ok-no.ensures ∙ ap (λ d. marked_before no_mark d done) (deed_of-Skip g.row.A.Denot) in
-    deed_of-If _ _ _ ∙ (λ i. branch (value (c.in_ok-variable.ensures i)) (yes i) (no i))
+    deed_of-If _ _ _ ∙ (λ i. branch (value (c.in_ok-test.ensures i)) (yes i) (no i))

@@ -6,7 +6,7 @@ use Rattle.round_rewrite.proofs.lists.guessed.Goals as goal
 
 pub loop-x-preserved : goal.loop-x-preserved
 loop-x-preserved g c =
-    ap (λ l. rhss_of l ++ map (λ w. any) (names_of (drop (c.loop-x._x-index + 1) c.args.xs.now))) c.in_ok-push.ensures.items
+    ap (λ l. rhss_of l ++ map (λ w. any) (names_of (drop (c.loop-x._x-index + 1) c.args.xs.now))) c.in_ok-put.ensures
     ∙ one_through rhs_of
     (λ w. any) name_of c.loop-x.list.items _ c.args.xs.now c.loop-x._x-index c._x-item.result _ c.loop-x-test.true c._x-item.is refl
     c.loop-x.invariant

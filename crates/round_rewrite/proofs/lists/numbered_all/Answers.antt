@@ -7,7 +7,7 @@ use Rattle.round_rewrite.proofs.lists.numbered_all.Goals as goal
 pub loop-x-preserved : goal.loop-x-preserved
 loop-x-preserved g c =
     let numbered = numbered_name c.args.mark.now c.args.round in
-    ap (λ l. names_of l ++ map numbered (names_of (drop (c.loop-x.x-index + 1) c.args.xs.now))) c.in_ok-push.ensures.items
+    ap (λ l. names_of l ++ map numbered (names_of (drop (c.loop-x.x-index + 1) c.args.xs.now))) c.in_ok-put.ensures
     ∙ one_through name_of numbered name_of c.loop-x.list.items c.in_ok-numbered.field-0 c.args.xs.now c.loop-x.x-index
     c.x-item.result _ c.loop-x-test.true c.x-item.is c.in_ok-numbered.ensures c.loop-x.invariant
 

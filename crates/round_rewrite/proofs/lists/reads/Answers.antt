@@ -9,7 +9,7 @@ pub loop-x-preserved : goal.loop-x-preserved
 loop-x-preserved g c =
     ap
     (λ l. rhss_of l ++ map (λ y. value (var (copy_name c.args.round y))) (names_of (drop (c.loop-x.x-index + 1) c.args.xs.now)))
-    c.in_ok-push.ensures.items
+    c.in_ok-put.ensures
     ∙ one_through rhs_of
     (λ y. value (var (copy_name c.args.round y))) name_of c.loop-x.list.items _ c.args.xs.now c.loop-x.x-index c.x-item.result _
     c.loop-x-test.true c.x-item.is (ap value c.in_ok-copy_of.ensures) c.loop-x.invariant

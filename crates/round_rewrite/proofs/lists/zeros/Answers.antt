@@ -7,7 +7,7 @@ use Rattle.round_rewrite.proofs.lists.zeros.Goals as goal
 pub loop-x-preserved : goal.loop-x-preserved
 loop-x-preserved g c =
     ap (λ l. rhss_of l ++ map (λ w. value (const false)) (names_of (drop (c.loop-x._x-index + 1) c.args.xs.now)))
-    c.in_ok-push.ensures.items
+    c.in_ok-put.ensures
     ∙ one_through rhs_of
     (λ w. value (const false)) name_of c.loop-x.list.items _ c.args.xs.now c.loop-x._x-index c._x-item.result _ c.loop-x-test.true
     c._x-item.is c.constant.ensures c.loop-x.invariant

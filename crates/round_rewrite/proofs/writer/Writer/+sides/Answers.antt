@@ -4,19 +4,21 @@ use Rattle.std.proofs.lemmas.Result.{IfOk-weaker}
 use Rattle.trees.specs.Trees.{name_of, names_of, expr_of, rhs_of, rhss_of}
 use Rattle.round_rewrite.specs.Writing.{naming_of}
 use Rattle.round_rewrite.specs.Table.{sides}
+use Rattle.round_rewrite.proofs.PushLemmas.{put_is}
 use Rattle.round_rewrite.proofs.TargetLemmas.{empty, sides_kept, sides_drawn, sides_value}
 use Rattle.round_rewrite.proofs.writer.Writer.+sides.Goals as goal
 
 pub returns-then-not-is_shared : goal.returns-then-not-is_shared
 returns-then-not-is_shared g t c =
+    let one = put_is rhs_of c.side.result _ _ _ c.in_ok-put_made.ensures c.side.ensures in
     IfOk-weaker c.sides.result _ _
     (λ _ l. sides_kept (naming_of c.args.self.now) c.args.self.now.rounds.last c.args.number (names_of c.args.xs.now)
     (rhss_of c.args.rs.now) (rhss_of c.args.into.now.items)
     (name_of c.in-Some.x.now) (names_of c.in-Some.more.now) (rhs_of c.in-Some-split_first.r.now) (rhss_of c.in-Some-split_first.others.now)
     (ap names_of c.in-Some.ensures.cases.0) (ap rhss_of c.in-Some-split_first.ensures.cases.0)
     (sym c.is_shared.ensures ∙ c.if-not-is_shared.true)
-    (ap rhss_of c.in_ok-push.ensures.items ∙ (map-append rhs_of c.args.into.now.items _ ∙ ap
-    (λ n. rhss_of c.args.into.now.items ++ n ∷ []) c.in_ok-side.ensures))
+    (ap rhss_of one.1 ∙ (map-append rhs_of c.args.into.now.items _ ∙ ap
+    (λ n. rhss_of c.args.into.now.items ++ n ∷ []) one.2))
     l)
     c.sides.ensures
 

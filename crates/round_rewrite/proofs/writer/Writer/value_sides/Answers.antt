@@ -1,7 +1,7 @@
 use Rattle.trees.specs.Trees.{name_of, rhs_of, expr_of, rhss_of}
 use Rattle.round_rewrite.specs.Table.{copy_value, expression_form}
 use Rattle.round_rewrite.specs.Writing.{naming_of}
-use Rattle.round_rewrite.proofs.PushLemmas.{pushed_as, over_rounds}
+use Rattle.round_rewrite.proofs.PushLemmas.{put_is, pushed_as, over_rounds}
 use Rattle.round_rewrite.proofs.writer.Writer.value_sides.Goals as goal
 
 pub returns : goal.returns
@@ -14,5 +14,6 @@ returns g c =
 
 pub loop-round-preserved : goal.loop-round-preserved
 loop-round-preserved g c =
+    let one = put_is rhs_of c.copy_value.result _ _ _ c.in_ok-put_made.ensures c.copy_value.ensures in
     pushed_as rhs_of (λ d. copy_value (naming_of c.args.self.now) c.args.self.now.rounds.last d (name_of c.args.x.now)) _ _ _ _ _ _ _
-    c.loop-round.invariant c.in_ok-push.ensures.items c.in_ok-copy_value.ensures c.in_ok-value.ensures
+    c.loop-round.invariant one.1 one.2 c.in_ok-value.ensures
