@@ -151,19 +151,19 @@ impl<'a, N: Allocator, A: Allocator + Copy> Writer<'a, N, A> {
         self.guarded(copy, round)
     }
 
-    /// A read of a global: its copy for the round.
-    fn read_by_round(&self, x: &Name<N>) -> Result<Expr<A>, AllocError>
+    /// A read of a global in the rounds up to this one: its copy for the round.
+    fn read_by_round(&self, round: u8, x: &Name<N>) -> Result<Expr<A>, AllocError>
+        requires { round < most_rounds }
         ensures { IfOk result
             (λ e. expr_of e
-            ≡ read_by_round (naming_of self.now) self.now.rounds.last self.now.rounds.last
-            (name_of x.now)) }
+            ≡ read_by_round (naming_of self.now) self.now.rounds.last round (name_of x.now)) }
     {
-        let mut join = self.active(0, x)?;
-        for round in 0..self.rounds.last {
-            let next = self.active(round + 1, x)?;
-            join = operation(self.alloc, Op::Or, join, next)?;
+        if round == 0 {
+            return self.active(0, x);
         }
-        Ok(join)
+        let below = self.read_by_round(round - 1, x)?;
+        let here = self.active(round, x)?;
+        operation(self.alloc, Op::Or, below, here)
     }
 
     /// A read of a variable.
@@ -172,7 +172,7 @@ impl<'a, N: Allocator, A: Allocator + Copy> Writer<'a, N, A> {
             (λ e. expr_of e ≡ read (naming_of self.now) self.now.rounds.last (name_of x.now)) }
     {
         if self.is_shared(x) {
-            self.read_by_round(x)
+            self.read_by_round(self.rounds.last, x)
         } else {
             Ok(Expr::Var(clone_name(*self.alloc, x)?))
         }

@@ -2,19 +2,44 @@
 
 ghost use Rattle.std.specs.Prelude.{◌≡◌, ◌≤◌, ◌++◌, ◌∷◌, IfOk, map};
 ghost use Rattle.language.specs.Tree.{Procedure};
-ghost use Rattle.trees.specs.Trees.{proc_of, procs_of, tree_of};
+ghost use Rattle.trees.specs.Trees.{names_of, proc_of, procs_of, tree_of, block_of};
 ghost use Rattle.round_rewrite.specs.Names.{main_procedure, rewritten_procedure};
 ghost use Rattle.round_rewrite.specs.Writing.{procedure_needs, AreFew};
 ghost use Rattle.resolved.specs.Limits.{most_places};
 
 use crate::assignment::temporaries;
+use crate::block::Stmts;
 use crate::lists::{clone_names, put_made};
 use crate::main_procedure::main_body;
 use crate::names::{clone_name, fixed};
 use crate::rounds::Rounds;
 use crate::writer::Writer;
 use std::alloc::{AllocError, Allocator};
-use trees::{Proc, Program};
+use trees::{Name, Proc, Program};
+
+/// The locals and the statements of a procedure rewritten.
+fn inside<N: Allocator, A: Allocator + Copy>(
+    alloc: &A,
+    rounds: Rounds,
+    proc: &Proc<N>,
+) -> Result<(Vec<Name<A>, A>, Stmts<A>), AllocError>
+    requires { procedure_needs (proc_of proc.now) ≤ most_places }
+    ensures locals { IfOk result
+        (λ p. names_of p.0.items ≡ (rewritten_procedure rounds.last (proc_of proc.now)).locals) }
+    ensures body { IfOk result
+        (λ p. block_of p.1.items ≡ (rewritten_procedure rounds.last (proc_of proc.now)).body) }
+{
+    let writer = Writer {
+        alloc,
+        rounds,
+        formals: proc.formals.as_slice(),
+        locals: proc.locals.as_slice(),
+    };
+    let kept = clone_names(alloc, &proc.locals, Vec::new(*alloc))?;
+    let locals = temporaries(alloc, kept, writer.needs(&proc.body))?;
+    let body = writer.rewritten(&proc.body)?;
+    Ok((locals, body))
+}
 
 /// A procedure rewritten.
 fn procedure<N: Allocator, A: Allocator + Copy>(
@@ -25,16 +50,8 @@ fn procedure<N: Allocator, A: Allocator + Copy>(
     requires { procedure_needs (proc_of proc.now) ≤ most_places }
     ensures { IfOk result (λ p. proc_of p ≡ rewritten_procedure rounds.last (proc_of proc.now)) }
 {
-    let writer = Writer {
-        alloc,
-        rounds,
-        formals: proc.formals.as_slice(),
-        locals: proc.locals.as_slice(),
-    };
+    let (locals, body) = inside(alloc, rounds, proc)?;
     let formals = clone_names(alloc, &proc.formals, Vec::new(*alloc))?;
-    let kept = clone_names(alloc, &proc.locals, Vec::new(*alloc))?;
-    let locals = temporaries(alloc, kept, writer.needs(&proc.body))?;
-    let body = writer.rewritten(&proc.body)?;
     let name = clone_name(*alloc, &proc.name)?;
     Ok(Proc {
         name,

@@ -164,6 +164,16 @@ impl<'a, N: Allocator, A: Allocator + Copy> Writer<'a, N, A> {
         }
     }
 
+    /// Appends the prologue of a statement, with its label and offset, to others.
+    fn begin(&self, stmt: &Stmt<N>, into: &mut Stmts<A>) -> Result<(), AllocError>
+        ensures { Appends result into.old.items into.new.items
+            (prologue (naming_of self.now) self.now.rounds.last
+            (record { label = option_map name_of stmt.now.label; at = stmt.now.at })) }
+    {
+        let label = self.label(&stmt.label)?;
+        self.prologue(label, stmt.at, into)
+    }
+
     /// Appends the rewriting of statements to others.
     #[cycle(rewriting)]
     fn block(&self, stmts: &[Stmt<N>], into: &mut Stmts<A>) -> Result<(), AllocError>
@@ -171,8 +181,7 @@ impl<'a, N: Allocator, A: Allocator + Copy> Writer<'a, N, A> {
             (forms (naming_of self.now) self.now.rounds.last (items_of stmts.now)) }
     {
         for stmt in stmts {
-            let label = self.label(&stmt.label)?;
-            self.prologue(label, stmt.at, into)?;
+            self.begin(stmt, into)?;
             self.core(&stmt.core, into)?;
         }
         Ok(())

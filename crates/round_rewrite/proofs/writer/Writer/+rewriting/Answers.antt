@@ -22,8 +22,8 @@ pub block-loop-stmt-preserved : goal.block-loop-stmt-preserved
 block-loop-stmt-preserved g t c =
     one_more (naming_of c.args.self.now) c.args.self.now.rounds.last c.args.stmts.now c.loop-stmt.stmt-index
     c.stmt-item.result c.loop-stmt-test.true c.stmt-item.is
-    c.loop-stmt.into.items c.prologue.new.into.items c.core.new.into.items _ c.in_ok-label.ensures
-    c.in_ok-prologue.ensures c.in_ok-core.ensures _ c.loop-stmt.invariant
+    c.loop-stmt.into.items c.begin.new.into.items c.core.new.into.items _ refl
+    c.in_ok-begin.ensures c.in_ok-core.ensures _ c.loop-stmt.invariant
 
 pub block-returns : goal.block-returns
 block-returns g t c =
