@@ -26,8 +26,7 @@ pub(crate) fn globals<N: Allocator, A: Allocator + Copy>(
     let saved = for_rounds(alloc, GUESS, 1, rounds.last, xs, copied)?;
     let bits = push_bits(alloc, rounds.bits(), saved)?;
     let stop = push_name(alloc, "stop__", bits)?;
-    let all = push_name(alloc, "bad__", stop)?;
-    Ok(all)
+    push_name(alloc, "bad__", stop)
 }
 
 /// Appends the globals with a mark and the number of a round to names, for some rounds, one after the other.

@@ -1,4 +1,5 @@
 use Rattle.std.proofs.Common.{suc, ◌∙◌, ap, [], ◌∷◌, ◌++◌, reverse, codes, append_assoc}
+use Rattle.std.proofs.lemmas.Result.{IfOk-weaker}
 use Rattle.trees.specs.Trees.{names_of}
 use Rattle.round_rewrite.specs.Limits.{round_bits}
 use Rattle.round_rewrite.specs.Table.{numbers, copied}
@@ -16,7 +17,9 @@ returns g c =
     let saved = c.in_ok-saved.ensures last ∙ ap (λ ns. ns ++ second) copied in
     let bits = c.in_ok-bits.ensures ∙ (λ i. saved i ++ reverse (bit_names (c.bits.ensures.count i))) in
     let stop = c.in_ok-stop.ensures ∙ ap (λ ns. ns ++ fresh_name (codes "stop__") ∷ []) bits in
-    let bad = c.in_ok-all.ensures ∙ ap (λ ns. ns ++ fresh_name (codes "bad__") ∷ []) stop in
-    bad
+    IfOk-weaker c.push_name-2.result _ _
+    (λ _ bad. bad
+    ∙ ap (λ ns. ns ++ fresh_name (codes "bad__") ∷ []) stop
     ∙ append_assoc (first ++ second ++ reverse (bit_names (round_bits last))) (fresh_name (codes "stop__") ∷ [])
-    (fresh_name (codes "bad__") ∷ [])
+    (fresh_name (codes "bad__") ∷ []))
+    c.push_name-2.ensures
