@@ -53,7 +53,7 @@ expression-loop-first-preserved g t c = record {
       (toks_of c.in-Some.others.now) (toks_of c.in_ok-right.after.now) (operator_of op)
       (sym c.in-Some-operator_of_kind.ensures) right
       ∙ ap (λ (e : Expression Name). reading (after c.args.least e) (toks_of c.in_ok-right.after.now))
-      (sym
+      (sym {b = two (operator_of op) (expr_of c.loop-first.tree) (expr_of c.in_ok-right.right)}
       (expr_of-Two op c.in_ok-left.left c.in_ok-left.right
       ∙ (λ i. two (operator_of op) (expr_of (c.in_ok-left.ensures.left i)) (expr_of (c.in_ok-left.ensures.right i)))));
   shorter = search rules;

@@ -123,7 +123,7 @@ statements-loop-rest-preserved g t c = record {
       (toks_of c.in_ok-next.after.now) (sym c.begins_statement.ensures ∙ c.loop-rest-test.true) c.in_ok-next.ensures.gives
       ∙ ap (λ (is : List Item). put_before is (going_on (toks_of c.in_ok-next.after.now)))
       (pushed item_of c.loop-rest.list.items c.put.new.list.items c.in_ok-next.next c.in_ok-put.ensures.ok);
-  shorter = search rules;
+  shorter = less_still c.in_ok-next.ensures.shorter c.loop-rest.invariant.shorter;
 }
 
 pub core-returns-in-Id-clause-gives : goal.core-returns-in-Id-clause-gives

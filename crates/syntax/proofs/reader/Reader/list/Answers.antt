@@ -1,4 +1,4 @@
-use Rattle.std.proofs.Common.{rules, ◌∙◌, sym}
+use Rattle.std.proofs.Common.{◌∙◌, sym}
 use Rattle.tokens.specs.declared.vocabulary.Kind.TheVariants as kind
 use Rattle.tokens.specs.Token.{tok_of, toks_of}
 use Rattle.syntax.specs.Parser.{begins, take, ◌>>=◌}
@@ -6,6 +6,7 @@ use Rattle.syntax.specs.Exact.{list}
 use Rattle.syntax.proofs.Fixes.{Strict-Shrinks, bind_is}
 use Rattle.syntax.proofs.Exactly.{Strict-behind}
 use Rattle.syntax.proofs.Loops.{first_read, first_refused, next_read, others_refused, others_end}
+use Rattle.syntax.proofs.Closings.{less_still}
 use Rattle.syntax.proofs.Exits.{refused}
 use Rattle.syntax.proofs.reader.Reader.list.Goals as goal
 
@@ -27,7 +28,8 @@ loop-rest-preserved g c = record {
       (tok_of c.in_ok-others.field-0-0) (toks_of c.in_ok-others.others.now) c.in_ok-others.ensures.gives
       ∙ c.in_ok-next.ensures.gives)
       c.in_ok-put.ensures.ok;
-  shorter = search rules;
+  shorter =
+      less_still (less_still c.in_ok-next.ensures.shorter c.in_ok-others.ensures.shorter) c.loop-rest.invariant.shorter;
 }
 
 pub returns-in_err-first-clause-gives : goal.returns-in_err-first-clause-gives

@@ -1,7 +1,8 @@
-use Rattle.std.proofs.Common.{rules, ◌∙◌, sym}
+use Rattle.std.proofs.Common.{◌∙◌, sym}
 use Rattle.tokens.specs.Token.{toks_of}
 use Rattle.syntax.specs.Exact.{repeated}
 use Rattle.syntax.proofs.Loops.{first_read, first_refused, next_read, others_refused, others_end}
+use Rattle.syntax.proofs.Closings.{less_still}
 use Rattle.syntax.proofs.Exits.{refused}
 use Rattle.syntax.proofs.reader.Reader.repeated.Goals as goal
 
@@ -18,7 +19,7 @@ loop-rest-preserved g c = record {
   whole =
       next_read g.T.Unseparated.another g.T.Written.grammar c.requires c.loop-rest.invariant.whole
       (sym c.comes.ensures ∙ c.loop-rest-test.true) c.in_ok-next.ensures.gives c.in_ok-put.ensures.ok;
-  shorter = search rules;
+  shorter = less_still c.in_ok-next.ensures.shorter c.loop-rest.invariant.shorter;
 }
 
 pub returns-in_err-first-clause-gives : goal.returns-in_err-first-clause-gives
