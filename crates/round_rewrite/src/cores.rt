@@ -2,7 +2,8 @@
 
 ghost use Rattle.std.specs.Prelude.{◌≡◌, true, [], ◌∷◌, ◌++◌, IfOk, reverse};
 ghost use Rattle.language.specs.Tree.{const, any, negation, value, assign, assume};
-ghost use Rattle.trees.specs.Trees.{simple, repeat, names_of, expr_of, rhs_of, rhss_of, deed_of, block_of};
+ghost use Rattle.trees.specs.Trees.{simple, repeat, names_of, expr_of, rhs_of, rhss_of, deed_of};
+ghost use Rattle.trees.specs.Trees.{block_of};
 ghost use Rattle.round_rewrite.specs.Table.{in_round, rise, raised};
 ghost use Rattle.round_rewrite.specs.Names.{fresh_name, bit_names};
 ghost use Rattle.round_rewrite.specs.Writing.{carried, raised_bit, stop_testing, stopping};

@@ -76,7 +76,13 @@ impl<'a, N: Allocator, A: Allocator + Copy> MainWriter<'a, N, A> {
             (map (save_name round) (names_of self.now.globals.now))
             (map (λ y. value (var (copy_name round y))) (names_of self.now.globals.now)))) }
     {
-        let kept = numbered_all(self.alloc, GUESS, round, self.globals, Vec::new(*self.alloc))?;
+        let kept = numbered_all(
+            self.alloc,
+            GUESS,
+            round,
+            self.globals,
+            Vec::new(*self.alloc),
+        )?;
         let values = reads(self.alloc, round, self.globals)?;
         Ok(Core::Assign(kept, values))
     }
