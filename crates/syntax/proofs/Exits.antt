@@ -1,7 +1,11 @@
 -- If a part is refused, so is the whole.
-use Rattle.std.proofs.Common.{◌≡◌, Option, None}
+use Rattle.std.proofs.Common.{◌≡◌, List, Option, None}
 use Rattle.std.specs.Prelude.{Result, Ok, Err, IfOk, IsErrAnd}
-use Rattle.syntax.specs.Gives.{RefusesTokens, Gives}
+use denote.Ref.{Bor}
+use Rattle.tokens.specs.declared.vocabulary.Token.{Token}
+use Rattle.tokens.specs.Token.{toks_of}
+use Rattle.syntax.specs.Parser.{Parser}
+use Rattle.syntax.specs.Gives.{RefusesTokens, Gives, Adds}
 use Rattle.syntax.specs.declared.fault.ReadFault.{ReadFault}
 use Rattle.syntax.specs.declared.fault.ReadFault.TheVariants as fault
 
@@ -21,3 +25,10 @@ refused view (Err y) e given other same h f = rw same (fails_on e given other h 
 pub refused_is_well : {X : Type 0} (P : X → Type 0) (r : Result X ReadFault) (e : ReadFault) → IsErrAnd r (λ y. y ≡ e) → IfOk r P
 refused_is_well P (Ok x) e same = absurd same
 refused_is_well P (Err y) e same = tt
+
+-- none is added if the next is refused
+pub none_added : {X Y : Type 0} (view : X → Y) (r : Result (Bor (List Token)) ReadFault) (e : ReadFault) (parser : Parser Y)
+    (ts : List Token) (old new : List X) → IsErrAnd r (λ y. y ≡ e) → RefusesTokens e (parser (toks_of ts))
+    → Adds view r parser ts old new
+none_added view (Ok x) e parser ts old new same h = absurd same
+none_added view (Err y) e parser ts old new same h = rw same h

@@ -1,5 +1,5 @@
 -- What a reader returns, and what the grammar's function gives.
-use Rattle.std.specs.Prelude.{◌≡◌, ◌<◌, List, length, Option, None, Some, Result, Ok, Err, IfOk, IsErrAnd}
+use Rattle.std.specs.Prelude.{◌≡◌, ◌<◌, List, [], ◌∷◌, ◌++◌, length, Option, None, Some, Result, Ok, Err, IfOk, IsErrAnd}
 use denote.Ref.{Bor}
 use Rattle.tokens.specs.declared.vocabulary.Kind.{Kind}
 use Rattle.tokens.specs.declared.vocabulary.Token.{Token}
@@ -34,3 +34,9 @@ Shorter result tokens = IfOk result (λ p. length p.1.now < length tokens)
 abbrev pub Closes : {X : Type 0} → Kind → Result (X × Bor (List Token)) ReadFault → Result (X × Bor (List Token)) ReadFault → Type 0
 Closes token_kind (Ok p) result = Parses (λ v. v) result (closing token_kind p.0) p.1.now × Shorter result p.1.now
 Closes token_kind (Err before) result = IsErrAnd result (λ fault. fault ≡ before)
+
+-- One more is read of the tokens as the grammar's function reads it, and stands behind the others; the same tokens are left.
+abbrev pub Adds : {X Y : Type 0} → (X → Y) → Result (Bor (List Token)) ReadFault → Parser Y → List Token → List X → List X → Type 0
+Adds {X} view (Ok rest) parser tokens old new =
+    (x : X) × (new ≡ old ++ x ∷ []) × (parser (toks_of tokens) ≡ Some (view x, toks_of rest.now))
+Adds view (Err fault) parser tokens old new = RefusesTokens fault (parser (toks_of tokens))

@@ -1,11 +1,12 @@
 //! What is written one after the other, and the loops that read it.
 
-ghost use Rattle.std.specs.Prelude.{◌≡◌, map, Bool, List};
+ghost use Rattle.std.specs.Prelude.{◌≡◌, ◌<◌, length, map, Bool, List, IfOk};
 ghost use Rattle.syntax.specs.Exact.{list, repeated};
-ghost use Rattle.syntax.specs.Gives.{Parses, Shorter};
+ghost use Rattle.syntax.specs.Gives.{Parses, Shorter, Adds};
 ghost use Rattle.syntax.specs.Parser.{Strict};
 ghost use Rattle.tokens.specs.Token.{Tok, toks_of};
 
+use crate::fault::ReadFault;
 use crate::reader::{Read, Reader, begins, put};
 use crate::written::Written;
 use std::alloc::Allocator;
@@ -30,6 +31,20 @@ pub(crate) trait Unseparated<A: Allocator + Clone>: Element<A> {
 }
 
 impl<'a, A: Allocator + Clone> Reader<'a, A> {
+    /// Reads one more element, and returns the tokens after it.
+    fn more<'t, T: Element<A>>(
+        &self,
+        list: &mut Vec<T, A>,
+        tokens: &'t [Token<'t>],
+    ) -> Result<&'t [Token<'t>], ReadFault>
+        ensures gives { Adds T.tree result T.grammar tokens.now list.old.items list.new.items }
+        ensures shorter { IfOk result (λ rest. length rest.now < length tokens.now) }
+    {
+        let (next, after) = T::read(self, tokens)?;
+        put(list, next)?;
+        Ok(after)
+    }
+
     /// Reads elements with commas between them. Most lists have one element, so they begin with room for one.
     pub fn list<'t, T: Element<A>>(&self, tokens: &'t [Token<'t>]) -> Read<'t, Vec<T, A>>
         requires { Strict T.grammar }
@@ -40,9 +55,7 @@ impl<'a, A: Allocator + Clone> Reader<'a, A> {
         let mut list = self.one(1, first)?;
         while begins(Kind::Comma, rest) {
             let (_, others) = self.take(Kind::Comma, rest)?;
-            let (next, after) = T::read(self, others)?;
-            put(&mut list, next)?;
-            rest = after;
+            rest = self.more(&mut list, others)?;
         }
         Ok((list, rest))
     }
@@ -57,9 +70,7 @@ impl<'a, A: Allocator + Clone> Reader<'a, A> {
         let (first, mut rest) = T::read(self, tokens)?;
         let mut list = self.one(4, first)?;
         while T::comes(rest) {
-            let (next, after) = T::read(self, rest)?;
-            put(&mut list, next)?;
-            rest = after;
+            rest = self.more(&mut list, rest)?;
         }
         Ok((list, rest))
     }

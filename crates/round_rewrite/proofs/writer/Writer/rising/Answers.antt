@@ -14,4 +14,4 @@ returns g c =
     let more = made c.next_round.result _ _ no_mark _ c.in_ok-push_made-2.ensures c.next_round.ensures in
     let test = made c.not_last.result _ _ no_mark _ c.in_ok-push_made.ensures c.not_last.ensures in
     deed_of-While _ _
-        ∙ ap (repeat any) (more done ∙ (test _ ∙ ap (λ ss. all_before (items_of ss) (rise naming last)) c.new-body.ensures.items))
+    ∙ ap (repeat any) (more done ∙ (test _ ∙ ap (λ ss. all_before (items_of ss) (rise naming last)) c.new-body.ensures.items))

@@ -43,6 +43,6 @@ returns-in_err-arguments g c = record {
   gives =
       refused _ c.from_residual-in_err-arguments.result _ (argument_list (toks_of c.in_ok-name.opened.now)) _
       c.from_residual-in_err-arguments.ensures.1
-          (λ none. rw (c.in_ok-target.ensures.gives, c.in_ok-name.ensures.gives, none) refl) c.in_err-arguments.ensures.gives;
+      (λ none. rw (c.in_ok-target.ensures.gives, c.in_ok-name.ensures.gives, none) refl) c.in_err-arguments.ensures.gives;
   shorter = refused_is_well _ c.from_residual-in_err-arguments.result _ c.from_residual-in_err-arguments.ensures.1;
 }

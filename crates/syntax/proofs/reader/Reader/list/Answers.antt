@@ -26,10 +26,10 @@ loop-rest-preserved g c = record {
       (sym c.begins.ensures ∙ c.loop-rest-test.true)
       (bind_is (take kind.Comma) (λ _. g.T.Written.grammar) (toks_of c.loop-rest.rest.now)
       (tok_of c.in_ok-others.field-0-0) (toks_of c.in_ok-others.others.now) c.in_ok-others.ensures.gives
-      ∙ c.in_ok-next.ensures.gives)
-      c.in_ok-put.ensures.ok;
+      ∙ c.in_ok-rest.ensures.gives.2)
+      c.in_ok-rest.ensures.gives.1;
   shorter =
-      less_still (less_still c.in_ok-next.ensures.shorter c.in_ok-others.ensures.shorter) c.loop-rest.invariant.shorter;
+      less_still (less_still c.in_ok-rest.ensures.shorter c.in_ok-others.ensures.shorter) c.loop-rest.invariant.shorter;
 }
 
 pub returns-in_err-first-clause-gives : goal.returns-in_err-first-clause-gives
@@ -39,16 +39,16 @@ returns-in_err-first-clause-gives g c =
     (first_refused (begins kind.Comma) g.T.Written.grammar (take kind.Comma >>= λ _. g.T.Written.grammar)
     (toks_of c.args.tokens.now)) c.in_err-first.ensures.gives
 
-pub returns-in_err-next-clause-gives : goal.returns-in_err-next-clause-gives
-returns-in_err-next-clause-gives g c =
+pub returns-in_err-rest-clause-gives : goal.returns-in_err-rest-clause-gives
+returns-in_err-rest-clause-gives g c =
     let read = bind_is (take kind.Comma) (λ _. g.T.Written.grammar) (toks_of c.loop-rest.rest.now)
     (tok_of c.in_ok-others.field-0-0) (toks_of c.in_ok-others.others.now) c.in_ok-others.ensures.gives in
-    refused _ c.from_residual-in_err-next.result _ (g.T.Written.grammar (toks_of c.in_ok-others.others.now)) _
-    c.from_residual-in_err-next.ensures.1
+    refused _ c.from_residual-in_err-rest.result _ (g.T.Written.grammar (toks_of c.in_ok-others.others.now)) _
+    c.from_residual-in_err-rest.ensures.1
     (λ none. others_refused (begins kind.Comma) (take kind.Comma >>= λ _. g.T.Written.grammar)
     (Strict-behind kind.Comma (Strict-Shrinks c.requires)) c.loop-rest.invariant.whole
     (sym c.begins.ensures ∙ c.loop-rest-test.true) (read ∙ none))
-    c.in_err-next.ensures.gives
+    c.in_err-rest.ensures.gives
 
 pub returns-clause-gives : goal.returns-clause-gives
 returns-clause-gives g c =

@@ -6,20 +6,20 @@ use Rattle.syntax.proofs.Closings.{less_still}
 use Rattle.syntax.proofs.Exits.{refused}
 use Rattle.syntax.proofs.reader.Reader.repeated.Goals as goal
 
-pub loop-rest-init : goal.loop-rest-init
+pub loop-list-init : goal.loop-list-init
 unfolding repeated
-loop-rest-init g c = record {
+loop-list-init g c = record {
   whole = first_read g.T.Written.tree g.T.Unseparated.another g.T.Written.grammar g.T.Written.grammar
       (toks_of c.args.tokens.now) c.in_ok-first.ensures.gives c.in_ok-list.ensures.ok;
   shorter = c.in_ok-first.ensures.shorter;
 }
 
-pub loop-rest-preserved : goal.loop-rest-preserved
-loop-rest-preserved g c = record {
+pub loop-list-preserved : goal.loop-list-preserved
+loop-list-preserved g c = record {
   whole =
-      next_read g.T.Unseparated.another g.T.Written.grammar c.requires c.loop-rest.invariant.whole
-      (sym c.comes.ensures ∙ c.loop-rest-test.true) c.in_ok-next.ensures.gives c.in_ok-put.ensures.ok;
-  shorter = less_still c.in_ok-next.ensures.shorter c.loop-rest.invariant.shorter;
+      next_read g.T.Unseparated.another g.T.Written.grammar c.requires c.loop-list.invariant.whole
+      (sym c.comes.ensures ∙ c.loop-list-test.true) c.in_ok-rest.ensures.gives.2 c.in_ok-rest.ensures.gives.1;
+  shorter = less_still c.in_ok-rest.ensures.shorter c.loop-list.invariant.shorter;
 }
 
 pub returns-in_err-first-clause-gives : goal.returns-in_err-first-clause-gives
@@ -29,15 +29,15 @@ returns-in_err-first-clause-gives g c =
     (first_refused g.T.Unseparated.another g.T.Written.grammar g.T.Written.grammar (toks_of c.args.tokens.now))
     c.in_err-first.ensures.gives
 
-pub returns-in_err-next-clause-gives : goal.returns-in_err-next-clause-gives
-returns-in_err-next-clause-gives g c =
-    refused _ c.from_residual-in_err-next.result _ (g.T.Written.grammar (toks_of c.loop-rest.rest.now)) _
-    c.from_residual-in_err-next.ensures.1
-    (λ none. others_refused g.T.Unseparated.another g.T.Written.grammar c.requires c.loop-rest.invariant.whole
-    (sym c.comes.ensures ∙ c.loop-rest-test.true) none)
-    c.in_err-next.ensures.gives
+pub returns-in_err-rest-clause-gives : goal.returns-in_err-rest-clause-gives
+returns-in_err-rest-clause-gives g c =
+    refused _ c.from_residual-in_err-rest.result _ (g.T.Written.grammar (toks_of c.loop-list.rest.now)) _
+    c.from_residual-in_err-rest.ensures.1
+    (λ none. others_refused g.T.Unseparated.another g.T.Written.grammar c.requires c.loop-list.invariant.whole
+    (sym c.comes.ensures ∙ c.loop-list-test.true) none)
+    c.in_err-rest.ensures.gives
 
 pub returns-clause-gives : goal.returns-clause-gives
 returns-clause-gives g c =
-    others_end g.T.Unseparated.another g.T.Written.grammar c.requires c.loop-rest.invariant.whole
-    (sym c.comes.ensures ∙ c.loop-rest-test.false)
+    others_end g.T.Unseparated.another g.T.Written.grammar c.requires c.loop-list.invariant.whole
+    (sym c.comes.ensures ∙ c.loop-list-test.false)

@@ -5,12 +5,12 @@ use Rattle.tokens.specs.Token.{toks_of}
 use Rattle.syntax.proofs.Loops.{SoFar}
 use Rattle.syntax.proofs.reader.Reader.repeated.Given as goal
 
-abbrev pub invariant-loop-rest : goal.invariant-loop-rest
-invariant-loop-rest g l = record {
+abbrev pub invariant-loop-list : goal.invariant-loop-list
+invariant-loop-list g l = record {
   whole : SoFar g.T.Written.tree (many g.T.Unseparated.another g.T.Written.grammar)
       (repeated g.T.Unseparated.another g.T.Written.grammar (toks_of l.tokens)) l.list.items (toks_of l.rest);
   shorter : length l.rest < length l.tokens;
 }
 
-abbrev pub decreases-loop-rest : goal.decreases-loop-rest
-decreases-loop-rest g l = length l.rest
+abbrev pub decreases-loop-list : goal.decreases-loop-list
+decreases-loop-list g l = length l.rest
