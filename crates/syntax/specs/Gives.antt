@@ -35,7 +35,8 @@ abbrev pub Closes : {X : Type 0} → Kind → Result (X × Bor (List Token)) Rea
 Closes token_kind (Ok p) result = Parses (λ v. v) result (closing token_kind p.0) p.1.now × Shorter result p.1.now
 Closes token_kind (Err before) result = IsErrAnd result (λ fault. fault ≡ before)
 
--- One more is read of the tokens as the grammar's function reads it, and stands behind the others; the same tokens are left.
+-- One more is read of the tokens as the grammar's function reads it, and stands behind the others; the same tokens are
+-- left.
 abbrev pub Adds : {X Y : Type 0} → (X → Y) → Result (Bor (List Token)) ReadFault → Parser Y → List Token → List X → List X → Type 0
 Adds {X} view (Ok rest) parser tokens old new =
     (x : X) × (new ≡ old ++ x ∷ []) × (parser (toks_of tokens) ≡ Some (view x, toks_of rest.now))
