@@ -1,6 +1,7 @@
 //! Each allocation refused in turn.
 
 use crate::case::print_reply;
+use crate::schedules::{Late, NO_LANE};
 use cases::{Outcome, Sweep, Swept};
 use cli::{Order, Reply, answer, answer_with};
 use flow_graph::Graphs;
@@ -30,6 +31,19 @@ type PerBox<'a> = LockPerBox<Due, Graphs<OfScarce<'a>>, OfScarce<'a>>;
 
 type One<'a> = OneLock<Due, Graphs<OfScarce<'a>>, OfScarce<'a>>;
 
+/// The same over a board with one lock and ordered sets, if the worker of a lane is held back.
+pub fn answer_late<'a, R: Wait + Threads + Sync>(
+    rt: &'a R,
+    scarce: &'a Scarce<Global>,
+    text: &[u8],
+    order: Order,
+    gate: Late,
+) -> Reply<&'a Scarce<Global>> {
+    answer_with::<R, One<'a>, OrderedEdges<OfScarce<'a>>, Late>(
+        rt, scarce, scarce, text, order, &gate,
+    )
+}
+
 /// The same over one of the four pairs of board and set, of which the first is the program's.
 fn answer_over<'a, R: Wait + Threads + Sync>(
     rt: &'a R,
@@ -43,9 +57,7 @@ fn answer_over<'a, R: Wait + Threads + Sync>(
         1 => answer_with::<R, PerBox<'a>, OrderedEdges<OfScarce<'a>>, Open>(
             rt, scarce, scarce, text, order, &Open,
         ),
-        2 => answer_with::<R, One<'a>, OrderedEdges<OfScarce<'a>>, Open>(
-            rt, scarce, scarce, text, order, &Open,
-        ),
+        2 => answer_late(rt, scarce, text, order, Late { lane: NO_LANE }),
         _ => answer_with::<R, One<'a>, DiagramEdges<OfScarce<'a>>, Open>(
             rt, scarce, scarce, text, order, &Open,
         ),

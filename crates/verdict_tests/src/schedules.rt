@@ -1,16 +1,14 @@
 //! The same answer whatever the schedule of its workers.
 
 use crate::case::print_reply;
-use cli::{Order, Reply, answer, answer_with};
-use flow_graph::Graphs;
-use path_sets::OrderedEdges;
+use crate::refused::answer_late;
+use cli::{Order, Reply, answer};
 use procedure_worker::Gate;
-use std::alloc::Global;
+use scarce::Scarce;
+use std::alloc::{Allocator, Global};
 use std::io;
 use std::sync::Wait;
 use std::thread::{self, Threads};
-use summaries::Due;
-use switchboard::OneLock;
 
 /// How often the answer is asked for as it comes.
 const TIMES: u8 = 100;
@@ -18,10 +16,13 @@ const TIMES: u8 = 100;
 /// How many workers are held back, one after the other.
 const LANES: u8 = 8;
 
+/// A lane that no program has.
+pub const NO_LANE: u8 = 64;
+
 /// Holds the worker of one lane back at each of its takes and posts.
 #[derive(Drop)]
-struct Late {
-    lane: u8,
+pub struct Late {
+    pub lane: u8,
 }
 
 impl Late {
@@ -44,22 +45,8 @@ impl Gate for Late {
     }
 }
 
-/// The answer if the worker of a lane is held back.
-fn answer_late<R: AllocGlobal + Wait + Threads + Sync>(
-    rt: &R,
-    text: &[u8],
-    order: Order,
-    lane: u8,
-) -> Reply<Global> {
-    let alloc = rt.alloc();
-    let gate = Late { lane };
-    answer_with::<R, OneLock<Due, Graphs<Global>, Global>, OrderedEdges<Global>, Late>(
-        rt, alloc, alloc, text, order, &gate,
-    )
-}
-
 /// Whether two replies have the same bytes and the same status.
-fn same(one: &Reply<Global>, other: &Reply<Global>) -> bool {
+fn same<A: Allocator>(one: &Reply<Global>, other: &Reply<A>) -> bool {
     one.status == other.status && one.bytes.as_slice() == other.bytes.as_slice()
 }
 
@@ -75,8 +62,12 @@ pub fn schedules<R: Print + AllocGlobal + Wait + Threads + Sync>(
             return rt.print("another reply\n");
         }
     }
+    let scarce = Scarce::refusing(rt.alloc(), 0);
     for lane in 0..LANES {
-        if !same(&reply, &answer_late(rt, text, order, lane)) {
+        if !same(
+            &reply,
+            &answer_late(rt, &scarce, text, order, Late { lane }),
+        ) {
             return rt.print("another reply, where a worker was kept back\n");
         }
     }
