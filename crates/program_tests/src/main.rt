@@ -20,10 +20,10 @@
 //! | `writer fails after COUNT` | the writer fails after COUNT bytes |
 //! | `each allocation` | with each allocation refused in turn, which leaves the reply or leads to `no verdict: memory` |
 //!
-//! In the words `{N}` stands for the character with the number N, except in those of a slip. In the text of a slip and of
-//! `file`, `\n`, `\r`, `\t` and `\xHH` stand for a line feed, a carriage return, a tab, and the byte of these two
-//! hexadecimal digits. A line that begins with `#` is a heading, and has no answer. `long.bp` is a file of 65,537 bytes,
-//! which the program writes first.
+//! In the words `{N}` stands for the character with the number N, except in those of a slip. In the text of a slip and
+//! of `file`, `\n`, `\r`, `\t` and `\xHH` stand for a line feed, a carriage return, a tab, and the byte of these two
+//! hexadecimal digits. A line that begins with `#` is a heading, and has no answer. `long.bp` is a file of 65,537
+//! bytes, which the program writes first.
 #![tactic(auto)]
 
 mod escapes;
