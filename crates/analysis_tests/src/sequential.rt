@@ -14,5 +14,8 @@ fn checked<A: Allocator + Copy>(alloc: A, text: &str) -> Option<Checked<A>> {
 /// The sequential program that a text is rewritten to for some rounds.
 pub fn rewritten<A: Allocator + Copy>(alloc: A, text: &str, rounds: u64) -> Option<Sequential<A>> {
     let rounds = Rounds::new(u8::try_from(rounds).ok()?)?;
-    rewrite(&alloc, &checked(alloc, text)?, rounds).ok()
+    let checked = checked(alloc, text)?;
+    let sequential = rewrite(&alloc, &checked, rounds);
+    drop(checked);
+    sequential.ok()
 }

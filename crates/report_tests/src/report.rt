@@ -96,14 +96,23 @@ fn write_report<A: Allocator>(
     }
 }
 
+/// The answer of a report, or why there is none.
+pub fn answer_of<H: Allocator, A: Allocator>(
+    report: Result<Report<H, A>, NoVerdict>,
+) -> Result<Answer, NoVerdict> {
+    let report = report?;
+    let answer = report.answer;
+    drop(report);
+    Ok(answer)
+}
+
 /// The answer alone, or why there is none.
 pub fn answer<R: Wait + Threads + Sync, A: Allocator + Copy + Send + Sync>(
     rt: &R,
     alloc: A,
     asked: &Asked,
 ) -> Result<Answer, NoVerdict> {
-    let report = report_of(rt, alloc, asked, asked.parts, &Held::Open)?;
-    Ok(report.answer)
+    answer_of(report_of(rt, alloc, asked, asked.parts, &Held::Open))
 }
 
 impl<R: Wait + Threads + Sync> Trial<'_, R> {
@@ -116,19 +125,34 @@ impl<R: Wait + Threads + Sync> Trial<'_, R> {
         held: &Held,
     ) -> Result<(), AllocError> {
         let report = report_of(self.rt, self.alloc, self.asked, parts, held);
-        write_report(out, &report)?;
-        let same = match (
-            &report,
-            &on_one_thread::<_, OrderedEdges<Global>>(self.alloc, self.asked),
-        ) {
+        let written = self.write_compared(out, &report);
+        drop(report);
+        written
+    }
+
+    /// Writes a report, or why there is none, and whether one thread comes to the same.
+    fn write_compared(
+        &self,
+        out: &mut String,
+        report: &Result<Report<Global, Global>, NoVerdict>,
+    ) -> Result<(), AllocError> {
+        write_report(out, report)?;
+        if self.is_as_on_one_thread(report) {
+            return Ok(());
+        }
+        write!(out, "\nnot as on one thread")
+    }
+
+    /// Whether one thread comes to the same.
+    fn is_as_on_one_thread(&self, report: &Result<Report<Global, Global>, NoVerdict>) -> bool {
+        let summaries = on_one_thread::<_, OrderedEdges<Global>>(self.alloc, self.asked);
+        let same = match (report, &summaries) {
             (Ok(report), Ok(summaries)) => is_same(&report.summaries, summaries),
             (Err(one), Err(other)) => one == other,
             _ => false,
         };
-        if !same {
-            write!(out, "\nnot as on one thread")?;
-        }
-        Ok(())
+        drop(summaries);
+        same
     }
 
     /// Writes the answer alone, or why there is none.

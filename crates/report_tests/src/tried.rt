@@ -5,6 +5,7 @@ ghost use Rattle.std.specs.Prelude.{◌≤◌, ◌^◌};
 use crate::held::Held;
 use crate::program::{Parts, Trial};
 use crate::refusing::{Moment, Refusing};
+use crate::report::answer_of;
 use flow_graph::Graphs;
 use gather::{Answer, CrewBoard, CrewSet, check_rounds_tried};
 use path_sets::{DiagramEdges, OrderedEdges};
@@ -61,12 +62,12 @@ impl<R: Wait + Threads + Sync> Trial<'_, R> {
         requires { (2 ≤ budget) × (budget ≤ 2 ^ 56) }
     {
         let (program, rounds) = (&self.asked.program, self.asked.rounds);
-        match check_rounds_tried::<R, B, S, Held, Held, Global>(
+        let report = check_rounds_tried::<R, B, S, Held, Held, Global>(
             self.rt, heap, alloc, program, rounds, limit, held, held, budget,
-        ) {
-            Ok(report) => Ok(report.answer),
+        );
+        match answer_of(report) {
             Err(NoVerdict::EdgeLimit(_)) => Err(NoVerdict::EdgeLimit(0)),
-            Err(why) => Err(why),
+            came => came,
         }
     }
 

@@ -26,15 +26,32 @@ fn are_alike<A: Allocator, B: Allocator, S: PathSet<A>, T: PathSet<B>>(
         })
 }
 
-/// Takes some steps on an empty set of diagrams, and then counts the nodes at one point. Returns how many allocations
-/// were requested before the count, and the count.
-fn counted(alloc: Global, words: &str, spot: Spot) -> Result<(u64, u64), AllocError> {
-    let scarce = Scarce::refusing(alloc, 0);
-    let mut set: DiagramEdges<_> = PathSet::empty(&scarce);
-    fill(alloc, &mut set, words)?;
+/// Takes some steps on a set of diagrams, and then counts the nodes at one point. Returns how many allocations were
+/// requested before the count, and the count.
+fn counted_in<A: Allocator + Copy>(
+    alloc: Global,
+    scarce: &Scarce<Global>,
+    set: &mut DiagramEdges<A>,
+    words: &str,
+    spot: Spot,
+) -> Result<(u64, u64), AllocError> {
+    fill(alloc, set, words)?;
     let before = scarce.asked();
-    let nodes = set.nodes(spot.0, spot.1)?;
-    Ok((before, nodes))
+    Ok((before, set.nodes(spot.0, spot.1)?))
+}
+
+/// The same on an empty set in memory of `room`, which is that of `scarce`.
+fn counted<A: Allocator + Copy>(
+    alloc: Global,
+    scarce: &Scarce<Global>,
+    room: A,
+    words: &str,
+    spot: Spot,
+) -> Result<(u64, u64), AllocError> {
+    let mut set: DiagramEdges<A> = PathSet::empty(room);
+    let counted = counted_in(alloc, scarce, &mut set, words, spot);
+    drop(set);
+    counted
 }
 
 /// Counts the nodes at one point of a set of diagrams that has the members of another set, and counts again if the
@@ -56,20 +73,24 @@ fn outcome_of<A: Allocator + Copy, B: Allocator, T: PathSet<B>>(
     }
 }
 
-/// The same after some steps on an empty set, if none of them is refused memory.
-fn outcome_in<B: Allocator, T: PathSet<B>>(
+/// The same after some steps on an empty set in memory of `room`, which is that of `scarce`, if none of them is refused
+/// memory.
+fn outcome_in<A: Allocator + Copy, B: Allocator, T: PathSet<B>>(
     alloc: Global,
     scarce: &Scarce<Global>,
+    room: A,
     other: &T,
     words: &str,
     spot: Spot,
     wanted: u64,
 ) -> Outcome {
-    let mut set: DiagramEdges<_> = PathSet::empty(scarce);
-    match fill(alloc, &mut set, words) {
+    let mut set: DiagramEdges<A> = PathSet::empty(room);
+    let outcome = match fill(alloc, &mut set, words) {
         Ok(()) if !scarce.refused() => outcome_of(&set, other, spot, wanted),
         _ => Outcome::Memory,
-    }
+    };
+    drop(set);
+    outcome
 }
 
 /// Writes the count with ample memory, if each run of the sweep comes to it or to lack of memory, at least one of them
@@ -84,9 +105,10 @@ fn compared<B: Allocator, T: PathSet<B>>(
 ) -> Result<(), AllocError> {
     let mut other = T::empty(room);
     fill(alloc, &mut other, words)?;
-    let (before, wanted) = counted(alloc, words, spot)?;
+    let ample = Scarce::refusing(alloc, 0);
+    let (before, wanted) = counted(alloc, &ample, &ample, words, spot)?;
     let swept = sweep.of(alloc, |scarce: &Scarce<Global>| {
-        outcome_in(alloc, scarce, &other, words, spot, wanted)
+        outcome_in(alloc, scarce, scarce, &other, words, spot, wanted)
     });
     match swept {
         Swept::Kept(refused) if refused > before => write!(out, "memory, and then {wanted}"),

@@ -123,7 +123,9 @@ fn add_owed_by<G: Allocator, A: Allocator + Copy, S: PathSet<A>>(
     requires { procedure < length (graphs_of graphs.now) }
 {
     let mut table: Table<'_, G, A, S> = Table::new(room, graphs, procedure, limit);
-    add_owed_after_each(&mut table, mails, words)
+    let added = add_owed_after_each(&mut table, mails, words);
+    drop(table);
+    added
 }
 
 /// Whether the table answers these messages, from the one numbered `at` on, until it owes no more; `at` is then
@@ -219,7 +221,9 @@ fn came_in<G: Allocator, A: Allocator + Copy, S: PathSet<A>>(
         return Came::Other;
     }
     let mut table: Table<'_, G, A, S> = Table::new(room, graphs, procedure, limit);
-    came_of(scarce, &mut table, words, wanted)
+    let came = came_of(scarce, &mut table, words, wanted);
+    drop(table);
+    came
 }
 
 /// Writes to which calls of the table of a procedure an allocation was refused, whose edges are kept in an ordered set

@@ -26,7 +26,9 @@ fn by_graphs<A: Allocator + Copy, S: PathSet<A>>(
     requires { program ≡ sequential_of (tree_of sequential.now.program) }
 {
     let graphs = graphs(&alloc, sequential)?;
-    tabulate::<_, _, S>(alloc, &graphs, limit)
+    let summaries = tabulate::<_, _, S>(alloc, &graphs, limit);
+    drop(graphs);
+    summaries
 }
 
 /// The summaries of a sequential program with at most a given number of path edges.
