@@ -1,8 +1,9 @@
 -- A point is gathered at a key that has a mask, or at one without.
-use Rattle.std.proofs.Common.{◌≡◌, ◌+◌, ◌<◌, ℕ, suc, zero, Bool, true, false, cond, if◌then◌else◌}
+use Rattle.std.proofs.Common.{◌≡◌, ◌+◌, ◌*◌, ◌<◌, ℕ, suc, zero, Bool, true, false, cond, if◌then◌else◌}
 use Rattle.std.proofs.Common.{List, [], ◌∷◌, ◌++◌, Some, None, length, slice_get, inl, refl, sym, ap, ◌∙◌, subst, arith}
 use Rattle.std.specs.Map.{keys_of, lookup, values_of}
 use Rattle.std.specs.List.{position_or_len}
+use Rattle.std.specs.Option.{option_map_or}
 use Rattle.std.proofs.lemmas.List.{length_push}
 use Rattle.std.proofs.lemmas.Option.{none-some}
 use Rattle.indexmap.specs.IndexMap.{insert_entry, set_value_at}
@@ -12,16 +13,19 @@ use Rattle.language.specs.Lists.{Member}
 use Rattle.path_sets.specs.declared.diagrams.batch.Batch.{Batch}
 use Rattle.path_sets.specs.declared.diagrams.diagrams.Diagrams.{Diagrams}
 use Rattle.path_sets.specs.declared.diagrams.gathered_key.GatheredKey.{GatheredKey}
+use Rattle.path_sets.specs.declared.diagrams.roots.DiagramKey.{DiagramKey}
 use Rattle.path_sets.specs.declared.points.mask_key.MaskKey.{MaskKey}
-use Rattle.path_sets.specs.Contents.{AreCovered, batch_masks, diagrams_in, GathersEdge, IsFirstMask, MayGather, NoKeyBut}
+use Rattle.path_sets.specs.Contents.{AreCovered, batch_masks, diagrams_in, GathersEdge, is_merged, IsFirstMask, MayGather}
+use Rattle.path_sets.specs.Contents.{NoKeyBut}
 use Rattle.path_sets.specs.Edges.{edge_at, mask_edges, mask_key_eq}
-use Rattle.path_sets.specs.GatheredKeys.{gathered_key_eq, mask_key_at, masks_of}
+use Rattle.path_sets.specs.GatheredKeys.{gathered_key_eq, mask_key_at, mask_key_in, masks_of}
 use Rattle.path_sets.specs.Inserts.{PutsIn}
-use Rattle.path_sets.specs.Masks.{AddsPoint, AddsPointAt}
+use Rattle.path_sets.specs.Masks.{AddsPoint, AddsPointAt, bit_of}
+use Rattle.path_sets.specs.Triples.{triple}
 use Rattle.path_sets.proofs.CoverLemmas.{covers_begun, covers_marked, one_more_key, puts_begun, puts_marked}
 use Rattle.path_sets.proofs.GatheredKeyLemmas.{gathered_key_self, key_masks, keys_masks, marked_masks, none_there}
 use Rattle.path_sets.proofs.GatheredKeyLemmas.{push_masks, same_gathered_key}
-use Rattle.path_sets.proofs.PlaceLemmas.{at_index}
+use Rattle.path_sets.proofs.PlaceLemmas.{at_index, item_there}
 
 module _ {K V : Type 0} (eq : K → K → Bool) (same : (x y : K) → eq x y ≡ true → x ≡ y) (k : K) (was now : V) where
   -- the value of the key is at an index, and there it is set
@@ -50,6 +54,17 @@ put_at old new key mask put at is =
     let (own, here, same) = inserted_at gathered_key_eq gathered_key_self old key mask in
     (λ j. slice_get (keys_of (put j)) (is j)) ∙ here ∙ ap Some (sym (same_gathered_key key own same))
 
+-- the points at a key are those that the diagrams have at it, if they are those of its diagram
+pub points_known : {A : Type 0} (merged : Diagrams A) (key : GatheredKey) (mask : ℕ) → key.diagram < length (diagrams_in merged)
+    → ((diagram : DiagramKey) (b : ℕ) → slice_get (diagrams_in merged) key.diagram ≡ Some diagram → b < 64
+    → bit_of mask b ≡ is_merged merged (triple diagram.entry (64 * diagram.block + b) key.values))
+    → (b : ℕ) → b < 64 → bit_of mask b ≡ is_merged merged (edge_at (mask_key_at (diagrams_in merged) key) b)
+points_known merged key mask within known b small =
+    let (diagram, there) = item_there (diagrams_in merged) key.diagram within in
+    known diagram b there small
+    ∙ ap (λ o. is_merged merged (edge_at (option_map_or (λ d. mask_key_in d key.values) o
+    (mask_key_in (record { entry = 0; block = 0 }) key.values)) b)) (sym there)
+
 -- a number that is the same as another is not greater
 pub no_longer : (old new : ℕ) → new ≡ old → old < new → ⊥
 no_longer old new same less = omega (arith, same, less)
@@ -65,6 +80,18 @@ module _ {A : Type 0} {merged : Diagrams A} {key : GatheredKey} {bit : ℕ} {bat
 
   abbrev mask_key : MaskKey
   mask_key = mask_key_at (diagrams_in merged) key
+
+  -- nothing is put in
+  module _ (same : new ≡ old) where
+    pub covers_same : AreCovered merged (masks_of (diagrams_in merged) new)
+    covers_same = subst (λ es. AreCovered merged (masks_of (diagrams_in merged) es)) (sym same) may.covers
+
+    pub keys_same : NoKeyBut key old new
+    keys_same other m = inl (subst (λ es. Member other (keys_of es)) same m)
+
+    pub gathers_known : is_merged merged (edge_at mask_key bit) ≡ true
+        → GathersEdge merged key bit (batch_masks merged batch) (masks_of (diagrams_in merged) new) false
+    gathers_known known = record { puts = (inl known, ap (λ es. mask_edges (masks_of (diagrams_in merged) es)) same) }
 
   -- the point is put into the mask at an index, which is that of the key
   module _ (at : ℕ) (here : slice_get (keys_of old) at ≡ Some key) (added : Bool) (adds : AddsPointAt at bit old new added) where

@@ -1,14 +1,16 @@
-use Rattle.std.proofs.Common.{◌≡◌, Some, None, ap, sym, ◌∙◌, subst, length, rules}
+use Rattle.std.proofs.Common.{◌≡◌, Some, None, ap, sym, ◌∙◌, subst, length, refl, rules}
 use Rattle.std.specs.Map.{lookup}
 use Rattle.indexmap.specs.Entry.{entry_value}
 use Rattle.indexmap.specs.IndexMap.{insert_entry, insert_index}
 use Rattle.path_sets.specs.Contents.{IsFirstMask}
 use Rattle.path_sets.specs.GatheredKeys.{gathered_key, gathered_key_eq}
-use Rattle.path_sets.proofs.GatherLemmas.{covers_first, covers_more, gathers_first, gathers_more, keys_first, keys_more}
+use Rattle.path_sets.proofs.GatherLemmas.{covers_first, covers_more, covers_same, gathers_first, gathers_known}
+use Rattle.path_sets.proofs.GatherLemmas.{gathers_more, keys_first, keys_more, keys_same}
 use Rattle.path_sets.proofs.GatherLemmas.{len_first, len_more, no_longer, one_more_not_same, put_at}
 use Rattle.path_sets.proofs.diagrams.batch.Batch.gather.Given as given
 use Rattle.path_sets.proofs.diagrams.batch.Batch.gather.Goals as goal
-use Rattle.path_sets.proofs.diagrams.batch.Batch.gather.Goals.{After-add_point, After-insert}
+use Rattle.path_sets.proofs.diagrams.batch.Batch.gather.Goals.{After-add_point, After-from_residual, After-insert}
+use Rattle.path_sets.proofs.diagrams.batch.Batch.gather.Goals.{After-saturating_add, After-self-in-Occupied-3-1, After-self-in_default-2-1}
 
 module _ (g : given.Over) (c : After-add_point g) where
   -- the mask that the key had
@@ -57,63 +59,108 @@ module _ (g : given.Over) (c : After-insert g) where
       subst (IsFirstMask c.args.merged.now (gathered_key c.args.diagram c.args.values) c.args.bit) (sym c.insert.ensures.value)
       c.in-Some.ensures.some
 
+-- the entries after the mask of a known key is changed
+marked : (g : given.Over) (c : After-self-in-Occupied-3-1 g) → c.self-in-Occupied-2-1.given.0.entries
+    ≡ insert_entry gathered_key_eq c.args.self.now.masks.entries (gathered_key c.args.diagram c.new.result) c.add_point.new.mask
+marked g c = search rules
+
+-- the entries after a key is put in
+begun : (g : given.Over) (c : After-saturating_add g) → c.self-in-Vacant-2-1.given.0.entries
+    ≡ insert_entry gathered_key_eq c.args.self.now.masks.entries (gathered_key c.args.diagram c.new.result) c.insert.result.now
+begun g c = search rules
+
+-- without memory for an entry the entries are as they were
+refused : (g : given.Over) (c : After-from_residual g) → c.entry.follows.lender-at-none.entries ≡ c.args.self.now.masks.entries
+refused g c = search rules
+
+-- and so they are if the point is known
+unchanged : (g : given.Over) (c : After-self-in_default-2-1 g) → c.self-in_default-1.given.0.entries ≡ c.args.self.now.masks.entries
+unchanged g c = search rules
+
 pub returns-in-Occupied-clause-ok : goal.returns-in-Occupied-clause-ok
 returns-in-Occupied-clause-ok g c =
     let i = (goal.at.returns-in-Occupied-clause-ok g c).After-add_point in
-    gathers_more c.requires _ c.add_point.result c.add_point.new.mask (search rules ∙ same g i) c.into_mut.result.now (had g i)
+    gathers_more c.requires _ c.add_point.result c.add_point.new.mask (marked g c ∙ same g i) c.into_mut.result.now (had g i)
     c.add_point.ensures
 
 pub returns-in-Occupied-clause-covers : goal.returns-in-Occupied-clause-covers
 returns-in-Occupied-clause-covers g c =
     let i = (goal.at.returns-in-Occupied-clause-covers g c).After-add_point in
-    covers_more c.requires _ c.add_point.result c.add_point.new.mask (search rules ∙ same g i) c.into_mut.result.now (had g i)
+    covers_more c.requires _ c.add_point.result c.add_point.new.mask (marked g c ∙ same g i) c.into_mut.result.now (had g i)
     c.add_point.ensures
 
 pub returns-in-Occupied-clause-keys : goal.returns-in-Occupied-clause-keys
 returns-in-Occupied-clause-keys g c =
     let i = (goal.at.returns-in-Occupied-clause-keys g c).After-add_point in
-    keys_more c.requires _ c.add_point.result c.add_point.new.mask (search rules ∙ same g i) c.into_mut.result.now (had g i)
+    keys_more c.requires _ c.add_point.result c.add_point.new.mask (marked g c ∙ same g i) c.into_mut.result.now (had g i)
     c.add_point.ensures
 
 pub returns-in-Some-clause-ok : goal.returns-in-Some-clause-ok
 returns-in-Some-clause-ok g c =
     let i = (goal.at.returns-in-Some-clause-ok g c).After-insert in
-    gathers_first c.requires _ c.insert.result.now (search rules ∙ one g i) (none g i) (first g i)
+    gathers_first c.requires _ c.insert.result.now (begun g c ∙ one g i) (none g i) (first g i)
 
 pub returns-in-Some-clause-covers : goal.returns-in-Some-clause-covers
 returns-in-Some-clause-covers g c =
     let i = (goal.at.returns-in-Some-clause-covers g c).After-insert in
-    covers_first c.requires _ c.insert.result.now (search rules ∙ one g i) (none g i) (first g i)
+    covers_first c.requires _ c.insert.result.now (begun g c ∙ one g i) (none g i) (first g i)
 
 pub returns-in-Some-clause-keys : goal.returns-in-Some-clause-keys
 returns-in-Some-clause-keys g c =
     let i = (goal.at.returns-in-Some-clause-keys g c).After-insert in
-    keys_first c.requires _ c.insert.result.now (search rules ∙ one g i) (none g i)
+    keys_first c.requires _ c.insert.result.now (begun g c ∙ one g i) (none g i)
 
 pub returns-in-Occupied-clause-place : goal.returns-in-Occupied-clause-place
 returns-in-Occupied-clause-place g c =
     let i = (goal.at.returns-in-Occupied-clause-place g c).After-add_point in
-    put_at c.args.self.now.masks.entries _ _ c.add_point.new.mask (search rules ∙ same g i) c.index-at.result (at g i)
+    put_at c.args.self.now.masks.entries _ _ c.add_point.new.mask (marked g c ∙ same g i) c.index-at.result (at g i)
 
 pub returns-in-Some-clause-place : goal.returns-in-Some-clause-place
 returns-in-Some-clause-place g c =
     let i = (goal.at.returns-in-Some-clause-place g c).After-insert in
-    put_at c.args.self.now.masks.entries _ _ c.insert.result.now (search rules ∙ one g i) c.index-at.result (place g i)
+    put_at c.args.self.now.masks.entries _ _ c.insert.result.now (begun g c ∙ one g i) c.index-at.result (place g i)
+
+pub returns-in_err-entry-clause-covers : goal.returns-in_err-entry-clause-covers
+returns-in_err-entry-clause-covers g c = covers_same c.requires _ (refused g c)
+
+pub returns-in_err-entry-clause-keys : goal.returns-in_err-entry-clause-keys
+returns-in_err-entry-clause-keys g c = keys_same c.requires _ (refused g c)
+
+pub returns-in_err-entry-clause-same : goal.returns-in_err-entry-clause-same
+returns-in_err-entry-clause-same g c _ = refl
 
 pub returns-in_err-entry-clause-more : goal.returns-in_err-entry-clause-more
-returns-in_err-entry-clause-more g c more = absurd (no_longer _ _ (ap length (search rules)) more)
+returns-in_err-entry-clause-more g c more = absurd (no_longer _ _ (ap length (refused g c)) more)
+
+pub returns-in_default-clause-ok : goal.returns-in_default-clause-ok
+returns-in_default-clause-ok g c = gathers_known c.requires _ (unchanged g c) (c.in_default.ensures.none refl)
+
+pub returns-in_default-clause-covers : goal.returns-in_default-clause-covers
+returns-in_default-clause-covers g c = covers_same c.requires _ (unchanged g c)
+
+pub returns-in_default-clause-keys : goal.returns-in_default-clause-keys
+returns-in_default-clause-keys g c = keys_same c.requires _ (unchanged g c)
+
+pub returns-in_default-clause-same : goal.returns-in_default-clause-same
+returns-in_default-clause-same g c _ = refl
 
 pub returns-in_default-clause-more : goal.returns-in_default-clause-more
-returns-in_default-clause-more g c more = absurd (no_longer _ _ (ap length (search rules)) more)
+returns-in_default-clause-more g c more = absurd (no_longer _ _ (ap length (unchanged g c)) more)
+
+pub returns-in-Occupied-clause-same : goal.returns-in-Occupied-clause-same
+returns-in-Occupied-clause-same g c _ = refl
 
 pub returns-in-Occupied-clause-more : goal.returns-in-Occupied-clause-more
 returns-in-Occupied-clause-more g c more =
     let i = (goal.at.returns-in-Occupied-clause-more g c).After-add_point in
-    let same = len_more c.requires _ c.add_point.result c.add_point.new.mask (search rules ∙ same g i) c.into_mut.result.now (had g i)
+    let same = len_more c.requires _ c.add_point.result c.add_point.new.mask (marked g c ∙ same g i) c.into_mut.result.now (had g i)
     c.add_point.ensures in
     absurd (no_longer _ _ same more)
 
 pub returns-in-Some-clause-same : goal.returns-in-Some-clause-same
 returns-in-Some-clause-same g c =
     let i = (goal.at.returns-in-Some-clause-same g c).After-insert in
-    one_more_not_same _ _ (len_first c.requires _ c.insert.result.now (search rules ∙ one g i) (none g i))
+    one_more_not_same _ _ (len_first c.requires _ c.insert.result.now (begun g c ∙ one g i) (none g i))
+
+pub returns-in-Some-clause-more : goal.returns-in-Some-clause-more
+returns-in-Some-clause-more g c _ = c.saturating_add.ensures

@@ -1,9 +1,9 @@
-use Rattle.std.proofs.Common.{◌≡◌, IfSome, Some, slice_get, slice_set, refl, subst, sym}
+use Rattle.std.proofs.Common.{◌≡◌, ◌<◌, IfSome, length, Some, slice_get, slice_set, refl, subst, sym, ap, ◌∙◌}
 use Rattle.std.specs.Map.{keys_of}
 use Rattle.std.proofs.lemmas.Option.{slice_get_read}
 use Rattle.std.proofs.lemmas.Result.{IfOk-weaker, on_err_weaker}
 use Rattle.indexmap.specs.IndexMap.{keys}
-use Rattle.path_sets.specs.Batches.{masks_in}
+use Rattle.path_sets.specs.Batches.{gathered_at, masks_in}
 use Rattle.path_sets.specs.Contents.{GathersEdge}
 use Rattle.path_sets.specs.Members.{Covers}
 use Rattle.path_sets.specs.GatheredKeys.{AreWithin, gathered_key, masks_of}
@@ -87,3 +87,26 @@ returns-clause-place g c =
     let i = (goal.at.returns-clause-place g c).After-index_mut in
     subst (λ es. IfSome c.gather.new.place (λ n. slice_get (keys_of es) n ≡ Some (gathered_key c.args.diagram c.args.values)))
     (sym (set_here c.args.self.now.batches.items c.args.batch c.index_mut.result.now c.gather.new.self (at g i))) c.gather.ensures.place
+
+pub returns-clause-known : goal.returns-clause-known
+returns-clause-known g c = c.gather.ensures.known
+
+pub returns-clause-same : goal.returns-clause-same
+returns-clause-same g c same =
+    let i = (goal.at.returns-clause-same g c).After-index_mut in
+    let bs = c.args.self.now.batches.items in
+    let k = c.args.batch in
+    c.gather.ensures.same
+    (sym (ap length (set_here bs k c.index_mut.result.now c.gather.new.self (at g i))) ∙ same
+    ∙ ap length (gathered_is bs k c.index_mut.result.now (at g i)))
+
+pub returns-clause-more : goal.returns-clause-more
+returns-clause-more g c more =
+    let i = (goal.at.returns-clause-more g c).After-index_mut in
+    let bs = c.args.self.now.batches.items in
+    let k = c.args.batch in
+    c.gather.ensures.more
+    (subst (λ n. length c.index_mut.result.now.masks.entries < n)
+    (ap length (set_here bs k c.index_mut.result.now c.gather.new.self (at g i)))
+    (subst (λ n. n < length (gathered_at (slice_set bs k c.gather.new.self) k))
+    (ap length (gathered_is bs k c.index_mut.result.now (at g i))) more))
