@@ -133,6 +133,8 @@ pub(crate) fn one_bit_diagram<A: Allocator + Copy>(
     let mut nodes = BitNodes::new(alloc);
     let mut memo = IndexMap::new(alloc);
     let subproblem = subproblem_at(quads, bit, number, 0);
-    let root = at_point(&mut nodes, &mut memo, quads, bit, subproblem)?;
+    let root = at_point(&mut nodes, &mut memo, quads, bit, subproblem);
+    drop(memo);
+    let root = root?;
     Ok((nodes, root))
 }

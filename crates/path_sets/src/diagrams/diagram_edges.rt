@@ -214,7 +214,9 @@ impl<A: Allocator + Copy> DiagramEdges<A> {
         };
         let mut merged = self.merged.copy()?;
         put_batches(&mut merged, &self.gathered.batches)?;
-        merged.count(&diagram, bit)
+        let nodes = merged.count(&diagram, bit);
+        drop(merged);
+        nodes
     }
 }
 

@@ -137,6 +137,8 @@ impl<A: Allocator + Copy> Diagrams<A> {
             root(&self.roots, self.last[slot_of(diagram)], diagram),
             bit,
         )?;
-        inner_nodes(&nodes, number)
+        let count = inner_nodes(&nodes, number);
+        drop(nodes);
+        count
     }
 }

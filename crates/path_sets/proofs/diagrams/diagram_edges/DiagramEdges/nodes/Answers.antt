@@ -41,12 +41,12 @@ returns g c =
     masks c.in_ok-put_batches.ensures.takes in
     let all = subst (λ ps. (t : Triple) → Member t (mask_edges ps) → merged_has o.nodes.kept.keys o.roots.entries t ≡ true) masks
     c.in_ok-put_batches.ensures.all in
-    subst (λ e. IfOk c.count.result (HasNodes word_bits (λ v. Member (triple e c.args.point v)
+    subst (λ e. IfOk c.count-nodes.result (HasNodes word_bits (λ v. Member (triple e c.args.point v)
     (all_edges s.merged.nodes.kept.keys s.merged.roots.entries gs)))) is
     (member_nodes s.merged.nodes.kept.keys m.nodes.kept.keys o.nodes.kept.keys s.merged.roots.entries m.roots.entries o.roots.entries
-    gs at.result.0 at.result.1 c.new.result c.args.point 0 c.count.result (omega (is, arith)) (omega arith)
+    gs at.result.0 at.result.1 c.new.result c.args.point 0 c.count-nodes.result (omega (is, arith)) (omega arith)
     at.ensures.bit (at.ensures.edge ∙ ap (λ e. triple e c.args.point 0) (sym is))
     (λ j v small. ap (λ ns. merged_has ns m.roots.entries (triple c.new.result (64 * at.result.0.block + j) v))
     c.in_ok-merged.ensures.nodes
     ∙ ap (λ rs. merged_has s.merged.nodes.kept.keys rs (triple c.new.result (64 * at.result.0.block + j) v)) c.in_ok-merged.ensures.roots)
-    takes all c.count.ensures)
+    takes all c.count-nodes.ensures)
