@@ -21,7 +21,7 @@ use Rattle.path_sets.specs.Insertions.{AreInsertions, InInsertions, IsInsertionO
 use Rattle.path_sets.proofs.TakesLemmas.{takes_on, takes_of}
 use Rattle.path_sets.proofs.MaskLemmas.{bits_known, bits_hold}
 use Rattle.path_sets.proofs.EdgesLemmas.{Groups}
-use Rattle.path_sets.proofs.RootLemmas.{diagram_within}
+use Rattle.path_sets.proofs.RootLemmas.{key_within}
 use Rattle.path_sets.proofs.PlaceLemmas.{reordered, last_or}
 
 -- a path edge of a key whose point is in the mask
@@ -106,7 +106,7 @@ module _ (diagrams : List DiagramKey) (gs : Groups) (cs : List Insertion) (are :
 -- and each has its diagram
 pub insertions_within : (rs : List (DiagramKey × ℕ)) (gs : Groups) (cs : List Insertion) → AreInsertions (keys_of rs) gs cs
     → (c : Insertion) → Member c cs → c.diagram < length rs
-insertions_within rs gs cs are c there = let (p, m, is) = are.no_more c there in diagram_within rs c.diagram (diagram_of p.0) is.0
+insertions_within rs gs cs are c there = let (p, m, is) = are.no_more c there in key_within rs c.diagram (diagram_of p.0) is.0
 
 -- the insertions of more diagrams, and of one more key
 module _ (ks ls : List DiagramKey) (gs : Groups) (cs : List Insertion) (p : MaskKey × ℕ) (c : Insertion)

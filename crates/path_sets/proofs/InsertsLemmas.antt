@@ -1,6 +1,6 @@
 -- What is in a list with one more item, and how such lists are put together.
 use Rattle.std.proofs.Common.{◌≡◌, ◌+◌, if◌then◌else◌, Bool, true, false, List, [], ◌∷◌, ◌++◌, ◌⊎◌, map, length}
-use Rattle.std.proofs.Common.{inl, inr, refl, sym, ap, subst, arith}
+use Rattle.std.proofs.Common.{ℕ, ◌<◌, ◌^◌, Fits, w64, inl, inr, refl, sym, ap, subst, arith}
 use Rattle.language.specs.Lists.{Member, NoneTwice}
 use Rattle.path_sets.specs.Inserts.{Inserts, here, there}
 
@@ -62,3 +62,10 @@ pub none_more_if : {A : Type 0} (xs ys : List A) (added : Bool) → added ≡ fa
 none_more_if xs ys added is same =
     let e = ap length same in
     subst (λ (b : Bool). length ys ≡ length xs + (if b then 1 else 0)) (sym is) (omega (arith, e))
+
+-- a list that is not long can be counted with one more
+pub count_fits : {A : Type 0} (count : ℕ) (old new : List A) → count ≡ length new → new ≡ old → length old < 2 ^ 63 → Fits w64 (count + 1)
+count_fits count old new is same few =
+    let e = ap length same in record {
+      fits = omega (arith, is, e, few);
+    }

@@ -91,8 +91,8 @@ pub diagram_there : (rs : List (DiagramKey × ℕ)) (i : ℕ) → i < length rs
 diagram_there rs i less = item_there (keys_of rs) i (omega (arith, less, length-keys_of rs))
 
 -- and at no other
-pub diagram_within : (rs : List (DiagramKey × ℕ)) (i : ℕ) (diagram : DiagramKey) → slice_get (keys_of rs) i ≡ Some diagram → i < length rs
-diagram_within rs i diagram h = omega (arith, slice_get_within (keys_of rs) i diagram h, length-keys_of rs)
+pub key_within : {K V : Type 0} (es : List (K × V)) (i : ℕ) (k : K) → slice_get (keys_of es) i ≡ Some k → i < length es
+key_within es i k h = omega (arith, slice_get_within (keys_of es) i k h, length-keys_of es)
 
 -- a diagram that had no diagram gets the one with nothing, and each diagram has the number that it had
 pub diagram_begins : (old new : List (DiagramKey × ℕ)) (diagram : DiagramKey) → lookup (diagram_eq diagram) old ≡ None
@@ -115,4 +115,4 @@ diagram_begins old new diagram none is given = record {
 pub same_within : (rs ss : List (DiagramKey × ℕ)) (i : ℕ) → keys_of ss ≡ keys_of rs → i < length rs → i < length ss
 same_within rs ss i same less =
     let (diagram, there) = diagram_there rs i less in
-    diagram_within ss i diagram (ap (λ ks. slice_get ks i) same ∙ there)
+    key_within ss i diagram (ap (λ ks. slice_get ks i) same ∙ there)

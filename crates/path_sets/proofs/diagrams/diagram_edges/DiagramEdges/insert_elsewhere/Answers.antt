@@ -1,22 +1,23 @@
 use Rattle.std.proofs.Common.{◌≡◌, ◌+◌, ℕ, IfSome, Bool, true, false, Some, slice_get, length, refl, ap, sym, ◌∙◌, subst, arith}
 use Rattle.std.proofs.lemmas.Bool.{OnFalse_from, OnTrue_from}
-use Rattle.std.proofs.lemmas.Option.{same_Some, slice_get_within}
+use Rattle.std.proofs.lemmas.Option.{none-some, same_Some, slice_get_within}
 use Rattle.indexmap.specs.IndexMap.{keys}
 use Rattle.path_sets.specs.declared.diagrams.diagram_edges.LastDiagram.{LastDiagram}
 use Rattle.path_sets.specs.declared.diagrams.gathered_key.GatheredKey.{GatheredKey}
 use Rattle.path_sets.specs.Batches.{masks_in}
-use Rattle.path_sets.specs.Contents.{IsKeyAt, IsPlaced}
+use Rattle.path_sets.specs.Contents.{IsKeyAt, IsPlaced, whole}
 use Rattle.path_sets.specs.Diagrams.{diagram_of}
 use Rattle.path_sets.specs.Edges.{edge_at}
 use Rattle.path_sets.specs.Inserts.{IsNewIf}
 use Rattle.path_sets.specs.Members.{all_edges, PutsEdge}
 use Rattle.path_sets.specs.GatheredKeys.{gathered_key, mask_key_at, mask_key_in}
 use Rattle.path_sets.specs.Triples.{Triple, triple}
-use Rattle.path_sets.proofs.InsertsLemmas.{none_more_if, one_more_if}
+use Rattle.path_sets.proofs.InsertsLemmas.{count_fits, none_more_if, one_more_if}
 use Rattle.path_sets.proofs.EdgesLemmas.{Groups}
 use Rattle.path_sets.proofs.CoverLemmas.{longer, members_kept, members_put, members_same, was_known, was_new}
 use Rattle.path_sets.proofs.GatheredKeyLemmas.{mask_key_is}
 use Rattle.path_sets.proofs.MembersLemmas.{Fits, all_none_twice}
+use Rattle.path_sets.proofs.ShardLemmas.{at_error}
 use Rattle.path_sets.proofs.diagrams.diagram_edges.DiagramEdges.insert_elsewhere.Given as given
 use Rattle.path_sets.proofs.diagrams.diagram_edges.DiagramEdges.insert_elsewhere.Goals as goal
 use Rattle.path_sets.proofs.diagrams.diagram_edges.DiagramEdges.insert_elsewhere.Goals.{After-gather, In_ok-added}
@@ -186,3 +187,21 @@ returns-then-added-clause-new g c = is_new g (goal.at.returns-then-added-clause-
 
 pub returns-else-added-clause-new : goal.returns-else-added-clause-new
 returns-else-added-clause-new g c = is_new g (goal.at.returns-else-added-clause-new g c).In_ok-added
+
+pub unreachable-requires : goal.unreachable-requires
+unreachable-requires g c = none-some c.in_ok-turn_to.ensures.last.0 (sym c.in_default.is ∙ c.in_ok-turn_to.ensures.last.1)
+
+pub returns-in_err-turn_to-clause-err : goal.returns-in_err-turn_to-clause-err
+returns-in_err-turn_to-clause-err g c = at_error c.from_residual.result c.turn_to.ensures.members
+
+pub returns-in_err-added-clause-err : goal.returns-in_err-added-clause-err
+returns-in_err-added-clause-err g c =
+    let m = c.turn_to.new.self.merged in
+    at_error c.from_residual-in_err-added.result
+    (ap (all_edges m.nodes.kept.keys m.roots.entries) c.in_err-added.ensures.err ∙ c.turn_to.ensures.members)
+
+pub overflow_add-self : goal.overflow_add-self
+overflow_add-self g c =
+    let s = c.turn_to.new.self in
+    count_fits s.count (whole c.args.self.now.merged c.args.self.now.gathered.batches.items) (whole s.merged s.gathered.batches.items)
+    s.counted c.turn_to.ensures.members c.requires

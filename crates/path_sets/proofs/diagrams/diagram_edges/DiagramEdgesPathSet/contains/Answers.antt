@@ -14,7 +14,7 @@ use Rattle.path_sets.specs.GatheredKeys.{mask_key_at}
 use Rattle.path_sets.specs.Triples.{Triple, triple}
 use Rattle.path_sets.proofs.BatchLemmas.{mask_is, no_diagram, not_gathered, diagram_of_edge}
 use Rattle.path_sets.proofs.GatheredKeyLemmas.{mask_key_is}
-use Rattle.path_sets.proofs.RootLemmas.{diagram_within}
+use Rattle.path_sets.proofs.RootLemmas.{key_within}
 use Rattle.path_sets.proofs.MembersLemmas.{Fits, is_member, member_is}
 use Rattle.path_sets.proofs.diagrams.diagram_edges.DiagramEdgesPathSet.contains.Given as given
 use Rattle.path_sets.proofs.diagrams.diagram_edges.DiagramEdgesPathSet.contains.Goals as goal
@@ -61,7 +61,7 @@ returns-in_default g c =
 
 pub points_at-requires : goal.points_at-requires
 points_at-requires g c =
-    diagram_within c.args.self.now.merged.roots.entries c.in-Some.diagram c.diagram_of.result c.in-Some.ensures.here
+    key_within c.args.self.now.merged.roots.entries c.in-Some.diagram c.diagram_of.result c.in-Some.ensures.here
 
 pub returns-in-Some-mask : goal.returns-in-Some-mask
 returns-in-Some-mask g c =

@@ -6,7 +6,9 @@ use Rattle.path_sets.specs.Members.{triple_eq}
 use Rattle.path_sets.specs.Slots.{key_in, PutsPoint}
 use Rattle.path_sets.specs.SlotSets.{edges_of, has_key, is_kept, slot_edge, wide_edges, IsLastSlot}
 use Rattle.path_sets.specs.Triples.{Triple, triple}
+use Rattle.path_sets.proofs.InsertsLemmas.{count_fits}
 use Rattle.path_sets.proofs.MembersLemmas.{Fits}
+use Rattle.path_sets.proofs.RootLemmas.{key_within}
 use Rattle.path_sets.proofs.ShardLemmas.{at_error}
 use Rattle.path_sets.proofs.SlotSetLemmas.{bit_of_slot, counts_none, counts_one, kept_also, kept_longer, kept_new, kept_once, last_is}
 use Rattle.path_sets.proofs.SlotSetLemmas.{key_of_slot, replaced_one, replaced_same, replaced_was, slot_has_key, unique_still}
@@ -54,6 +56,13 @@ module _ (g : given.Over) (c : In_ok-put g) where
       (edges_of (set_value_at c.table_of.new.self.tables.entries c.in_ok-table.table c.put.new.self) c.table_of.new.self.wide)
       c.in_ok-put.put.added
   longer = kept_longer _ _ x fits one c.in_ok-put.put.added was
+
+  counted : IsLongerIf (edges_of c.args.self.now.tables.entries c.args.self.now.wide)
+      (edges_of (set_value_at c.table_of.new.self.tables.entries c.in_ok-table.table c.put.new.self) c.table_of.new.self.wide)
+      c.in_ok-put.put.added
+  counted = subst (λ es. IsLongerIf es
+      (edges_of (set_value_at c.table_of.new.self.tables.entries c.in_ok-table.table c.put.new.self) c.table_of.new.self.wide)
+      c.in_ok-put.put.added) c.in_ok-table.ensures.members longer
 
   abbrev here : LastSlot
   here = record {
@@ -121,3 +130,22 @@ returns-else-put-clause-members g c = also g (goal.at.returns-else-put-clause-me
 
 pub returns-else-put-clause-new : goal.returns-else-put-clause-new
 returns-else-put-clause-new g c = new g (goal.at.returns-else-put-clause-new g c).In_ok-put
+
+pub returns-then-put-clause-len : goal.returns-then-put-clause-len
+returns-then-put-clause-len g c = counted g (goal.at.returns-then-put-clause-len g c).In_ok-put
+
+pub returns-else-put-clause-len : goal.returns-else-put-clause-len
+returns-else-put-clause-len g c = counted g (goal.at.returns-else-put-clause-len g c).In_ok-put
+
+pub overflow_add-self : goal.overflow_add-self
+overflow_add-self g c =
+    let s = c.table_of.new.self in
+    count_fits s.count (edges_of c.args.self.now.tables.entries c.args.self.now.wide) (edges_of s.tables.entries s.wide) s.counted
+    c.in_ok-table.ensures.members c.requires.few
+
+pub returns-in_err-table-clause-err : goal.returns-in_err-table-clause-err
+returns-in_err-table-clause-err g c = at_error c.from_residual.result c.table_of.ensures.members
+
+pub index_mut-requires : goal.index_mut-requires
+index_mut-requires g c =
+    key_within c.table_of.new.self.tables.entries c.in_ok-table.table c.args.entry c.in_ok-table.ensures.at

@@ -12,3 +12,6 @@ invariant_of-result g c = record {
   counted = sym (ap length (none_kept c.new.result.entries (wide_edges c.empty.result) c.new.ensures.empty c.empty.ensures));
   once = kept_once (is_kept c.new.result.entries (wide_edges c.empty.result));
 }
+
+pub returns : goal.returns
+returns g c = none_kept c.new.result.entries (wide_edges c.empty.result) c.new.ensures.empty c.empty.ensures

@@ -1,6 +1,6 @@
-use Rattle.std.proofs.Common.{◌≡◌, ℕ, Some, slice_get, slice_index_or, ap, subst}
+use Rattle.std.proofs.Common.{◌≡◌, ℕ, Some, slice_get, slice_index_or, ap, refl, sym, subst}
 use Rattle.path_sets.specs.declared.slots.slot.Slot.{Slot}
-use Rattle.path_sets.specs.Slots.{IsPlaceFor}
+use Rattle.path_sets.specs.Slots.{AreFound, IsPlaceFor}
 use Rattle.path_sets.proofs.SlotLemmas.{all_alike, none_found, none_there}
 use Rattle.path_sets.proofs.slots.slots.Slots.grow.Given as given
 use Rattle.path_sets.proofs.slots.slots.Slots.grow.Goals as goal
@@ -20,3 +20,18 @@ merge-requires-clause-place g c =
     let none : Slot = record { key = 0; mask = 0 } in
     let slot = slice_index_or c.as_slice-slot-items.result.now c.loop-slot.slot-index none in
     subst (λ xs. IsPlaceFor xs slot.key c.in-Some.at) c.deref.ensures.value c.in-Some.ensures
+
+pub find-requires : goal.find-requires
+find-requires g c = subst AreFound (sym c.deref.ensures.value) c.loop-slot.invariant.0
+
+pub returns-in_default : goal.returns-in_default
+returns-in_default g c k b = refl
+
+pub merge-requires-clause-found : goal.merge-requires-clause-found
+merge-requires-clause-found g c = c.loop-slot.invariant.0
+
+pub merge-requires-clause-some : goal.merge-requires-clause-some
+merge-requires-clause-some g c = c.if-slot-ne0.true
+
+pub invariant_of-self : goal.invariant_of-self
+invariant_of-self g c = record { found = c.loop-slot.invariant.0 }
