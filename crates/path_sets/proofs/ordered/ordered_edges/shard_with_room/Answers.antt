@@ -10,3 +10,9 @@ returns-clause-each g c k =
 pub returns-clause-all : goal.returns-clause-all
 returns-clause-all g c =
     ap all_in c.in_ok-push.ensures.items ∙ one_more c.args.shards.now.items c.new.result c.new.ensures
+
+pub returns-in_err-push-clause-each : goal.returns-in_err-push-clause-each
+returns-in_err-push-clause-each g c k = ap (λ ss. edges_at ss k) c.in_err-push.ensures.items
+
+pub returns-in_err-push-clause-all : goal.returns-in_err-push-clause-all
+returns-in_err-push-clause-all g c = ap all_in c.in_err-push.ensures.items

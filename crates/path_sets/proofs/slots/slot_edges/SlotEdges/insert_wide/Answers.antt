@@ -1,8 +1,9 @@
-use Rattle.std.proofs.Common.{◌≡◌, ◌||◌, not, arith}
+use Rattle.std.proofs.Common.{◌≡◌, ◌||◌, not, refl, arith}
 use Rattle.path_sets.specs.Inserts.{HasAlso, IsLongerIf, IsNewIf}
 use Rattle.path_sets.specs.Members.{triple_eq}
 use Rattle.path_sets.specs.SlotSets.{edges_of, is_kept, wide_edges}
 use Rattle.path_sets.specs.Triples.{Triple, triple}
+use Rattle.path_sets.proofs.InsertsLemmas.{count_fits}
 use Rattle.path_sets.proofs.MembersLemmas.{Fits}
 use Rattle.path_sets.proofs.SlotSetLemmas.{counts_none, counts_one, fewer, kept_also, kept_longer, kept_new, kept_once, wide_apart}
 use Rattle.path_sets.proofs.SlotSetLemmas.{wide_one, wide_was}
@@ -78,3 +79,14 @@ returns-else-added-clause-members g c = also g (goal.at.returns-else-added-claus
 
 pub returns-else-added-clause-new : goal.returns-else-added-clause-new
 returns-else-added-clause-new g c = new g (goal.at.returns-else-added-clause-new g c).In_ok-added
+
+pub overflow_add-self : goal.overflow_add-self
+overflow_add-self g c =
+    let s = c.args.self.now in
+    count_fits s.count (edges_of s.tables.entries s.wide) (edges_of s.tables.entries s.wide) s.counted refl c.requires.few
+
+pub returns-then-added-clause-len : goal.returns-then-added-clause-len
+returns-then-added-clause-len g c = longer g (goal.at.returns-then-added-clause-len g c).In_ok-added
+
+pub returns-else-added-clause-len : goal.returns-else-added-clause-len
+returns-else-added-clause-len g c = longer g (goal.at.returns-else-added-clause-len g c).In_ok-added
