@@ -47,3 +47,30 @@ returns g c =
     let s = c.args.nodes.now in
     all_counted s.kept.keys s.down s.ordered s.reduced s.once c.args.number c.loop-at.reached.items c.loop-at.at c.loop-at.count c.requires
     c.loop-at.invariant c.loop-at-test.false
+
+pub overflow_add-number : goal.overflow_add-number
+overflow_add-number g c = record { fits = omega (arith, c.ranges.number.fits) }
+
+pub index_mut-requires : goal.index_mut-requires
+index_mut-requires g c = omega (arith, c.in_ok-reached.ensures.len)
+
+pub overflow_cast-at : goal.overflow_cast-at
+overflow_cast-at g c = record { fits = omega arith }
+
+pub index-requires : goal.index-requires
+index-requires g c = omega arith
+
+pub overflow_sub-at : goal.overflow_sub-at
+overflow_sub-at g c = omega arith
+
+pub overflow_cast-at-then-index : goal.overflow_cast-at-then-index
+overflow_cast-at-then-index g c = record { fits = omega arith }
+
+pub overflow_add-count : goal.overflow_add-count
+overflow_add-count g c = record { fits = omega arith }
+
+pub overflow_sub-at-in-loop-at : goal.overflow_sub-at-in-loop-at
+overflow_sub-at-in-loop-at g c = omega arith
+
+pub loop-at-smaller : goal.loop-at-smaller
+loop-at-smaller g c = omega arith

@@ -1,4 +1,4 @@
-use Rattle.std.proofs.Common.{ap, refl, ◌∙◌}
+use Rattle.std.proofs.Common.{ap, refl, ◌∙◌, arith}
 use Rattle.path_sets.specs.Batches.{masks_in, gathered_at}
 use Rattle.path_sets.proofs.BatchLemmas.{one_more_masks, one_more_gathered}
 use Rattle.path_sets.proofs.diagrams.newest.batch_with_room.Goals as goal
@@ -24,3 +24,6 @@ returns-in_err-push-clause-keep g c = record {
   gathered = λ k. ap (λ bs. gathered_at bs k) c.in_err-push.ensures.items;
   masks = λ diagrams. ap (masks_in diagrams) c.in_err-push.ensures.items;
 }
+
+pub overflow_sub-result-2 : goal.overflow_sub-result-2
+overflow_sub-result-2 g c = omega (arith, c.len-2.ensures, c.in_ok-push.ensures.len)

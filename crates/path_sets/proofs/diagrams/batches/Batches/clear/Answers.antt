@@ -1,4 +1,4 @@
-use Rattle.std.proofs.Common.{◌∙◌}
+use Rattle.std.proofs.Common.{◌<◌, subst, sym, ◌∙◌, arith}
 use Rattle.path_sets.proofs.BatchLemmas.{home_cleared, set_others, set_within}
 use Rattle.path_sets.proofs.diagrams.batches.Batches.clear.Goals as goal
 
@@ -18,3 +18,12 @@ returns-clause-here g c =
 
 pub returns-clause-others : goal.returns-clause-others
 returns-clause-others g c = set_others c.args.self.now.batches.items c.args.at c.new.result
+
+pub index-requires : goal.index-requires
+index-requires g c = subst (λ n. c.args.at < n) (sym c.args.self.now.batches.ok.0) c.requires
+
+pub index_mut-requires : goal.index_mut-requires
+index_mut-requires g c = subst (λ n. c.args.at < n) (sym c.args.self.now.batches.ok.0) c.requires
+
+pub overflow_add-at : goal.overflow_add-at
+overflow_add-at g c = record { fits = omega (arith, c.ranges.at.fits, c.requires) }
