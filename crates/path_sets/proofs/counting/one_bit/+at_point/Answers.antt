@@ -146,3 +146,21 @@ from_children-returns-clause-answers g t c =
     c.in_ok-none.ensures.answers c.in_ok-first.ensures.answers c.in_ok-second.ensures.answers c.in_ok-both.ensures.answers
     c.in_ok-low.ensures.inside c.in_ok-low.ensures.joined c.in_ok-high.ensures.joined c.make-3.new.self.kept.keys c.make-3.result
     c.make-3.ensures.inside c.make-3.ensures.deep c.make-3.ensures.joined
+
+pub from_children-overflow_add-level : goal.from_children-overflow_add-level
+from_children-overflow_add-level g t c = record { fits = omega (arith, c.requires.level) }
+
+pub from_children-overflow_mul-subproblem : goal.from_children-overflow_mul-subproblem
+from_children-overflow_mul-subproblem g t c = record { fits = omega (arith, c.requires.level) }
+
+pub from_children-overflow_add-subproblem : goal.from_children-overflow_add-subproblem
+from_children-overflow_add-subproblem g t c = record { fits = omega (arith, c.requires.level) }
+
+pub from_children-overflow_mul-subproblem-2 : goal.from_children-overflow_mul-subproblem-2
+from_children-overflow_mul-subproblem-2 g t c = record { fits = omega (arith, c.requires.level) }
+
+pub from_children-overflow_add-subproblem-2 : goal.from_children-overflow_add-subproblem-2
+from_children-overflow_add-subproblem-2 g t c = record { fits = omega (arith, c.requires.level) }
+
+pub from_children-overflow_mul-subproblem-3 : goal.from_children-overflow_mul-subproblem-3
+from_children-overflow_mul-subproblem-3 g t c = record { fits = omega (arith, c.requires.level) }

@@ -5,14 +5,14 @@ use Rattle.indexmap.specs.IndexMap.{keys}
 use Rattle.path_sets.specs.declared.diagrams.diagram_edges.LastDiagram.{LastDiagram}
 use Rattle.path_sets.specs.declared.diagrams.gathered_key.GatheredKey.{GatheredKey}
 use Rattle.path_sets.specs.Batches.{masks_in}
-use Rattle.path_sets.specs.Contents.{IsKeyAt}
+use Rattle.path_sets.specs.Contents.{IsKeyAt, whole}
 use Rattle.path_sets.specs.Diagrams.{diagram_of}
 use Rattle.path_sets.specs.Edges.{edge_at}
 use Rattle.path_sets.specs.Inserts.{IsNewIf}
 use Rattle.path_sets.specs.Members.{all_edges, PutsEdge}
 use Rattle.path_sets.specs.GatheredKeys.{gathered_key, mask_key_at}
 use Rattle.path_sets.specs.Triples.{Triple, triple}
-use Rattle.path_sets.proofs.InsertsLemmas.{none_more_if, one_more_if}
+use Rattle.path_sets.proofs.InsertsLemmas.{count_fits, none_more_if, one_more_if}
 use Rattle.path_sets.proofs.EdgesLemmas.{Groups}
 use Rattle.path_sets.proofs.CoverLemmas.{longer, members_kept, members_put, members_same, was_known, was_new}
 use Rattle.path_sets.proofs.GatheredKeyLemmas.{mask_key_is}
@@ -154,3 +154,9 @@ gather_at-added-requires-clause-here g c =
     s.known c.in-Some-last.last c.in-Some.at c.in-Some-last.is c.in-Some.ensures.some.0
     ∙ ap (λ v. Some (gathered_key c.in-Some-last.last.diagram v)) (c.in-Some.ensures.some.1
     ∙ sym (ap (λ (t : Triple). t.values) c.key_and_bit-mask_key.ensures.edge))
+
+pub overflow_add-self : goal.overflow_add-self
+overflow_add-self g c =
+    let s = c.args.self.now in
+    let edges = whole s.merged s.gathered.batches.items in
+    count_fits s.count edges edges s.counted refl c.requires

@@ -10,7 +10,8 @@ use Rattle.path_sets.specs.Inserts.{Inserts, IsNewIf, PutsIn}
 use Rattle.path_sets.specs.declared.ordered.shard.Shard.{Shard}
 use Rattle.path_sets.specs.Shards.{all_in, AreHome, AreThere}
 use Rattle.path_sets.specs.Triples.{Triple, triple}
-use Rattle.path_sets.proofs.InsertsLemmas.{is_new_or_old, is_in, stays_in, none_more_if, one_longer, one_more_if, still_none_twice}
+use Rattle.path_sets.proofs.InsertsLemmas.{count_fits, is_new_or_old, is_in, stays_in, none_more_if, one_longer, one_more_if}
+use Rattle.path_sets.proofs.InsertsLemmas.{still_none_twice}
 use Rattle.path_sets.proofs.ShardLemmas.{at_error, home_same, home_stays, same_all, settles_all}
 use Rattle.path_sets.proofs.ordered.ordered_edges.OrderedEdgesPathSet.insert.Given as given
 use Rattle.path_sets.proofs.ordered.ordered_edges.OrderedEdgesPathSet.insert.Goals as goal
@@ -164,3 +165,8 @@ returns-else-added-clause-len g c =
     let i = (goal.at.returns-else-added-clause-len g c).In_ok-added in
     none_more_if _ (all_in (new g i)) c.in_ok-added.added c.if-added.false
     ((settles g i false c.if-added.false).0 ∙ i.in_ok-at.ensures.edges)
+
+pub overflow_add-self : goal.overflow_add-self
+overflow_add-self g c =
+    let s = c.shard_of.new.self in
+    count_fits s.count (all_in c.args.self.now.shards.items) (all_in s.shards.items) s.counted c.in_ok-at.ensures.edges c.requires

@@ -6,6 +6,7 @@ use Rattle.path_sets.specs.Slots.{key_in, IsKeyIn, PutsPoint}
 use Rattle.path_sets.specs.SlotSets.{edges_of, has_key, is_kept, wide_edges, IsLastSlot}
 use Rattle.path_sets.specs.Triples.{Triple, triple}
 use Rattle.path_sets.proofs.MembersLemmas.{Fits}
+use Rattle.path_sets.proofs.InsertsLemmas.{count_fits}
 use Rattle.path_sets.proofs.SlotSetLemmas.{counts_none, counts_one, given_edge, given_key, kept_also, kept_longer, kept_new, kept_once}
 use Rattle.path_sets.proofs.SlotSetLemmas.{key_within, last_is}
 use Rattle.path_sets.proofs.SlotSetLemmas.{replaced_one, replaced_was, unique_still}
@@ -117,3 +118,14 @@ pub returns-then-not-self-clause-new : goal.returns-then-not-self-clause-new
 returns-then-not-self-clause-new g c =
     subst (λ x. IfOk c.insert_elsewhere.result (IsNewIf x (edges_of c.args.self.now.tables.entries c.args.self.now.wide)))
     (given_edge c.args.entry c.args.point c.args.values c.in-Some.key c.in-Some.ensures) c.insert_elsewhere.ensures.new
+
+pub overflow_add-self : goal.overflow_add-self
+overflow_add-self g c =
+    let s = c.args.self.now in
+    count_fits s.count (edges_of s.tables.entries s.wide) (edges_of s.tables.entries s.wide) s.counted refl c.requires
+
+pub returns-then-added-clause-len : goal.returns-then-added-clause-len
+returns-then-added-clause-len g c = longer g (goal.at.returns-then-added-clause-len g c).After-mark-added
+
+pub returns-else-added-clause-len : goal.returns-else-added-clause-len
+returns-else-added-clause-len g c = longer g (goal.at.returns-else-added-clause-len g c).After-mark-added
