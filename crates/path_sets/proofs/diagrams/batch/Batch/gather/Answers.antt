@@ -7,6 +7,9 @@ use Rattle.path_sets.specs.GatheredKeys.{gathered_key, gathered_key_eq}
 use Rattle.path_sets.proofs.GatherLemmas.{covers_first, covers_more, covers_same, gathers_first, gathers_known}
 use Rattle.path_sets.proofs.GatherLemmas.{gathers_more, keys_first, keys_more, keys_same}
 use Rattle.path_sets.proofs.GatherLemmas.{len_first, len_more, no_longer, one_more_not_same, put_at}
+use Rattle.std.proofs.lemmas.Bool.{OnTrue_from}
+use Rattle.std.proofs.lemmas.Result.{IfOk-from_err}
+use Rattle.path_sets.proofs.ShardLemmas.{at_error}
 use Rattle.path_sets.proofs.diagrams.batch.Batch.gather.Given as given
 use Rattle.path_sets.proofs.diagrams.batch.Batch.gather.Goals as goal
 use Rattle.path_sets.proofs.diagrams.batch.Batch.gather.Goals.{After-add_point, After-from_residual, After-insert}
@@ -164,3 +167,39 @@ returns-in-Some-clause-same g c =
 
 pub returns-in-Some-clause-more : goal.returns-in-Some-clause-more
 returns-in-Some-clause-more g c _ = c.saturating_add.ensures
+
+pub add_point-requires : goal.add_point-requires
+add_point-requires g c = c.requires.small
+
+pub first_mask-requires-clause-diagram : goal.first_mask-requires-clause-diagram
+first_mask-requires-clause-diagram g c = c.requires.diagram
+
+pub first_mask-requires-clause-bit : goal.first_mask-requires-clause-bit
+first_mask-requires-clause-bit g c = c.requires.small
+
+pub returns-in_err-entry-clause-err : goal.returns-in_err-entry-clause-err
+returns-in_err-entry-clause-err g c = at_error c.from_residual.result (refused g c)
+
+pub returns-in-Occupied-clause-known : goal.returns-in-Occupied-clause-known
+returns-in-Occupied-clause-known g c = OnTrue_from c.add_point.result _ (λ _. refl)
+
+pub returns-in-Some-clause-known : goal.returns-in-Some-clause-known
+returns-in-Some-clause-known g c = refl
+
+pub returns-in_err-entry-clause-ok : goal.returns-in_err-entry-clause-ok
+returns-in_err-entry-clause-ok g c = IfOk-from_err c.from_residual.result _ c.from_residual.ensures.0
+
+pub returns-in_err-entry-clause-known : goal.returns-in_err-entry-clause-known
+returns-in_err-entry-clause-known g c = IfOk-from_err c.from_residual.result _ c.from_residual.ensures.0
+
+pub invariant_of-self : goal.invariant_of-self
+invariant_of-self g c = search rules
+
+pub invariant_of-self-in-Occupied : goal.invariant_of-self-in-Occupied
+invariant_of-self-in-Occupied g c = search rules
+
+pub invariant_of-self-in_default : goal.invariant_of-self-in_default
+invariant_of-self-in_default g c = search rules
+
+pub invariant_of-self-in-Vacant : goal.invariant_of-self-in-Vacant
+invariant_of-self-in-Vacant g c = search rules
