@@ -164,3 +164,24 @@ from_children-overflow_add-subproblem-2 g t c = record { fits = omega (arith, c.
 
 pub from_children-overflow_mul-subproblem-3 : goal.from_children-overflow_mul-subproblem-3
 from_children-overflow_mul-subproblem-3 g t c = record { fits = omega (arith, c.requires.level) }
+
+pub at_point-returns-in-Some-clause-memo : goal.at_point-returns-in-Some-clause-memo
+at_point-returns-in-Some-clause-memo g t c = c.requires.memo
+
+pub at_point-returns-in_err-number-clause-keeps : goal.at_point-returns-in_err-number-clause-keeps
+at_point-returns-in_err-number-clause-keeps g t c = c.from_children.ensures.keeps
+
+pub at_point-returns-in_err-number-clause-memo : goal.at_point-returns-in_err-number-clause-memo
+at_point-returns-in_err-number-clause-memo g t c = c.from_children.ensures.memo
+
+pub at_point-returns-in_err-insert-clause-keeps : goal.at_point-returns-in_err-insert-clause-keeps
+at_point-returns-in_err-insert-clause-keeps g t c = c.in_ok-number.ensures.keeps
+
+pub at_point-returns-clause-keeps : goal.at_point-returns-clause-keeps
+at_point-returns-clause-keeps g t c = c.in_ok-number.ensures.keeps
+
+pub at_point-returns-clause-answers : goal.at_point-returns-clause-answers
+at_point-returns-clause-answers g t c = c.in_ok-number.ensures.answers
+
+pub from_children-node-quad-requires : goal.from_children-node-quad-requires
+from_children-node-quad-requires g t c = c.requires.inside

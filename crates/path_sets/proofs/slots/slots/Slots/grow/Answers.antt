@@ -1,4 +1,4 @@
-use Rattle.std.proofs.Common.{◌≡◌, ℕ, Some, slice_get, slice_index_or, ap, refl, sym, subst}
+use Rattle.std.proofs.Common.{◌≡◌, ℕ, Some, slice_get, slice_index_or, ap, refl, sym, subst, arith}
 use Rattle.path_sets.specs.declared.slots.slot.Slot.{Slot}
 use Rattle.path_sets.specs.Slots.{AreFound, IsPlaceFor}
 use Rattle.path_sets.proofs.SlotLemmas.{all_alike, none_found, none_there}
@@ -35,3 +35,9 @@ merge-requires-clause-some g c = c.if-slot-ne0.true
 
 pub invariant_of-self : goal.invariant_of-self
 invariant_of-self g c = record { found = c.loop-slot.invariant.0 }
+
+pub loop-slot-smaller : goal.loop-slot-smaller
+loop-slot-smaller g c = omega arith
+
+pub bounds-slot-items-slot-index : goal.bounds-slot-items-slot-index
+bounds-slot-items-slot-index g c = omega arith
