@@ -1,5 +1,4 @@
-use Rattle.std.proofs.Common.{◌≡◌, Bool, List, Some, None, slice_get, true, ap, subst, sym, ◌∙◌, true≢false, rules}
-use Rattle.std.specs.Map.{keys_of}
+use Rattle.std.proofs.Common.{◌≡◌, Some, None, slice_get, true, ap, subst, sym, ◌∙◌, true≢false, rules}
 use Rattle.std.specs.Option.{option_map}
 use Rattle.std.proofs.lemmas.Option.{none-some, same_Some, slice_get-map}
 use Rattle.indexmap.specs.IndexMap.{keys}
