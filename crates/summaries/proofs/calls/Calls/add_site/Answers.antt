@@ -1,4 +1,4 @@
-use Rattle.std.proofs.Common.{◌≡◌, ◌≤◌, List, Option, Some, length, sym, ap, ◌∙◌, subst, arith, rules}
+use Rattle.std.proofs.Common.{◌≡◌, ◌≤◌, ◌++◌, ◌∷◌, [], List, Option, Some, length, sym, ap, ◌∙◌, subst, arith, rules}
 use Rattle.flow_graph.specs.declared.exit.Exit.{Exit}
 use Rattle.path_sets.proofs.ShardLemmas.{at_error}
 use Rattle.indexmap.specs.IndexMap.{get}
@@ -8,7 +8,7 @@ use Rattle.summaries.specs.Chains.{chain_of}
 use Rattle.summaries.specs.KnownCalls.{call_eq, sites_if_any, chain_if_any}
 use Rattle.summaries.specs.contracts.edge.CallKeyEq.TheImpl.Laws.{laws-law}
 use Rattle.summaries.proofs.ChainLemmas.{within_after}
-use Rattle.summaries.proofs.GroupLemmas.{all_after, keys_after, place_after}
+use Rattle.summaries.proofs.GroupLemmas.{added_after, all_after, keys_after, others_after, place_after}
 use Rattle.summaries.proofs.calls.Calls.add_site.Given.{Over}
 use Rattle.summaries.proofs.calls.Calls.add_site.Goals as goal
 use Rattle.summaries.proofs.calls.Calls.add_site.Goals.{After-add}
@@ -86,3 +86,19 @@ returns-in-Vacant-clause-summaries g c =
     all_after call_eq told c.args.self.now.by_key.entries _ c.args.key c.insert.result.now (search rules) laws-law
     (ap (λ k. told (Some k)) c.insert.ensures.value
     ∙ ap told (sym (ap entry_value c.in-Vacant.is) ∙ c.in_ok-entry.ensures.value))
+
+pub returns-in_ok-add-in-Occupied-clause-added : goal.returns-in_ok-add-in-Occupied-clause-added
+returns-in_ok-add-in-Occupied-clause-added g c =
+    added_after call_eq sites_if_any c.args.self.now.by_key.entries _ c.args.key
+    (record c.into_mut-known.result.now { sites = c.add.new.self }) (search rules) (laws-law.refl c.args.key) _
+    (c.in_ok-add-in-Occupied.ensures.ok
+    ∙ ap (λ o. sites_if_any o ++ c.args.site ∷ []) (was g (goal.at.returns-in_ok-add-in-Occupied-clause-added g c).After-add))
+
+pub returns-in_ok-add-in-Occupied-clause-others : goal.returns-in_ok-add-in-Occupied-clause-others
+returns-in_ok-add-in-Occupied-clause-others g c =
+    others_after call_eq sites_if_any c.args.self.now.by_key.entries _ c.args.key
+    (record c.into_mut-known.result.now { sites = c.add.new.self }) (search rules)
+
+pub returns-in-Vacant-clause-others : goal.returns-in-Vacant-clause-others
+returns-in-Vacant-clause-others g c =
+    others_after call_eq sites_if_any c.args.self.now.by_key.entries _ c.args.key c.insert.result.now (search rules)
