@@ -1,6 +1,8 @@
 -- The pairs of an owner, from the last to the first by their links.
 use Rattle.std.proofs.Common.{◌≡◌, ◌<◌, ◌≤◌, ◌⊎◌, ◌+◌, ℕ, zero, suc, Bool, true, false, not, ◌&&◌, ◌||◌, nat_eq, if◌then◌else◌, List, []}
-use Rattle.std.proofs.Common.{◌∷◌, ◌++◌, length}
+use Rattle.std.proofs.Common.{◌∷◌, ◌++◌, length, Result, Ok, Err}
+use Rattle.std.specs.Prelude.{IfOk, OnOk, OnErr}
+use Rattle.std.specs.Bool.{OnTrue, OnFalse}
 use Rattle.std.proofs.Common.{Some, cond, slice_get, get_or, inl, inr, refl, sym, ap, ◌∙◌, subst, arith, true≢false}
 use Rattle.std.specs.Map.{keys_of}
 use Rattle.std.proofs.lemmas.Bool.{and_parts}
@@ -12,7 +14,7 @@ use Rattle.language.specs.Lists.{Member}
 use Rattle.path_sets.proofs.KeyLemmas.{found_is_in, is_found}
 use Rattle.path_sets.proofs.PlaceLemmas.{get_map, got_map, index_of}
 use Rattle.summaries.specs.Found.{left}
-use Rattle.summaries.specs.Hashes.{kept_eq, is_one_of, AreReal, HasAllOf, IsHashedToo, IsLookedUp}
+use Rattle.summaries.specs.Hashes.{kept_eq, few, is_one_of, AreReal, HasAllOf, IsHashedToo, IsLookedUp}
 use Rattle.summaries.specs.Links.{owners, IsLink, AreLinked}
 use Rattle.summaries.proofs.LinkLemmas.{nat_itself, length_owners}
 
@@ -69,6 +71,17 @@ module _ (kept : List (ℕ × Exit)) (new : ℕ × Exit) where
       by true c same e = inl refl
       by false true same e = inr (same_kept k new same)
       by false false same e = absurd (true≢false (sym e))
+
+  -- those that were there are there, and so is the new one
+  pub first_too : (k : ℕ × Exit) → is_one_of kept k ≡ true → is_one_of (kept ++ new ∷ []) k ≡ true
+  first_too k there = with_one k ∙ ap (λ b. b || (kept_eq k new || false)) there
+
+  pub last_too : is_one_of (kept ++ new ∷ []) new ≡ true
+  last_too = with_one new ∙ ap (λ b. is_one_of kept new || (b || false)) (kept_itself new) ∙ or_true (is_one_of kept new)
+    where
+      or_true : (b : Bool) → (b || true) ≡ true
+      or_true true = refl
+      or_true false = refl
 
 module _ (pairs : List ((ℕ × Exit) × ℕ)) (owner : ℕ) where
   -- each pair of the owner from this place on has it
@@ -188,3 +201,52 @@ all_and_new kept owner new before after all more b is =
       | inl was ↦ had (owner, b) (all b was)
       | inr same ↦ subst (λ k. is_one_of after k ≡ true) (sym same) here
     ]
+
+-- what is told of a new pair and of one that is known
+if_new : {P : Type 0} (new : Bool) → P → OnTrue new P
+if_new true p = p
+if_new false p = tt
+
+if_known : {P : Type 0} (new : Bool) → (new ≡ false → P) → OnFalse new P
+if_known true p = tt
+if_known false p = p refl
+
+-- all pairs of the owner are found by their hashes, and those that are so found are kept
+module _ (many kept : List (ℕ × Exit)) (owner : ℕ) (new : Exit) where
+  -- so the pair is found if it is kept
+  pub hashed_same : AreReal many kept → HasAllOf many kept owner → is_one_of many (owner, new) ≡ is_one_of kept (owner, new)
+  hashed_same real all = by (is_one_of many (owner, new)) (is_one_of kept (owner, new)) (real (owner, new)) (all new)
+    where
+      by : (b c : Bool) → (b ≡ true → c ≡ true) → (c ≡ true → b ≡ true) → b ≡ c
+      by true c there back = sym (there refl)
+      by false true there back = back refl
+      by false false there back = refl
+
+  module _ (real : AreReal many kept) (after : List (ℕ × Exit)) {E : Type 0} where
+    -- what is told if the pair was there
+    pub hashed_known : (r : Result Bool E) → OnOk r (IsHashedToo (owner, new) many after)
+        → IfOk r (λ is. is ≡ not (is_one_of many (owner, new))) → IfOk r (λ is. OnFalse is (IsLookedUp kept many after))
+    hashed_known (Ok is) more told = if_known is (λ none.
+        looked_up kept many many after (owner, new)
+        (real (owner, new) (not_new (is_one_of many (owner, new)) is told none)) more (looked_first kept many real))
+    hashed_known (Err e) more told = tt
+
+    -- and if it was not
+    pub hashed_added : (r : Result Bool E) → OnOk r (IsHashedToo (owner, new) many after)
+        → IfOk r (λ is. OnTrue is (IsLookedUp (kept ++ (owner, new) ∷ []) many after))
+    hashed_added (Ok is) more = if_new is
+        (looked_up (kept ++ (owner, new) ∷ []) many many after (owner, new) (last_too kept (owner, new)) more
+        (looked_first (kept ++ (owner, new) ∷ []) many (λ x there. first_too kept (owner, new) x (real x there))))
+    hashed_added (Err e) more = tt
+
+  pub hashed_all : (count : ℕ) → HasAllOf many kept owner → (after : List (ℕ × Exit)) → {E : Type 0} → (r : Result Bool E)
+      → OnOk r (IsHashedToo (owner, new) many after)
+      → IfOk r (λ is. OnTrue is (few ≤ count → HasAllOf after (kept ++ (owner, new) ∷ []) owner))
+  hashed_all count all after (Ok is) more = if_new is (λ so_many. all_and_new kept owner new many after all more)
+  hashed_all count all after (Err e) more = tt
+
+-- and after an error
+pub hashed_err : (many kept : List (ℕ × Exit)) → AreReal many kept → (after : List (ℕ × Exit)) → {E : Type 0} → (r : Result Bool E)
+    → OnErr r (after ≡ many) → OnErr r (IsLookedUp kept many after)
+hashed_err many kept real after (Ok is) same = tt
+hashed_err many kept real after (Err e) same = subst (IsLookedUp kept many) (sym same) (looked_first kept many real)
