@@ -1,6 +1,6 @@
 -- One more summary is that of the next table.
 use Rattle.std.proofs.Common.{◌≡◌, ◌∷◌, [], Some, length, slice_get, refl, sym, ap, ◌∙◌, subst, arith, length-append}
-use Rattle.std.proofs.lemmas.Option.{slice_get_read, same_Some}
+use Rattle.std.proofs.lemmas.Option.{slice_get_read, same_Some, none-some}
 use Rattle.summaries.specs.declared.table.Table.{Table}
 use Rattle.summaries.specs.Effects.{Effect}
 use Rattle.summaries.specs.Together.{IsReadOff}
@@ -28,3 +28,17 @@ loop-table-preserved g c =
           (same_Some table v (sym is ∙ ap (slice_get tables) (sym invariant.count) ∙ is_v)) c.in_ok-summary_of.ensures)
           q s (subst (λ l. slice_get l q ≡ Some s) pushed is_s) t is_t;
     }
+
+pub loop-table-init : goal.loop-table-init
+loop-table-init g c =
+    let none = c.new-summaries.ensures.items in
+    record {
+      count = ap length none;
+      read = λ q t s is_t is_s. absurd (none-some s (subst (λ l. slice_get l q ≡ Some s) none is_s));
+    }
+
+pub loop-table-smaller : goal.loop-table-smaller
+loop-table-smaller g c = omega (arith, c.loop-table-test.true)
+
+pub bounds-tables-table-index : goal.bounds-tables-table-index
+bounds-tables-table-index g c = c.loop-table-test.true

@@ -187,3 +187,20 @@ returns-clause-new g c =
       there = new_there old mid n c.args.entry b stay known apart es same had.last after more (link - 1) is;
       others = new_others old mid n c.args.entry b stay known apart es same had.last after more (link - 1) is;
     }
+
+pub overflow_sub-result : goal.overflow_sub-result
+overflow_sub-result g c = omega (arith, c.in_ok-link.ensures)
+
+pub invariant_of-self : goal.invariant_of-self
+invariant_of-self g c =
+    let mid = c.find.new.self in
+    record {
+      once = mid.once;
+      owned = mid.owned;
+      last = mid.last;
+      linked = mid.linked;
+      seen = mid.seen;
+      real = mid.real;
+      counted = mid.counted;
+      hashed = mid.hashed;
+    }
