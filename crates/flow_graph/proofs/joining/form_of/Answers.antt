@@ -1,7 +1,7 @@
 -- The joint table is made of the rows of all that is read; a choice is put at the first of the bits.
-use Rattle.std.proofs.Common.{◌≡◌, true, refl, sym, subst, ◌∙◌, arith}
+use Rattle.std.proofs.Common.{◌≡◌, ◌≤◌, true, length, refl, sym, subst, ◌∙◌, arith}
 use Rattle.flow_graph.specs.Joining.{all_read_few, read_bits}
-use Rattle.flow_graph.specs.Tables.{is_input, AreBits}
+use Rattle.flow_graph.specs.Tables.{is_input, most_inputs, AreBits}
 use Rattle.resolved.specs.Limits.{most_places}
 use Rattle.flow_graph.proofs.JointLemmas.{none_any, joint_right, read_inside, read_places}
 use Rattle.flow_graph.proofs.ChosenLemmas.{chosen_right}
@@ -11,6 +11,14 @@ pub rows_of-requires-clause-bits : goal.rows_of-requires-clause-bits
 rows_of-requires-clause-bits g c =
     subst AreBits (sym (c.as_slice.ensures.value ∙ c.in-Some-inputs_of.ensures.some.0))
     (read_places c.args.writes.now most_places (omega arith))
+
+pub rows_of-requires-clause-few : goal.rows_of-requires-clause-few
+rows_of-requires-clause-few g c =
+    subst (λ bits. length bits ≤ most_inputs) (sym c.as_slice.ensures.value) c.in-Some-inputs_of.ensures.some.1
+
+pub new-inputs-requires-clause-few : goal.new-inputs-requires-clause-few
+new-inputs-requires-clause-few g c =
+    subst (λ bits. length bits ≤ most_inputs) (sym c.as_slice-2.ensures.value) c.in-Some-inputs_of.ensures.some.1
 
 pub new-inputs-requires-clause-places : goal.new-inputs-requires-clause-places
 new-inputs-requires-clause-places g c =
