@@ -27,6 +27,9 @@ block-requires g c =
           ∙ λ t. given_mask (length (names_of (sym gs t))) (routine_in (sym gs t) (sym fs t) (sym ls t) (sym ps t) (sym body t)),
     )
 
+pub overflow_cast-len : goal.overflow_cast-len
+overflow_cast-len g c = omega (arith, c.requires.0, width_counted c.args.program.now c.args.proc.now, c.len.ensures)
+
 pub returns : goal.returns
 returns g c =
     let t = c.args.program.now in

@@ -8,6 +8,12 @@ use Rattle.flow_graph.proofs.JointLemmas.{read_first, read_one, read_none, read_
 use Rattle.flow_graph.proofs.joining.inputs_of.Goals as goal
 use Rattle.flow_graph.proofs.joining.inputs_of.Goals.{then-some_reads+else-is_full, else-some_reads}
 
+pub overflow_cast-bit : goal.overflow_cast-bit
+overflow_cast-bit g c = omega (arith, c.loop-bit-test.true)
+
+pub overflow_cast-bit-then-some_reads : goal.overflow_cast-bit-then-some_reads
+overflow_cast-bit-then-some_reads g c = omega (arith, c.loop-bit-test.true)
+
 pub loop-bit-init : goal.loop-bit-init
 loop-bit-init g c = (c.new-bits.ensures ∙ sym (read_first c.args.writes.now), omega (arith, ap length c.new-bits.ensures))
 

@@ -32,6 +32,12 @@ returns-then-es-self g c target mask has =
     does_no_call c.nowhere-then-es-self.result target _ _ c.args.back _
     (inr (λ few. omega (arith, few, count, globals, c.if-es-self.true))) (c.nowhere-then-es-self.ensures _)
 
+pub overflow_cast-self : goal.overflow_cast-self
+overflow_cast-self g c = omega (arith, c.requires.1)
+
+pub overflow_sub-self : goal.overflow_sub-self
+overflow_sub-self g c = omega (arith, c.requires.1)
+
 pub loop-e-preserved : goal.loop-e-preserved
 loop-e-preserved g c =
     let me = c.args.self.now in
