@@ -46,3 +46,15 @@ invariant_of-self-in-Ok-post g c =
     (omega (arith, c.push_reserved.ensures.capacity)) c.in-Ok-post.ensures.ok
     (c.push_reserved.ensures.items
     ∙ ap (λ l. l ++ Posted c.args.to c.args.by c.args.message c.job.inside.take ∷ []) c.reserve.ensures.items)
+
+pub overflow_add-owed : goal.overflow_add-owed
+overflow_add-owed g c = omega (arith, c.self.invariant.room, c.self.inside.order.ok)
+
+pub overflow_mul-owed : goal.overflow_mul-owed
+overflow_mul-owed g c = omega (arith, c.self.invariant.room, c.self.inside.order.ok)
+
+pub overflow_add-self : goal.overflow_add-self
+overflow_add-self g c = omega (arith, c.self.invariant.room, c.self.inside.order.ok)
+
+pub index_mut-mailbox-requires : goal.index_mut-mailbox-requires
+index_mut-mailbox-requires g c = omega (arith, c.from.ensures, c.requires.to, ap (λ s. s.boxes) c.self.view_is)
