@@ -85,3 +85,6 @@ find_at-find-requires g t c κs within =
 pub find_at-find-requires-in-None : goal.find_at-find-requires-in-None
 find_at-find-requires-in-None g t c κs within =
     (rw (← c.requires.1.0) (omega (arith, ap statements c.inside.ensures.second)), within)
+
+pub find-loop-stmt-init : goal.find-loop-stmt-init
+find-loop-stmt-init g n c = λ s k fits. (refl, refl)

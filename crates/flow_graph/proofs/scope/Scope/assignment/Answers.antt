@@ -1,5 +1,5 @@
 -- Each target is written, unless it is declared nowhere or written again.
-use Rattle.std.proofs.Common.{◌≡◌, ◌+◌, ◌^◌, length, map, ap, sym, ◌∙◌, subst, arith}
+use Rattle.std.proofs.Common.{◌≡◌, ◌+◌, ◌^◌, length, map, ap, sym, ◌∙◌, subst, arith, ◌++◌}
 use Rattle.std.specs.Prelude.{IfOk}
 use Rattle.trees.specs.Trees.{names_of, rhs_of, rhss_of}
 use Rattle.flow_graph.specs.Assignments.{anys}
@@ -8,6 +8,7 @@ use Rattle.flow_graph.specs.Formulas.{SaysSide}
 use Rattle.flow_graph.specs.Views.{scope_seen}
 use Rattle.flow_graph.proofs.Assignments.{kept_from, all_written, anys_same, anys_few, assigns, few_variables, names_below, one_written}
 use Rattle.flow_graph.proofs.Assignments.{passed_over}
+use Rattle.flow_graph.proofs.Assignments.{Compiled}
 use Rattle.flow_graph.proofs.scope.Scope.assignment.Goals as goal
 use Rattle.flow_graph.proofs.scope.Scope.assignment.Goals.{in-Some+in_ok-put, in_default}
 
@@ -74,3 +75,8 @@ slice_bounds-lasting-start g c = omega (arith, c.loop-at-test.true, c.min-count.
 
 pub slice_bounds-lasting-end : goal.slice_bounds-lasting-end
 slice_bounds-lasting-end g c = omega (arith, c.loop-at-test.true, c.min-count.ensures)
+
+pub loop-at-init : goal.loop-at-init
+loop-at-init g c = λ ws compiled.
+    let s = scope_seen c.args.self.now in
+    subst (λ l. Compiled s (l ++ ws) (kept_from s c.args.targets.now c.args.sides.now 0)) (sym c.new-writes.ensures.items) compiled
