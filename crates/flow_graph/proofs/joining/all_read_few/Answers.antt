@@ -1,5 +1,5 @@
 -- A write that reads few leaves the question to those after it.
-use Rattle.std.proofs.Common.{◌≡◌, ◌+◌, ◌∷◌, true, false, cond, drop, sym, ap, ◌∙◌}
+use Rattle.std.proofs.Common.{◌+◌, ◌∷◌, false, cond, drop, sym, ap, ◌∙◌}
 use Rattle.std.proofs.lemmas.List.{drop_more}
 use Rattle.flow_graph.specs.Joining.{all_read_few}
 use Rattle.flow_graph.proofs.joining.all_read_few.Goals as goal

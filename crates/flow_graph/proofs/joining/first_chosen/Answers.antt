@@ -1,5 +1,5 @@
 -- The writes begin at no bit that was tried.
-use Rattle.std.proofs.Common.{◌≡◌, ◌≤◌, ℕ, inl, inr, sym, ap, ◌∙◌, arith}
+use Rattle.std.proofs.Common.{◌≤◌, inl, inr, sym, ap, ◌∙◌, arith}
 use Rattle.std.proofs.Math.Nat.{eq-or-lt_of_le}
 use Rattle.flow_graph.specs.Joining.{all_choose}
 use Rattle.flow_graph.proofs.joining.first_chosen.Goals as goal

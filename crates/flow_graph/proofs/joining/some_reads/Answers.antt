@@ -1,7 +1,7 @@
 -- A write that does not read the bit leaves the question to those after it.
-use Rattle.std.proofs.Common.{◌≡◌, ◌+◌, ◌∷◌, true, false, cond, drop, sym, ap, ◌∙◌}
+use Rattle.std.proofs.Common.{◌+◌, ◌∷◌, true, cond, drop, sym, ap, ◌∙◌}
 use Rattle.std.proofs.lemmas.List.{drop_more}
-use Rattle.flow_graph.specs.Joining.{some_reads, reads}
+use Rattle.flow_graph.specs.Joining.{some_reads}
 use Rattle.flow_graph.proofs.joining.some_reads.Goals as goal
 
 pub loop-write-preserved : goal.loop-write-preserved

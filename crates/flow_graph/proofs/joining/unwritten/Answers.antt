@@ -1,5 +1,5 @@
 -- Each write takes its bits from the mask so far.
-use Rattle.std.proofs.Common.{◌≡◌, ◌+◌, ◌∷◌, false, drop, sym, ap, ◌∙◌}
+use Rattle.std.proofs.Common.{◌+◌, ◌∷◌, drop, sym, ap, ◌∙◌}
 use Rattle.std.proofs.lemmas.List.{drop_more}
 use Rattle.flow_graph.specs.Joining.{unwritten}
 use Rattle.flow_graph.proofs.joining.unwritten.Goals as goal
