@@ -1,5 +1,5 @@
 -- The table is laid for the parameters, and the first seat begins with what is known of them.
-use Rattle.std.proofs.Common.{◌≡◌, ◌<◌, [], sym, ap, ◌∙◌, subst, arith}
+use Rattle.std.proofs.Common.{◌<◌, [], sym, ap, ◌∙◌, subst, arith}
 use Rattle.switchboard.specs.Knowing.{first_view}
 use Rattle.switchboard.specs.PerBox.{IsBoardTable}
 use Rattle.switchboard.specs.declared.lock_per_box.knowing.Ground.{Ground}
