@@ -54,3 +54,12 @@ loop-pass-preserved g c =
       gathered_more F boxes all front rest s are _ c.loop-pass.seat.me c.into_seat.result.me c.take_in.new.seat.me so_far
           c.into_seat.ensures of.1 c.take_in.ensures.1,
     )
+
+pub take_in-requires-clause-mine : goal.take_in-requires-clause-mine
+take_in-requires-clause-mine g c = λ q near. (c.loop-pass.invariant.2.quiet q near).1
+
+pub take_in-requires-clause-none : goal.take_in-requires-clause-none
+take_in-requires-clause-none g c = c.into_seat.ensures.0.outside
+
+pub returns-clause-table : goal.returns-clause-table
+returns-clause-table g c = c.loop-pass.invariant.0
