@@ -1,4 +1,4 @@
-use Rattle.std.proofs.Common.{◌≡◌, ◌<◌, ◌^◌, ℕ, [], sym, ◌∙◌, subst, length, arith}
+use Rattle.std.proofs.Common.{◌≡◌, ◌<◌, ◌^◌, ℕ, [], refl, sym, ◌∙◌, subst, length, arith}
 use Rattle.std.specs.Bool.{OnFalse}
 use Rattle.std.proofs.lemmas.List.{length-map}
 use Rattle.summaries.specs.declared.found.Found.{Found}
@@ -36,3 +36,24 @@ returns-in_err-step-clause-few g c = few c.step.new.self.procedure c.step.new.se
 
 pub returns-then-not-branch-clause-few : goal.returns-then-not-branch-clause-few
 returns-then-not-branch-clause-few g c = few c.step.new.self.procedure c.step.new.self.found
+
+pub work-init : goal.work-init
+work-init g c = (c.requires, c.in_default.is, (refl, refl), refl, record { graph = refl; procedure = refl; limit = refl })
+
+pub work-preserved : goal.work-preserved
+work-preserved g c =
+    let step = c.in_ok-step.ensures in
+    let new = step.keeps in
+    let old = c.in_default-answer.ensures in
+    let mid = old.keeps in
+    let so_far = c.work.invariant in (
+      new.table,
+      new.fault,
+      (new.taken.0 ∙ mid.taken.0 ∙ so_far.2.0, new.taken.1 ∙ mid.taken.1 ∙ so_far.2.1),
+      step.answers ∙ old.none ∙ so_far.3,
+      record {
+        graph = new.stays.graph ∙ mid.stays.graph ∙ so_far.4.graph;
+        procedure = new.stays.procedure ∙ mid.stays.procedure ∙ so_far.4.procedure;
+        limit = new.stays.limit ∙ mid.stays.limit ∙ so_far.4.limit;
+      },
+    )
