@@ -1,5 +1,6 @@
 -- One more table is that of the next graph.
 use Rattle.std.proofs.Common.{◌≡◌, ◌∷◌, [], Some, length, slice_get, sym, ap, ◌∙◌, subst, arith, length-append}
+use Rattle.std.proofs.lemmas.Option.{none-some}
 use Rattle.summaries.specs.declared.table.Table.{Table}
 use Rattle.summaries.specs.Tables.{graph_of, IsNew}
 use Rattle.summaries.proofs.ReplaceLemmas.{each_pushed, map_is}
@@ -51,3 +52,17 @@ returns-clause-graphs g c =
 
 pub returns-clause-limit : goal.returns-clause-limit
 returns-clause-limit g c = c.loop-procedure.invariant.limits
+
+pub loop-procedure-init : goal.loop-procedure-init
+loop-procedure-init g c =
+    let none = c.new-tables.ensures.items in
+    record {
+      count = ap length none;
+      fresh = λ q t is. absurd (none-some t (subst (λ l. slice_get l q ≡ Some t) none is));
+      numbered = λ q t is. absurd (none-some t (subst (λ l. slice_get l q ≡ Some t) none is));
+      limits = λ q t is. absurd (none-some t (subst (λ l. slice_get l q ≡ Some t) none is));
+      graphs = λ q t is. absurd (none-some t (subst (λ l. slice_get l q ≡ Some t) none is));
+    }
+
+pub loop-procedure-smaller : goal.loop-procedure-smaller
+loop-procedure-smaller g c = omega (arith, c.loop-procedure-test.true, c.loop-procedure.auto.procedure-end)
