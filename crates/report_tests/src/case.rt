@@ -123,23 +123,23 @@ impl<R: Wait + Threads + Sync> Trial<'_, R> {
     /// Writes the results with each lane held back in turn.
     fn late(&self, out: &mut String) -> Result<(), AllocError> {
         for lane in 0..=self.asked.program.program().procs.len().min(31) {
-            let gate = Late { lane: lane as u8 };
-            self.again(out, self.asked.parts, &Held::Late(&gate))?;
+            let held = Held::Late(Late { lane: lane as u8 });
+            self.again(out, self.asked.parts, &held)?;
         }
         Ok(())
     }
 
     /// Writes the results if two calls wait for each other.
     fn meeting(&self, out: &mut String) -> Result<(), AllocError> {
-        let gate = Meeting::new();
-        self.write_report_of(out, self.asked.parts, &Held::Meeting(&gate))?;
-        write_whether(out, gate.was_held(), "both met", "they did not meet")
+        let held = Held::Meeting(Meeting::new());
+        self.write_report_of(out, self.asked.parts, &held)?;
+        write_whether(out, held.came(), "both met", "they did not meet")
     }
 
     /// Writes the results, and whether the workers have begun.
     fn begun(&self, out: &mut String) -> Result<(), AllocError> {
-        let gate = Noting::new();
-        self.write_report_of(out, self.asked.parts, &Held::Noting(&gate))?;
-        write_whether(out, gate.has_all(), "all came", "not all came")
+        let held = Held::Noting(Noting::new());
+        self.write_report_of(out, self.asked.parts, &held)?;
+        write_whether(out, held.came(), "all came", "not all came")
     }
 }

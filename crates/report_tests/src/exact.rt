@@ -100,24 +100,14 @@ impl<R: Wait + Threads + Sync> Trial<'_, R> {
         requires { (2 ≤ budget) × (budget ≤ 2 ^ 56) }
     {
         for _ in 1..tries {
-            let hire = InTurn::new(summaries);
-            let answer = self.tried(
-                parts_at(pair),
-                self.asked.limit,
-                &Held::InTurn(&hire),
-                budget,
-            );
+            let held = Held::InTurn(InTurn::new(summaries));
+            let answer = self.tried(parts_at(pair), self.asked.limit, &held, budget);
             if answer.is_ok() {
                 return answer;
             }
         }
-        let hire = InTurn::new(summaries);
-        self.tried(
-            parts_at(pair),
-            self.asked.limit,
-            &Held::InTurn(&hire),
-            budget,
-        )
+        let held = Held::InTurn(InTurn::new(summaries));
+        self.tried(parts_at(pair), self.asked.limit, &held, budget)
     }
 
     /// Writes the results over each pair of board and set with one budget less than is enough for this number of

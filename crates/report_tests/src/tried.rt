@@ -108,14 +108,13 @@ impl<R: Wait + Threads + Sync> Trial<'_, R> {
         after: Option<Moment>,
     ) -> Result<(), AllocError> {
         for number in 0..4u8 {
-            let hire = Refusing::new(lane, after);
-            let held = Held::Refusing(&hire);
+            let held = Held::Refusing(Refusing::new(lane, after));
             let came = self.tried(parts_at(number), self.asked.limit, &held, MOST_TICKETS);
             let mut one = String::new(self.alloc);
             write_came(&mut one, came)?;
-            let lanes = hire.asked();
+            let lanes = held.asked();
             write!(&mut one, ", {lanes} asked for")?;
-            if !hire.is_well() {
+            if !held.is_well() {
                 one.push_str(", and more came than may")?;
             }
             put(out, one.as_str())?;

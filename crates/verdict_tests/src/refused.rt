@@ -15,6 +15,25 @@ use std::thread::Threads;
 use summaries::Due;
 use switchboard::{LockPerBox, OneLock};
 
+/// A runtime that has threads, and a scarce allocator in place of its own.
+#[derive(Drop)]
+struct Refusing<'a, R> {
+    rt: &'a R,
+    scarce: &'a Scarce<Global>,
+}
+
+impl<'a, R> Alloc for Refusing<'a, R> {
+    type A = &'a Scarce<Global>;
+
+    fn alloc(&self) -> &'a Scarce<Global> {
+        self.scarce
+    }
+}
+
+impl<R: Wait> Wait for Refusing<'_, R> {}
+
+impl<R: Threads> Threads for Refusing<'_, R> {}
+
 /// The answer to a text if the memory is scarce.
 pub fn answer_without<'a, R: Wait + Threads + Sync>(
     rt: &'a R,
@@ -22,7 +41,7 @@ pub fn answer_without<'a, R: Wait + Threads + Sync>(
     text: &[u8],
     order: Order,
 ) -> Reply<&'a Scarce<Global>> {
-    answer(&(rt, scarce), text, order)
+    answer(&Refusing { rt, scarce }, text, order)
 }
 
 type OfScarce<'a> = &'a Scarce<Global>;

@@ -4,8 +4,8 @@ use Rattle.language.specs.Step.{Program}
 use Rattle.flow_graph.specs.Graphs.{AreDrawnFrom}
 use Rattle.analysis_tests.proofs.tables.whole.by_graphs.Goals as goal
 
-pub tabulate-requires : goal.tabulate-requires
-tabulate-requires g c κs within =
+pub tabulate-summaries-requires : goal.tabulate-summaries-requires
+tabulate-summaries-requires g c κs within =
     let drawn =
     subst (λ (p : Program). AreDrawnFrom p c.in_ok-graphs.graphs.graphs.items) (sym c.requires.1.1) c.in_ok-graphs.ensures.graphs in
     (within.0, (within.1.0, (within.1.1, drawn)))
