@@ -1,4 +1,5 @@
-//! Rows of the program: each line of the standard input is a case, and is printed again with its result.
+//! Rows of the program and of its workers: each line of the standard input is a case, and is printed again with its
+//! result. Those of the workers are in `workers.rt`, the others are of the program.
 //!
 //! | Line | What is printed under it |
 //! |---|---|
@@ -29,6 +30,7 @@
 mod escapes;
 mod serving;
 mod slips;
+mod workers;
 
 use cases::each_line;
 use std::io;
@@ -36,11 +38,24 @@ use std::rt::Files;
 use std::sync::Wait;
 use std::thread::Threads;
 
+/// Prints the result of a case of workers.
+fn print_workers<R: Print + AllocGlobal + Wait + Threads + Sync>(
+    rt: &R,
+    line: &str,
+) -> io::Result<()> {
+    let mut out = String::new(rt.alloc());
+    workers::answer(rt, rt.alloc(), &mut out, line)?;
+    println!(rt; "{}", out.as_str().trim_end())
+}
+
 /// Prints the result of a case.
 fn answered<R: Files + Print + AllocGlobal + Wait + Threads + Sync>(
     rt: &R,
     line: &str,
 ) -> io::Result<()> {
+    if workers::is_case(line) {
+        return print_workers(rt, line);
+    }
     let Some((how, rest)) = line.split_once(": ") else {
         return rt.print("no case\n");
     };

@@ -1,4 +1,4 @@
-//! Rows of workers: each line of the standard input is a case, and is printed again with its result.
+//! Cases of workers.
 //!
 //! | Line | What is printed under it |
 //! |---|---|
@@ -19,9 +19,7 @@
 //!
 //! Otherwise the board has a lock for each mailbox, or, if a case begins with `one lock, `, one for all; and the sets
 //! are ordered, or, if `diagrams, ` comes then, diagrams. A report has how many entries, pairs and takes each
-//! procedure has, or why there is none. Entries and pairs are also compared with those of one thread. A line that
-//! begins with `#` is a heading.
-#![tactic(auto)]
+//! procedure has, or why there is none. Entries and pairs are also compared with those of one thread.
 
 mod case;
 mod exact;
@@ -33,12 +31,10 @@ mod report;
 mod scarcity;
 mod tried;
 
-use cases::each_case;
-use std::io;
+pub use case::answer;
 
-fn main(rt: HostRuntime) -> io::Result<()> {
-    each_case(
-        &rt,
-        |line: &str, out: &mut String| case::answer(&rt, rt.alloc(), out, line),
-    )
+/// Whether a line is a case of workers.
+pub fn is_case(line: &str) -> bool {
+    let (_, case) = line.split_once(": ").unwrap_or(("", line));
+    case.starts_with("report ") || case.starts_with("answer ")
 }

@@ -1,7 +1,7 @@
 //! The results of workers, as text.
 
-use crate::held::Held;
-use crate::program::{Asked, Parts, Trial, on_one_thread};
+use crate::workers::held::Held;
+use crate::workers::program::{Asked, Parts, Trial, on_one_thread};
 use flow_graph::Graphs;
 use gather::{Answer, Report, check_rounds, check_rounds_with};
 use path_sets::{DiagramEdges, OrderedEdges};

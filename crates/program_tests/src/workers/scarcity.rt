@@ -1,7 +1,7 @@
 //! The results of workers if memory is refused.
 
-use crate::program::Trial;
-use crate::report::answer;
+use crate::workers::program::Trial;
+use crate::workers::report::answer;
 use cases::{Outcome, Sweep, Swept};
 use gather::Answer;
 use scarce::Scarce;

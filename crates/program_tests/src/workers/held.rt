@@ -1,8 +1,8 @@
 //! What a case does to the workers.
 
-use crate::exact::InTurn;
-use crate::gates::{Late, Meeting, Noting};
-use crate::refusing::Refusing;
+use crate::workers::exact::InTurn;
+use crate::workers::gates::{Late, Meeting, Noting};
+use crate::workers::refusing::Refusing;
 use gather::Hire;
 use procedure_worker::Gate;
 

@@ -2,10 +2,10 @@
 
 ghost use Rattle.std.specs.Prelude.{◌≤◌, ◌^◌};
 
-use crate::held::Held;
-use crate::program::{Parts, Trial};
-use crate::refusing::{Moment, Refusing};
-use crate::report::answer_of;
+use crate::workers::held::Held;
+use crate::workers::program::{Parts, Trial};
+use crate::workers::refusing::{Moment, Refusing};
+use crate::workers::report::answer_of;
 use flow_graph::Graphs;
 use gather::{Answer, CrewBoard, CrewSet, check_rounds_tried};
 use path_sets::{DiagramEdges, OrderedEdges};

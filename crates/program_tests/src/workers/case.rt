@@ -1,10 +1,10 @@
 //! One case.
 
-use crate::gates::{Late, Meeting, Noting};
-use crate::held::Held;
-use crate::program::{Parts, Trial, read_case};
-use crate::refusing::Moment;
-use crate::tried::{parts_at, put};
+use crate::workers::gates::{Late, Meeting, Noting};
+use crate::workers::held::Held;
+use crate::workers::program::{Parts, Trial, read_case};
+use crate::workers::refusing::Moment;
+use crate::workers::tried::{parts_at, put};
 use cases::sweep_of;
 use std::alloc::{AllocError, Global};
 use std::sync::Wait;

@@ -2,9 +2,9 @@
 
 ghost use Rattle.std.specs.Prelude.{◌≤◌, ◌^◌};
 
-use crate::held::Held;
-use crate::program::Trial;
-use crate::tried::{parts_at, put, write_came};
+use crate::workers::held::Held;
+use crate::workers::program::Trial;
+use crate::workers::tried::{parts_at, put, write_came};
 use gather::{Answer, Hire};
 use procedure_worker::Gate;
 use std::alloc::AllocError;
