@@ -113,7 +113,7 @@ pub(crate) fn finds<R: Wait + Abort, B: Letters>(
     ensures pass { IsSame (B.sight pass.old) (B.sight pass.new) }
     ensures keeps { KeepsJobs (B.sight pass.old) (B.sight pass.new) }
 {
-    assert_eq!(rt; found(rt, board, pass), wanted);
+    assert!(rt; found(rt, board, pass) == wanted);
 }
 
 // Completes the message of a job, which must not be refused.
@@ -174,7 +174,7 @@ fn turns_to<R: Wait + Abort, B: Letters>(
         Err((None, Spent)) => Answer::Spent,
         Err((Some(_job), Spent)) => panic!(rt; "not completed"),
     };
-    assert_eq!(rt; found, wanted);
+    assert!(rt; found == wanted);
 }
 
 pub(crate) fn post<R: Wait, B: Letters>(
@@ -209,7 +209,7 @@ fn posts<R: Wait + Abort, B: Letters>(
     ensures pass { IsSame (B.sight pass.old) (B.sight pass.new) }
     ensures keeps { KeepsJobs (B.sight pass.old) (B.sight pass.new) }
 {
-    assert_eq!(rt; post(rt, board, pass, job, 1, message), wanted);
+    assert!(rt; post(rt, board, pass, job, 1, message) == wanted);
 }
 
 // What the first pass had seen, for the second.
@@ -526,47 +526,47 @@ where
     settle_two(rt, more, board, zero, one)
 }
 
+// The history of a mailbox whose two messages were taken by turns.
+const BY_TURNS: &[Event<Letter>] = &[
+    Event::Post {
+        sender: 0,
+        message: Letter(11),
+    },
+    Event::Post {
+        sender: 0,
+        message: Letter(12),
+    },
+    Event::Take {
+        sender: 0,
+        message: Letter(11),
+    },
+    Event::Done { take: 0 },
+    Event::Take {
+        sender: 0,
+        message: Letter(12),
+    },
+    Event::Done { take: 1 },
+];
+
 // Each turn completes its message before it takes the next one.
 fn turns_in_order<R: Wait + Abort, B: Letters>(rt: &R, alloc: B::Heap, more: B::Heap)
 where
     B::Heap: Clone,
     B::Pass: Drop,
 {
-    let (sender, first, second) = (0, Letter(11), Letter(12));
-    let history = [
-        Event::Post {
-            sender,
-            message: first,
-        },
-        Event::Post {
-            sender,
-            message: second,
-        },
-        Event::Take {
-            sender,
-            message: first,
-        },
-        Event::Done { take: 0 },
-        Event::Take {
-            sender,
-            message: second,
-        },
-        Event::Done { take: 1 },
-    ];
     let ledger = ledger_of_turns::<R, B>(rt, alloc, more);
     assert!(rt; ledger.closed);
     assert!(rt; counts(ledger.histories.as_slice()) == (3, 3, 3));
     match ledger.histories.get(1) {
-        Some(mailbox) => assert!(rt; is_history(mailbox, history.as_slice())),
+        Some(mailbox) => assert!(rt; is_history(mailbox, BY_TURNS)),
         None => panic!(rt; "no mailbox 1"),
     }
 }
 
-// With one call, which takes the message, a turn hands the job back; with two it completes the message; with three it
-// finds the close.
-fn turns_while_it_may<R: Wait + Abort, B: Letters + Drop>(rt: &R, alloc: B::Heap)
+// With one call, which takes the message, a turn hands the job back.
+fn turn_is_spent<R: Wait + Abort, B: Letters + Drop>(rt: &R, alloc: B::Heap)
 where
-    B::Heap: Copy,
+    B::Heap: Clone,
     B::Pass: Drop,
 {
     let (board, mut zero, _one) = two::<R, B>(rt, alloc, 2);
@@ -578,12 +578,23 @@ where
         Err((None, Spent)) => panic!(rt; "completed"),
         Ok(_taken) => panic!(rt; "taken"),
     }
-    let (board, mut zero, _one) = two::<R, B>(rt, alloc, 3);
+}
+
+// A turn after the take finds this, with a budget that is one more than the calls of a pass.
+fn turn_ends<R: Wait + Abort, B: Letters + Drop>(
+    rt: &R,
+    alloc: B::Heap,
+    budget: u64,
+    wanted: Answer,
+)
+where
+    B::Heap: Clone,
+    B::Pass: Drop,
+    requires { (2 ≤ budget) × (budget ≤ 1000) }
+{
+    let (board, mut zero, _one) = two::<R, B>(rt, alloc, budget);
     let job = takes(rt, &board, &mut zero, 10);
-    turns_to(rt, &board, &mut zero, job, Answer::Spent);
-    let (board, mut zero, _one) = two::<R, B>(rt, alloc, 4);
-    let job = takes(rt, &board, &mut zero, 10);
-    turns_to(rt, &board, &mut zero, job, Answer::Closed);
+    turns_to(rt, &board, &mut zero, job, wanted);
 }
 
 // A turn completes the message of an aborted board, and takes none, though one waits.
@@ -594,7 +605,7 @@ where
 {
     let (board, mut zero, mut one) = two::<R, B>(rt, alloc, 1000);
     let job = takes(rt, &board, &mut zero, 10);
-    assert_eq!(rt; post(rt, &board, &mut zero, &job, 0, 11), Ok(()));
+    assert!(rt; post(rt, &board, &mut zero, &job, 0, 11).is_ok());
     Board::abort(&board, rt, &mut one, None, Cause::NoWorker);
     turns_to(rt, &board, &mut zero, job, Answer::Aborted);
     finds(rt, &board, &mut zero, Answer::Aborted);
@@ -611,7 +622,10 @@ where
     stops_posts::<R, B>(rt, alloc);
     closes_alone::<R, B>(rt, alloc, alloc);
     turns_in_order::<R, B>(rt, alloc, alloc);
-    turns_while_it_may::<R, B>(rt, alloc);
+    turn_is_spent::<R, B>(rt, alloc);
+    // With two calls a turn completes the message, with three it finds the close.
+    turn_ends::<R, B>(rt, alloc, 3, Answer::Spent);
+    turn_ends::<R, B>(rt, alloc, 4, Answer::Closed);
     turns_after_an_abort::<R, B>(rt, alloc);
 }
 
