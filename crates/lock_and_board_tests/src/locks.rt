@@ -190,7 +190,7 @@ fn guards_go_out_in_the_order_of_the_tickets(rt: HostRuntime) {
     give_back(&rt, &lock, &mut lanes, first);
     give_back(&rt, &lock, &mut lanes, second);
     let last = finish(lock, lanes);
-    assert_eq!(rt; last.marks.as_slice(), [(0, 5), (1, 7)].as_slice());
+    assert!(rt; last.marks.as_slice() == [(0, 5), (1, 7)].as_slice());
 }
 
 #[test]
