@@ -3,7 +3,7 @@ use std::alloc::Allocator;
 use switchboard::{Board, LockPerBox, Mail, OneLock};
 
 /// A message of the rows, which fits every mailbox.
-#[derive(Clone, Copy, Debug, PartialEq, Eq)]
+#[derive(Clone, Copy, PartialEq, Eq)]
 pub(crate) struct Letter(pub(crate) u8);
 
 impl Mail<()> for Letter {

@@ -13,7 +13,7 @@ use switchboard::{Board, Cause, Job, LockPerBox, Mail, OneLock, OnePass, PostFau
 use ticket_lock::Spent;
 
 /// A message of the rows, which fits every mailbox.
-#[derive(Clone, Copy, Debug, PartialEq, Eq)]
+#[derive(Clone, Copy, PartialEq, Eq)]
 pub(crate) struct Letter(pub(crate) u32);
 
 impl Mail<()> for Letter {
@@ -80,7 +80,7 @@ pub(crate) fn takes<R: Wait + Abort, B: Letters>(
 }
 
 // What a take that gives no message returns.
-#[derive(Clone, Copy, Debug, PartialEq, Eq)]
+#[derive(Clone, Copy, PartialEq, Eq)]
 pub(crate) enum Answer {
     Empty,
     Closed,

@@ -10,7 +10,7 @@ use std::thread::{Threads, join};
 use ticket_lock::{Lane, LaneLaw, Ticket, TicketLock};
 
 // A list of pairs of a lane's number and a mark. Nothing is said of a lane's part.
-#[derive(Drop, Debug)]
+#[derive(Drop)]
 struct Marks<A: Allocator> {
     marks: Vec<(u64, u64), A>,
 }

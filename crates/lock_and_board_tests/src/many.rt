@@ -19,7 +19,7 @@ const MESSAGES: u32 = 10_000;
 const LOOKS: u32 = 10_000_000;
 
 // The result of a look for a message.
-#[derive(Clone, Copy, Debug, PartialEq, Eq)]
+#[derive(Clone, Copy, PartialEq, Eq)]
 enum Look {
     Served,
     Empty,

@@ -10,7 +10,7 @@ use std::alloc::{AllocError, Allocator, Global};
 
 /// Which path edges: how many, of how many bits, at how many points, and after how many of them others of eight entries
 /// follow, if ever.
-#[derive(Clone, Copy, Debug)]
+#[derive(Clone, Copy)]
 struct Shape {
     count: u64,
     width: u32,

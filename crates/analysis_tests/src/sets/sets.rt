@@ -8,7 +8,7 @@ use scarce::Scarce;
 use std::alloc::{AllocError, Allocator, Global};
 
 /// A kind of sets.
-#[derive(Clone, Copy, Debug)]
+#[derive(Clone, Copy)]
 pub enum Kind {
     Ordered,
     Diagrams,

@@ -16,7 +16,7 @@ use summaries::{Caller, Due, EdgeLimit, Table, TableFault};
 type Mail = (u8, Due);
 
 /// A call of a table.
-#[derive(Clone, Copy, Debug)]
+#[derive(Clone, Copy)]
 enum Call {
     Entry,
     Summary,
@@ -24,7 +24,7 @@ enum Call {
 }
 
 /// The result of a table.
-#[derive(Clone, Copy, Debug)]
+#[derive(Clone, Copy)]
 enum Came {
     /// No allocation was refused, and it answered all that was wanted.
     Whole,
@@ -35,7 +35,7 @@ enum Came {
 }
 
 /// The calls to which an allocation was refused.
-#[derive(Clone, Copy, Debug)]
+#[derive(Clone, Copy)]
 struct Seen {
     entry: bool,
     summary: bool,
