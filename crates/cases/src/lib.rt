@@ -40,17 +40,26 @@ pub fn each_case<F: FnMut(&str, &mut String) -> Result<(), AllocError>>(
     each_line(rt, |line: &str| {
         let mut out = String::new(rt.alloc());
         let answered = answer(line, &mut out);
-        print_answer(rt, answered, out.as_str().trim_end())
+        print_written(rt, answered, out.as_str())
     })
 }
 
-/// Prints what was written for a case, or that memory was lacking.
-fn print_answer<R: Print>(rt: &R, answered: Result<(), AllocError>, text: &str) -> io::Result<()> {
-    match text {
+/// Prints what was written for a case, without the blanks at its end, or that memory was lacking.
+pub fn print_written<R: Print>(
+    rt: &R,
+    answered: Result<(), AllocError>,
+    written: &str,
+) -> io::Result<()> {
+    match written.trim_end() {
         _ if answered.is_err() => rt.print("no memory\n"),
         "" => Ok(()),
-        _ => println!(rt; "{text}"),
+        text => println!(rt; "{text}"),
     }
+}
+
+/// What is written before `: ` in a line, and the case behind it; for a line without one, nothing and the line.
+pub fn prefix_of(line: &str) -> (&str, &str) {
+    line.split_once(": ").unwrap_or(("", line))
 }
 
 /// The words of a line after a given first one.

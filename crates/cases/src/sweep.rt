@@ -1,6 +1,6 @@
 //! A case that is run again and again, each time with another allocation refused.
 
-use crate::first_word;
+use crate::{first_word, prefix_of};
 use scarce::Scarce;
 use std::alloc::Allocator;
 
@@ -57,7 +57,7 @@ pub fn sweep_of(prefix: &str) -> Option<Sweep> {
 
 /// The sweep that is named before a case, if one is, and the case: `each allocation: CASE`.
 pub fn sweep_before(line: &str) -> (Option<Sweep>, &str) {
-    let (prefix, case) = line.split_once(": ").unwrap_or(("", line));
+    let (prefix, case) = prefix_of(line);
     match sweep_of(prefix) {
         Some(sweep) => (Some(sweep), case),
         None => (None, line),

@@ -1,5 +1,6 @@
-//! Rows of the program and of its workers: each line of the standard input is a case, and is printed again with its
-//! result. Those of the workers are in `workers.rt`, the others are of the program.
+//! Rows of the program, of its answers and of its workers: each line of the standard input is a case, and is printed
+//! again with its result. Those of the answers are in `verdicts.rt`, those of the workers in `workers.rt`, and these
+//! are of the program:
 //!
 //! | Line | What is printed under it |
 //! |---|---|
@@ -7,19 +8,19 @@
 //! | `file: WORDS \| TEXT` | the same; the only files are `FILES` of `serving.rt`, with this text |
 //! | `a word is no UTF-8: ..`, `no memory for the words: ..` | the same if the system does not pass on the words for this reason |
 //! | `broken COUNT: WORDS \| FILES` | how many lines of each kind `serve` writes for COUNT broken texts, made from these files in turn |
-//! | `HOW: WORDS \| TEXT` | the status that `serve` gives, and what the writer took; for a stream, what the log took too |
+//! | `serve HOW: WORDS \| TEXT` | the status that `serve` gives, and what the writer took; for a stream, what the log took too |
 //! | `slip: TEXT` | what standard error says about the text, which is the file `a.bp`, checked for one round |
 //! | `mended: TEXT` | the reply to the text, after the advice of the slip above it |
 //! | `slip of WORDS: TEXT` | what standard error says for these words of the command line, with that file |
 //!
 //! | `HOW` | How `serve` reads and writes; for a stream, `serve_telling` |
 //! |---|---|
-//! | `whole` | from memory and to memory |
-//! | `padded to COUNT` | the same, the text followed by blanks to COUNT bytes |
+//! | | from memory and to memory |
+//! | `a text padded to COUNT` | the same, the text followed by blanks to COUNT bytes |
+//! | `with each allocation refused` | the same; with each refused in turn, which leaves the reply or leads to `no verdict: memory` |
 //! | `one byte a call` | one byte per call, and every other call is interrupted |
-//! | `reader fails after COUNT` | the reader fails after COUNT bytes |
-//! | `writer fails after COUNT` | the writer fails after COUNT bytes |
-//! | `each allocation` | with each allocation refused in turn, which leaves the reply or leads to `no verdict: memory` |
+//! | `with a reader that fails after COUNT` | the reader fails after COUNT bytes |
+//! | `with a writer that fails after COUNT` | the writer fails after COUNT bytes |
 //!
 //! In the words `{N}` stands for the character with the number N, except in those of a slip. In the text of a slip and
 //! of `file`, `\n`, `\r`, `\t` and `\xHH` stand for a line feed, a carriage return, a tab, and the byte of these two
@@ -28,11 +29,13 @@
 #![tactic(auto)]
 
 mod escapes;
+mod scarce_runtime;
 mod serving;
 mod slips;
+mod verdicts;
 mod workers;
 
-use cases::each_line;
+use cases::{each_line, prefix_of, print_written};
 use std::io;
 use std::rt::Files;
 use std::sync::Wait;
@@ -44,8 +47,8 @@ fn print_workers<R: Print + AllocGlobal + Wait + Threads + Sync>(
     line: &str,
 ) -> io::Result<()> {
     let mut out = String::new(rt.alloc());
-    workers::answer(rt, rt.alloc(), &mut out, line)?;
-    println!(rt; "{}", out.as_str().trim_end())
+    let written = workers::answer(rt, rt.alloc(), &mut out, line);
+    print_written(rt, written, out.as_str())
 }
 
 /// Prints the result of a case.
@@ -56,16 +59,13 @@ fn answered<R: Files + Print + AllocGlobal + Wait + Threads + Sync>(
     if workers::is_case(line) {
         return print_workers(rt, line);
     }
-    let Some((how, rest)) = line.split_once(": ") else {
-        return rt.print("no case\n");
-    };
-    match how {
-        "slip" => slips::print_slip(rt, slips::WORDS, rest),
+    let (how, rest) = prefix_of(line);
+    let (kind, behind) = how.split_once(' ').unwrap_or((how, ""));
+    match kind {
         "mended" => slips::print_mended(rt, rest),
-        _ => match how.strip_prefix("slip of ") {
-            Some(words) => slips::print_slip(rt, words, rest),
-            None => serving::answered(rt, how, rest),
-        },
+        "slip" => slips::print_slip(rt, behind.strip_prefix("of ").unwrap_or(slips::WORDS), rest),
+        "program" | "file" | "a" | "no" | "broken" | "serve" => serving::answered(rt, how, rest),
+        _ => verdicts::answered(rt, line),
     }
 }
 

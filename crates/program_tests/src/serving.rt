@@ -163,11 +163,15 @@ fn to_text<R: Files + Print + AllocGlobal + Wait + Threads + Sync>(
     };
     match how {
         "broken" => count(rt, text, most, order),
-        "padded to" => print_served(rt, padded(rt.alloc(), text, most)?.as_slice(), order),
-        "each" => in_turn(rt, text.as_bytes(), order),
-        "one byte a" => print_streamed(rt, text, order, few, few),
-        "reader fails after" => print_streamed(rt, text, order, fails, SOUND),
-        "writer fails after" => print_streamed(rt, text, order, SOUND, fails),
+        "serve a text padded to" => print_served(
+            rt,
+            padded(rt.alloc(), text, most)?.as_slice(),
+            order,
+        ),
+        "serve with each allocation" => in_turn(rt, text.as_bytes(), order),
+        "serve one byte a" => print_streamed(rt, text, order, few, few),
+        "serve with a reader that fails after" => print_streamed(rt, text, order, fails, SOUND),
+        "serve with a writer that fails after" => print_streamed(rt, text, order, SOUND, fails),
         _ => print_served(rt, text.as_bytes(), order),
     }
 }

@@ -21,6 +21,8 @@
 //! are ordered, or, if `diagrams, ` comes then, diagrams. A report has how many entries, pairs and takes each
 //! procedure has, or why there is none. Entries and pairs are also compared with those of one thread.
 
+use cases::prefix_of;
+
 mod case;
 mod exact;
 mod gates;
@@ -32,9 +34,10 @@ mod scarcity;
 mod tried;
 
 pub use case::answer;
+pub use gates::Late;
 
 /// Whether a line is a case of workers.
 pub fn is_case(line: &str) -> bool {
-    let (_, case) = line.split_once(": ").unwrap_or(("", line));
+    let (_, case) = prefix_of(line);
     case.starts_with("report ") || case.starts_with("answer ")
 }

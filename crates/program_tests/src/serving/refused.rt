@@ -1,5 +1,6 @@
 //! Each allocation refused in turn.
 
+use crate::scarce_runtime::ScarceRuntime;
 use crate::serving::memory::served;
 use crate::serving::print_reply;
 use cases::{Outcome, Sweep, Swept};
@@ -18,7 +19,7 @@ fn outcome<R: AllocGlobal + Wait + Threads + Sync>(
     order: Order,
     whole: &(u8, Vec<u8>),
 ) -> Outcome {
-    let (status, bytes) = served(&(rt, scarce), rt.alloc(), text, order);
+    let (status, bytes) = served(&ScarceRuntime { rt, scarce }, rt.alloc(), text, order);
     match bytes.as_slice() {
         bytes if status == whole.0 && bytes == whole.1.as_slice() => Outcome::Whole,
         b"no verdict: memory\n" if status == 3 => Outcome::Memory,

@@ -5,7 +5,7 @@ use crate::workers::held::Held;
 use crate::workers::program::{Parts, Trial, read_case};
 use crate::workers::refusing::Moment;
 use crate::workers::tried::{parts_at, put};
-use cases::sweep_of;
+use cases::{prefix_of, sweep_of};
 use std::alloc::{AllocError, Global};
 use std::sync::Wait;
 use std::thread::Threads;
@@ -30,7 +30,7 @@ pub fn answer<R: Wait + Threads + Sync>(
     out: &mut String,
     line: &str,
 ) -> Result<(), AllocError> {
-    let (how, rest) = line.split_once(": ").unwrap_or(("", line));
+    let (how, rest) = prefix_of(line);
     let (parts, how) = parts_of(how);
     let Some((head, text)) = rest.split_once(" | ") else {
         return Ok(());

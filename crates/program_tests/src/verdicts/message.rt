@@ -1,7 +1,7 @@
 //! What standard error says about a refusal.
 
-use crate::case::print_reply;
-use crate::refused::answer_without;
+use crate::verdicts::case::print_reply;
+use crate::verdicts::refused::answer_without;
 use cases::{Outcome, Sweep, Swept};
 use cli::{Order, Refusal, answer, explain};
 use scarce::Scarce;

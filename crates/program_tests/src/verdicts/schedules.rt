@@ -1,14 +1,14 @@
 //! The same answer whatever the schedule of its workers.
 
-use crate::case::print_reply;
-use crate::refused::answer_late;
+use crate::verdicts::case::print_reply;
+use crate::verdicts::refused::answer_late;
+use crate::workers::Late;
 use cli::{Order, Reply, answer};
-use procedure_worker::Gate;
 use scarce::Scarce;
 use std::alloc::{Allocator, Global};
 use std::io;
 use std::sync::Wait;
-use std::thread::{self, Threads};
+use std::thread::Threads;
 
 /// How often the answer is asked for as it comes.
 const TIMES: u8 = 100;
@@ -18,32 +18,6 @@ const LANES: u8 = 8;
 
 /// A lane that no program has.
 pub const NO_LANE: u8 = 64;
-
-/// Holds the worker of one lane back at each of its takes and posts.
-#[derive(Drop)]
-pub struct Late {
-    pub lane: u8,
-}
-
-impl Late {
-    fn keep_back(&self, lane: u8) {
-        if lane == self.lane {
-            for _turn in 0..1000u64 {
-                thread::yield_now();
-            }
-        }
-    }
-}
-
-impl Gate for Late {
-    fn taken(&self, lane: u8, _count: u64) {
-        self.keep_back(lane);
-    }
-
-    fn posted(&self, lane: u8, _count: u64) {
-        self.keep_back(lane);
-    }
-}
 
 /// Whether two replies have the same bytes and the same status.
 fn same<A: Allocator>(one: &Reply<Global>, other: &Reply<A>) -> bool {

@@ -1,7 +1,9 @@
 //! Each allocation refused in turn.
 
-use crate::case::print_reply;
-use crate::schedules::{Late, NO_LANE};
+use crate::scarce_runtime::ScarceRuntime;
+use crate::verdicts::case::print_reply;
+use crate::verdicts::schedules::NO_LANE;
+use crate::workers::Late;
 use cases::{Outcome, Sweep, Swept};
 use cli::{Order, Reply, answer, answer_with};
 use flow_graph::Graphs;
@@ -15,25 +17,6 @@ use std::thread::Threads;
 use summaries::Due;
 use switchboard::{LockPerBox, OneLock};
 
-/// A runtime that has threads, and a scarce allocator in place of its own.
-#[derive(Drop)]
-struct Refusing<'a, R> {
-    rt: &'a R,
-    scarce: &'a Scarce<Global>,
-}
-
-impl<'a, R> Alloc for Refusing<'a, R> {
-    type A = &'a Scarce<Global>;
-
-    fn alloc(&self) -> &'a Scarce<Global> {
-        self.scarce
-    }
-}
-
-impl<R: Wait> Wait for Refusing<'_, R> {}
-
-impl<R: Threads> Threads for Refusing<'_, R> {}
-
 /// The answer to a text if the memory is scarce.
 pub fn answer_without<'a, R: Wait + Threads + Sync>(
     rt: &'a R,
@@ -41,7 +24,7 @@ pub fn answer_without<'a, R: Wait + Threads + Sync>(
     text: &[u8],
     order: Order,
 ) -> Reply<&'a Scarce<Global>> {
-    answer(&Refusing { rt, scarce }, text, order)
+    answer(&ScarceRuntime { rt, scarce }, text, order)
 }
 
 type OfScarce<'a> = &'a Scarce<Global>;

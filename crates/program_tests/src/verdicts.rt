@@ -1,4 +1,5 @@
-//! Rows of the command line: each line of the standard input is a case, and is printed again with the answer to it.
+//! Cases of the command line and of its answers. In these, a text and the name of its file may use the shorthand of
+//! `verdicts/text.rt`.
 //!
 //! | Line | What is printed under it |
 //! |---|---|
@@ -15,10 +16,6 @@
 //! | `message: WORDS \| TEXT` | the reply, and what standard error says about it, if each allocation refused leaves that or an error |
 //! | `message without memory: WORDS \| TEXT` | the same, if the first allocation of the answer is refused |
 //! | `message of the edge limit: WORDS \| TEXT` | what standard error says if a procedure passes the limit of the words |
-//!
-//! A line that begins with `#` is a heading, and has no answer. A text, and the name of a file in a row
-//! with a text, may use the shorthand of `text.rt`.
-#![tactic(auto)]
 
 mod beginnings;
 mod case;
@@ -28,9 +25,4 @@ mod schedules;
 mod text;
 mod words;
 
-use cases::each_line;
-use std::io;
-
-fn main(rt: HostRuntime) -> io::Result<()> {
-    each_line(&rt, |line: &str| case::answered(&rt, line))
-}
+pub use case::answered;

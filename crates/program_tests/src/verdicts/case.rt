@@ -1,12 +1,12 @@
 //! One case.
 
-use crate::beginnings::beginnings;
-use crate::message::{print_edge_limit, print_told, print_told_without};
-use crate::refused::{in_turn, over_pairs};
-use crate::schedules::schedules;
-use crate::text::{bytes_of, name_of};
-use crate::words::{asked, print_fault, print_order};
-use cases::sweep_of;
+use crate::verdicts::beginnings::beginnings;
+use crate::verdicts::message::{print_edge_limit, print_told, print_told_without};
+use crate::verdicts::refused::{in_turn, over_pairs};
+use crate::verdicts::schedules::schedules;
+use crate::verdicts::text::{bytes_of, name_of};
+use crate::verdicts::words::{asked, print_fault, print_order};
+use cases::{prefix_of, sweep_of};
 use cli::{Order, Reply, answer};
 use std::alloc::Allocator;
 use std::io::{self, Write};
@@ -30,7 +30,7 @@ fn to_text<R: Print + AllocGlobal + Wait + Threads + Sync>(
     words: &str,
     text: &str,
 ) -> io::Result<()> {
-    let (how, words) = words.split_once(": ").unwrap_or(("", words));
+    let (how, words) = prefix_of(words);
     let text = bytes_of(rt.alloc(), text)?;
     match asked(rt.alloc(), words) {
         Ok((order, file)) => {
@@ -41,7 +41,8 @@ fn to_text<R: Print + AllocGlobal + Wait + Threads + Sync>(
     }
 }
 
-/// Prints the answer to an order on a file with this name and text, asked in one of the ways of the table in `main.rt`.
+/// Prints the answer to an order on a file with this name and text, asked in one of the ways of the table in
+/// `verdicts.rt`.
 fn print_with<R: Print + AllocGlobal + Wait + Threads + Sync>(
     rt: &R,
     how: &str,
@@ -74,7 +75,8 @@ fn print_how<R: Print + AllocGlobal + Wait + Threads + Sync>(
         None if how == "each schedule" => schedules(rt, text, order),
         None if how == "each pair" => over_pairs(rt, text, order),
         None if how == "status" => println!(rt; "{}", answer(rt, text, order).status),
-        None => print_reply(rt, &answer(rt, text, order)),
+        None if how.is_empty() => print_reply(rt, &answer(rt, text, order)),
+        None => rt.print("no case\n"),
     }
 }
 
