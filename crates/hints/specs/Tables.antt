@@ -1,40 +1,52 @@
 -- The tables, as they stand in the code, and the first of their rows that fits.
-use Rattle.std.specs.Prelude.{List, Option, None, Some, find, map}
+use Rattle.std.specs.Prelude.{List, [], ◌∷◌, Option, None, Some, find, map}
 use Rattle.hints.specs.Place.{Surroundings}
 use Rattle.hints.specs.Row.{Row, fits, fixed_row}
-use Rattle.hints.specs.declared.blocks.TheConstants.{BLOCKS, STATEMENTS}
-use Rattle.hints.specs.declared.expressions.TheConstants.{EXPRESSIONS}
-use Rattle.hints.specs.declared.outside.TheConstants.{LINES, PROCEDURES}
-use Rattle.hints.specs.declared.signs.TheConstants.{SIGNS}
+use Rattle.hints.specs.declared.blocks.TheConstants.{BEGINNINGS, BODIES, BRANCHES, CALLS, CONDITIONS, EMPTY, SIMPLE, TARGETS}
+use Rattle.hints.specs.declared.expressions.TheConstants.{BEGUN, LISTS, OPERANDS}
+use Rattle.hints.specs.declared.outside.TheConstants.{DECLARATIONS, ENDS, HEADS, THREADS}
+use Rattle.hints.specs.declared.signs.TheConstants.{BRACKETS, COMMENTS, OPERATORS}
+use Rattle.hints.specs.declared.words.TheConstants.{ACTIONS, CAPITALS, CHOICES, NAMED_OPERATORS, TYPES}
 use Rattle.hints.specs.declared.tables.Table.{Table}
 use Rattle.hints.specs.declared.tables.Table.TheVariants as table
-use Rattle.hints.specs.declared.words.TheConstants.{WORDS}
+use Rattle.hints.specs.declared.tables.TheConstants.{TABLES}
 
 -- the rows of a table
 unfoldable pub rows : Table → List Row
-rows table.Signs = map fixed_row SIGNS.now
-rows table.Words = map fixed_row WORDS.now
-rows table.Lines = map fixed_row LINES.now
-rows table.Procedures = map fixed_row PROCEDURES.now
-rows table.Blocks = map fixed_row BLOCKS.now
-rows table.Statements = map fixed_row STATEMENTS.now
-rows table.Expressions = map fixed_row EXPRESSIONS.now
+rows table.Comments = map fixed_row COMMENTS.now
+rows table.Operators = map fixed_row OPERATORS.now
+rows table.Brackets = map fixed_row BRACKETS.now
+rows table.NamedOperators = map fixed_row NAMED_OPERATORS.now
+rows table.Capitals = map fixed_row CAPITALS.now
+rows table.Types = map fixed_row TYPES.now
+rows table.Choices = map fixed_row CHOICES.now
+rows table.Actions = map fixed_row ACTIONS.now
+rows table.Declarations = map fixed_row DECLARATIONS.now
+rows table.Threads = map fixed_row THREADS.now
+rows table.Heads = map fixed_row HEADS.now
+rows table.Ends = map fixed_row ENDS.now
+rows table.Beginnings = map fixed_row BEGINNINGS.now
+rows table.Empty = map fixed_row EMPTY.now
+rows table.Branches = map fixed_row BRANCHES.now
+rows table.Bodies = map fixed_row BODIES.now
+rows table.Simple = map fixed_row SIMPLE.now
+rows table.Conditions = map fixed_row CONDITIONS.now
+rows table.Targets = map fixed_row TARGETS.now
+rows table.Calls = map fixed_row CALLS.now
+rows table.Begun = map fixed_row BEGUN.now
+rows table.Lists = map fixed_row LISTS.now
+rows table.Operands = map fixed_row OPERANDS.now
 
 -- the first of two rows that is there
 abbrev pub or_row : Option Row → Option Row → Option Row
 or_row None second = second
 or_row (Some row) second = Some row
 
--- the first row that fits, inside of a body
-abbrev pub row_inside : Surroundings → Option Row
-row_inside seen =
-    or_row (find (fits seen) (rows table.Blocks))
-    (or_row (find (fits seen) (rows table.Statements)) (find (fits seen) (rows table.Expressions)))
-
--- the first row that fits, outside of bodies or inside
-abbrev pub row_of_grammar : Surroundings → Option Row
-row_of_grammar seen = or_row (find (fits seen) (rows table.Lines)) (or_row (find (fits seen) (rows table.Procedures)) (row_inside seen))
+-- the first row that fits what is seen, in the order of these tables
+unfoldable pub row_among : Surroundings → List Table → Option Row
+row_among seen [] = None
+row_among seen (table ∷ tables) = or_row (find (fits seen) (rows table)) (row_among seen tables)
 
 -- the first row that fits what is seen, in the order of the tables
 abbrev pub row_for : Surroundings → Option Row
-row_for seen = or_row (find (fits seen) (rows table.Signs)) (or_row (find (fits seen) (rows table.Words)) (row_of_grammar seen))
+row_for seen = row_among seen TABLES.now

@@ -8,7 +8,7 @@ use tokens::Kind::{
 };
 
 /// What stands at the beginning of a block, or after a statement.
-pub const BLOCKS: &[Row] = &[
+pub const BEGINNINGS: &[Row] = &[
     row!([last: Either(Fi, Od)] [], [], [";"] => "no `;` comes after `fi` and `od`"),
     row!([block: Section, last: Start] [], [], [";"] => "an empty statement is written `skip;`"),
     row!([block: Section, last: Start] [], [], [":"]
@@ -26,7 +26,10 @@ pub const BLOCKS: &[Row] = &[
     row!([block: Section, last: Start] [], [], ["do"] => "a loop is written `while (c) do .. od`"),
     row!([block: Section, last: Start] [], [], ["decl"]
         => "declarations stand first in the text, or first in a procedure, after `begin`"),
-    // A block without a statement.
+];
+
+/// A block without a statement.
+pub const EMPTY: &[Row] = &[
     row!([last: Only(Begin)] [], [], ["end"] => "a procedure has at least one statement, such as `skip;`"),
     row!([last: Only(Begin)] [], [], [] => "after `begin` comes `decl` or a statement, such as `skip;`"),
     row!([last: Only(Then)] [], [], ["fi"]
@@ -43,6 +46,10 @@ pub const BLOCKS: &[Row] = &[
     row!([last: Either(Then, Else)] [], [], []
         => "after `then`, `else` and `do` comes a statement, such as `skip;`"),
     row!([last: Only(Do)] [], [], [] => "after `then`, `else` and `do` comes a statement, such as `skip;`"),
+];
+
+/// The branches of an `if`.
+pub const BRANCHES: &[Row] = &[
     // The first branch of an `if`.
     row!([last: Ended, block: Only(Then)] [], [], ["fi"]
         => "the ", Block, " has no `else`, which may be `else skip;`"),
@@ -58,6 +65,10 @@ pub const BLOCKS: &[Row] = &[
     row!([last: Ended, block: Only(Else), next: Next::Ended] [], [], [] => "the ", Block, " has no `fi`"),
     row!([last: Ended, block: Only(Else)] [], [], []
         => "here comes a statement, or the `fi` of the ", Block, ""),
+];
+
+/// The body of a `while`, and of a procedure.
+pub const BODIES: &[Row] = &[
     // The body of a `while`.
     row!([last: Ended, block: Only(Do)] [], [], ["fi"]
         => "the ", Block, " ends with `od`, and no `if` is open in it"),
@@ -80,8 +91,8 @@ pub const BLOCKS: &[Row] = &[
         => "here comes a statement, or the `end` of the ", Block, ""),
 ];
 
-/// What stands in a statement, apart from expressions.
-pub const STATEMENTS: &[Row] = &[
+/// Labels, `skip`, `goto` and `return`.
+pub const SIMPLE: &[Row] = &[
     row!([last: Only(Colon)] [], [], [] => "after a label comes a statement, such as `skip;`"),
     row!([last: Only(Skip), next: Next::Word] [], [], [] => "a `;` is missing at ", Behind, ", after `skip`"),
     row!([last: Only(Skip), next: Next::Ended] [], [], []
@@ -102,7 +113,10 @@ pub const STATEMENTS: &[Row] = &[
     row!([last: Only(Return), next: Next::Ended] [], [], []
         => "a `;` is missing at ", Behind, ", after `return`"),
     row!([last: Only(Return)] [], [], [] => "after `return` comes an expression or `;`"),
-    // Conditions.
+];
+
+/// Conditions.
+pub const CONDITIONS: &[Row] = &[
     row!([last: Either(If, While)] [], [], []
         => "a condition stands in parentheses, as in `if (x)` and `while (x)`"),
     row!([last: Either(Assert, Assume)] [], [], []
@@ -121,7 +135,10 @@ pub const STATEMENTS: &[Row] = &[
         => "a `;` is missing at ", Behind, ", after the statement"),
     row!([last: Only(Close), head: Either(Assert, Assume)] [], [], []
         => "after the `)` of `assert` and `assume` comes `;`"),
-    // Targets.
+];
+
+/// Targets.
+pub const TARGETS: &[Row] = &[
     row!([last: Only(Comma), head: Start] [], [], [] => "after the `,` of targets comes another name"),
     row!([last: Only(Comma), head: Only(Colon)] [], [], [] => "after the `,` of targets comes another name"),
     row!([last: Only(Id), head: Start] [], [], ["=>", "!="]
@@ -145,7 +162,10 @@ pub const STATEMENTS: &[Row] = &[
         => "after the first name of a statement comes `:=`, `,` or `(`"),
     row!([last: Only(Id), head: Start] [], [], []
         => "after the first name of a statement comes `:=`, `,`, `(` or `:`"),
-    // Calls.
+];
+
+/// Calls.
+pub const CALLS: &[Row] = &[
     row!([last: Only(Close), owner: Only(Id), head: Start] [], [], ["begin"]
         => "the ", Block, " is not closed before this procedure"),
     row!([last: Only(Close), owner: Only(Id), head: Start] [], [], ["then"]

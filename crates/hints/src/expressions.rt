@@ -4,8 +4,8 @@ use crate::group::Group::{Either, Nothing, Only, Operand, Operator, Test};
 use crate::row::{ANY, Mention, Next, Pattern, Row, row};
 use tokens::Kind::{Any, Assign, Comma, Id, Open, Return};
 
-/// Right sides, conditions, arguments and values.
-pub const EXPRESSIONS: &[Row] = &[
+/// After an operator, a `:=` or a `(`.
+pub const BEGUN: &[Row] = &[
     row!([last: Operator] [], [], ["?"]
         => "`?` is a whole right side: draw a value first, as in `any := ?; x := any & y;`"),
     row!([last: Operator] [], [], [] => "after an operator comes a name, `0`, `1`, `!` or `(`"),
@@ -23,6 +23,10 @@ pub const EXPRESSIONS: &[Row] = &[
     row!([last: Only(Open)] [], [], ["?"]
         => "`?` is a whole right side: draw a value first, as in `any := ?; x := any & y;`"),
     row!([last: Only(Open)] [], [], [] => "after `(` comes an expression"),
+];
+
+/// After a `,` or a `?`.
+pub const LISTS: &[Row] = &[
     // After `,`.
     row!([last: Only(Comma), head: Only(Open)] [], [], [")"] => "no `,` comes before `)`"),
     row!([last: Only(Comma), head: Only(Open)] [], [], ["?"]
@@ -39,7 +43,10 @@ pub const EXPRESSIONS: &[Row] = &[
     row!([last: Only(Any), head: Only(Assign)] [], [], []
         => "after `?` comes `,` or `;`: it is a whole right side"),
     row!([last: Only(Any), head: Only(Open)] [], [], [] => "after `?` comes `)`: it is a whole condition"),
-    // After an operand.
+];
+
+/// After an operand.
+pub const OPERANDS: &[Row] = &[
     row!([last: Operand] [], [], ["?"] => "a choice `c ? a : b` is written `(c & a) | (!c & b)`"),
     row!([last: Only(Id), second: Only(Assign)] [], [], ["("]
         => "a call's value has one target, as in `x := f(e);`"),

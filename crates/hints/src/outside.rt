@@ -4,8 +4,8 @@ use crate::group::Group::{Either, Nothing, Only};
 use crate::row::{ANY, Mention, Next, Pattern, Row, row};
 use tokens::Kind::{Begin, Close, Comma, Decl, End, Id, Open, Semicolon, Thread};
 
-/// Declarations and thread lines, and what comes after them.
-pub const LINES: &[Row] = &[
+/// The beginning of a text, and declarations.
+pub const DECLARATIONS: &[Row] = &[
     // The beginning of a text.
     row!([last: Nothing, next: Next::Ended] [], [], []
         => "a program has a procedure and a thread, as in `p() begin skip; end thread p;`"),
@@ -34,7 +34,10 @@ pub const LINES: &[Row] = &[
         => "after a declaration comes another or a procedure, as in `p() begin skip; end`"),
     row!([last: Only(Semicolon), head: Only(Decl), block: Only(Begin)] [], [], ["end"]
         => "a procedure has at least one statement, such as `skip;`"),
-    // Thread lines.
+];
+
+/// Thread lines.
+pub const THREADS: &[Row] = &[
     row!([last: Only(Thread)] [], [], [] => "after `thread` comes the name of a procedure"),
     row!([last: Only(Id), head: Only(Thread)] [], [], ["("]
         => "a thread line has no parentheses: write `thread p;` for a procedure without formals"),
@@ -52,8 +55,8 @@ pub const LINES: &[Row] = &[
         => "after a `thread` line come only `thread` lines: declarations and procedures stand before the first"),
 ];
 
-/// Procedures, up to their `begin` and after their `end`.
-pub const PROCEDURES: &[Row] = &[
+/// Procedures up to their `begin`.
+pub const HEADS: &[Row] = &[
     // Formals.
     row!([last: Only(Open), block: Nothing] [], [], []
         => "after the `(` of a procedure come the names of its formals, or `)`"),
@@ -75,7 +78,10 @@ pub const PROCEDURES: &[Row] = &[
         => "a statement stands in a procedure, as in `p() begin x := 1; end`"),
     row!([last: Only(Id), block: Nothing] [], [], []
         => "after the name of a procedure comes `(`, as in `p() begin .. end`"),
-    // After a procedure.
+];
+
+/// What comes after a procedure.
+pub const ENDS: &[Row] = &[
     row!([last: Only(End)] [], [], [";"] => "no `;` comes after `end`"),
     row!([last: Only(End)] [], [], ["end"] => "no `begin` is open here, which this `end` would close"),
     row!([last: Only(End)] [], [], ["fi"] => "no `if` is open here, which this `fi` would close"),

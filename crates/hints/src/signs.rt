@@ -4,14 +4,17 @@ use crate::group::Group::{Either, Nothing, Only, Operand};
 use crate::row::{ANY, Mention, Next, Pattern, Row, row};
 use tokens::Kind::{And, Assert, Assign, Close, Differs, Equal, Id, If, Open, Or, Return, While};
 
-/// What is there, whatever comes before.
-pub const SIGNS: &[Row] = &[
+/// Numbers and comments.
+pub const COMMENTS: &[Row] = &[
     row!([next: Next::Number] [], [], []
         => "the constants are `0` and `1`, and a name begins with a letter or `_`"),
     row!([last: Only(Id)] [], [], ["--"] => "there is no arithmetic: a variable is one bit"),
     // Comments.
     row!([] [], [], ["/*", "#", "--"] => "a comment begins with `//` and ends with its line"),
-    // Operators.
+];
+
+/// Operators that are signs.
+pub const OPERATORS: &[Row] = &[
     row!([last: Only(Equal)] [], [], ["=>"] => "implication is written `=>`, with one `=`"),
     row!([last: Only(Equal)] [], [], ["="] => "equality is written `=`"),
     row!([last: Only(Differs)] [], [], ["="] => "difference is written `!=`"),
@@ -30,6 +33,10 @@ pub const SIGNS: &[Row] = &[
     row!([] [], [], ["+", "-", "/", "%"] => "there is no arithmetic: a variable is one bit"),
     row!([] [], [], ["<", ">"]
         => "a variable is one bit: `a < b` is written `!a & b`, and `a > b` is written `a & !b`"),
+];
+
+/// Blocks, arrays, texts and names.
+pub const BRACKETS: &[Row] = &[
     // Blocks and arrays.
     row!([last: Only(Close), block: Nothing] [], [], ["{"]
         => "the body of a procedure is written `begin .. end`"),

@@ -4,9 +4,8 @@ use crate::group::Group::{Either, Only, Operand, Operator};
 use crate::row::{ANY, Mention, Next, Pattern, Row, row};
 use tokens::Kind::{Assign, Close, Id, Open, Return};
 
-/// Words that are names here.
-pub const WORDS: &[Row] = &[
-    // Operators, after an operand of an expression.
+/// Operators that are words, after an operand of an expression.
+pub const NAMED_OPERATORS: &[Row] = &[
     row!([last: Only(Close), owner: Only(Id), head: Only(Assign)] [], [], ["and", "or", "xor", "implies"]
         => "a call is a right side of its own: `v := f(e);` comes first, and then `v` is used"),
     row!([last: Operand, head: Either(Open, Assign)] [], [], ["and", "AND", "And"]
@@ -24,7 +23,10 @@ pub const WORDS: &[Row] = &[
     row!([next: Next::Word] ["not", "NOT", "Not"], [], [] => "negation is written `!`"),
     row!([last: Only(Id), second: Operator] ["not", "NOT", "Not"], [], ["("] => "negation is written `!`"),
     row!([last: Only(Id), head: Only(Open)] ["not", "NOT", "Not"], [], ["("] => "negation is written `!`"),
-    // Keywords in capitals.
+];
+
+/// Keywords in capitals.
+pub const CAPITALS: &[Row] = &[
     row!([] [], [], ["Decl", "DECL", "Begin", "BEGIN", "End", "END", "Thread", "THREAD", "Skip", "SKIP", "If",
         "IF", "Then", "THEN", "Else", "ELSE", "Fi", "FI", "While", "WHILE", "Do", "DO", "Od", "OD", "Assert",
         "ASSERT", "Assume", "ASSUME", "Goto", "GOTO", "Return", "RETURN"]
@@ -37,13 +39,19 @@ pub const WORDS: &[Row] = &[
         => "keywords are written in small letters"),
     row!([last: Only(Close)] [], ["If", "IF", "While", "WHILE"], ["then", "do"]
         => "keywords are written in small letters"),
-    // Declarations.
+];
+
+/// Words of declarations.
+pub const TYPES: &[Row] = &[
     row!([next: Next::Word] ["bool", "bit", "int", "byte", "char", "boolean", "unsigned", "void", "var",
         "let", "const", "static", "global", "local"], [], []
         => "variables are declared by `decl x, y;`; formals and procedures have no type"),
     row!([next: Next::Word] ["proc", "procedure", "function", "proctype", "active", "process", "def", "fn", "fun", "init"], [], []
         => "a procedure is written `p() begin .. end`, and a thread that runs it `thread p;`"),
-    // Choices and loops.
+];
+
+/// Words of choices and loops.
+pub const CHOICES: &[Row] = &[
     row!([next: Next::Word] ["elif", "elsif", "elseif"], [], []
         => "a further choice is written `else if (c) then .. else .. fi`, with its own `fi`"),
     row!([last: Only(Close)] [], ["elif", "elsif", "elseif"], ["then"]
@@ -58,7 +66,10 @@ pub const WORDS: &[Row] = &[
     row!([] ["break"], [], [";"] => "a loop is left by `goto L;`, where `L` labels a statement after it"),
     row!([] ["continue"], [], [";"]
         => "the rest of a loop's body is left out by `goto L;`, where `L` labels a last `skip;` in it"),
-    // Other statements.
+];
+
+/// Words of other statements.
+pub const ACTIONS: &[Row] = &[
     row!([] ["atomic", "d_step"], [], ["begin"]
         => "there is no `atomic`; one assignment is one step: `x, y := e, f;`"),
     row!([next: Next::Word] ["atomic", "d_step"], [], []
