@@ -41,21 +41,25 @@ stats = record (new_rule (codes "stats")) { long = Some (codes "stats"); action 
 abbrev pub file : Rule
 file = record (new_rule (codes "file")) { value_names = 1; required = true }
 
+-- check [--rounds K] [--edges N]
+abbrev pub check_by_numbers : App
+check_by_numbers = with_rule (with_rule (new_app (codes "check")) (record rounds { defaults = codes "2" ∷ [] })) edges
+
 -- check [--rounds K] [--edges N] [--stats] FILE
 abbrev pub check : App
-check =
-    with_rule (with_rule (with_rule (with_rule (new_app (codes "check")) (record rounds { defaults = codes "2" ∷ [] }))
-    edges) stats) file
+check = with_rule (with_rule check_by_numbers stats) file
 
 -- sequential --rounds K FILE
 abbrev pub sequential : App
 sequential = with_rule (with_rule (new_app (codes "sequential")) (record rounds { required = true })) file
 
+-- bebopk --version, or bebopk with a command
+abbrev pub bare : App
+bare = on_top (λ s. record s { has_version = true; subcommand_required = true }) (new_app (codes "bebopk"))
+
 -- bebopk check .., bebopk sequential .., or bebopk --version
 abbrev pub bebopk : App
-bebopk = with_subcommand (with_subcommand
-    (on_top (λ s. record s { has_version = true; subcommand_required = true }) (new_app (codes "bebopk"))) check.top)
-    sequential.top
+bebopk = with_subcommand (with_subcommand bare check.top) sequential.top
 
 -- The command is the one written down, and it shares no option with commands below it.
 abbrev pub IsBuilt : App → Command → Type 0

@@ -1,7 +1,7 @@
 //! What the words of the command line ask for.
-ghost use Rattle.std.specs.Prelude.{◌≡◌, false, map, IfErr, IfOk, MatchOption};
+ghost use Rattle.std.specs.Prelude.{◌≡◌, codes, false, map, IfErr, IfOk, MatchOption};
 ghost use Rattle.std.specs.String.{string_bytes};
-ghost use Rattle.clap.specs.Words.{Text, app_of, kind_of, rule_of, subcommand_rows_of};
+ghost use Rattle.clap.specs.Words.{Text, app_of, kind_of, new_app, rule_of, subcommand_rows_of, with_subcommand};
 ghost use Rattle.command_line.specs.Line as line;
 
 use crate::asked::LineFault;
@@ -73,17 +73,29 @@ fn stats<'a>(alloc: Global) -> Arg<'a>
         .help("Also counts what was found of each procedure")
 }
 
-/// The command `check`.
-fn check<'a>(alloc: Global) -> Result<Command<'a>, AllocError>
-    ensures { IfOk result (line.IsBuilt line.check) }
+/// The command `check`, without arguments.
+fn bare_check<'a>(alloc: Global) -> Command<'a>
+    ensures { line.IsBuilt (new_app (codes "check")) result }
 {
     Command::new(alloc, "check")
         .about("Answers whether some run of at most K rounds fails an assert")
         .after_help(CHECK)
+}
+
+/// The command `check` with the options that take a number.
+fn check_by_numbers<'a>(alloc: Global) -> Result<Command<'a>, AllocError>
+    ensures { IfOk result (line.IsBuilt line.check_by_numbers) }
+{
+    bare_check(alloc)
         .arg(rounds(alloc).default_value("2"))?
-        .arg(edges(alloc))?
-        .arg(stats(alloc))?
-        .arg(file(alloc))
+        .arg(edges(alloc))
+}
+
+/// The command `check`.
+fn check<'a>(alloc: Global) -> Result<Command<'a>, AllocError>
+    ensures { IfOk result (line.IsBuilt line.check) }
+{
+    check_by_numbers(alloc)?.arg(stats(alloc))?.arg(file(alloc))
 }
 
 /// The command `sequential`.
@@ -97,19 +109,31 @@ fn sequential<'a>(alloc: Global) -> Result<Command<'a>, AllocError>
         .arg(file(alloc))
 }
 
-/// The command line of bebopk.
-fn command<'a>(alloc: Global) -> Result<Command<'a>, AllocError>
-    ensures { IfOk result (λ c. app_of c ≡ line.bebopk) }
+/// The command line of bebopk, without commands.
+fn bare_line<'a>(alloc: Global) -> Command<'a>
+    ensures { app_of result ≡ line.bare }
 {
-    let check = check(alloc)?;
-    let sequential = sequential(alloc)?;
     Command::new(alloc, "bebopk")
         .about("Checks concurrent Boolean programs")
         .version(VERSION)
         .after_help(BEBOPK)
         .subcommand_required(true)
-        .subcommand(check)?
-        .subcommand(sequential)
+}
+
+/// The command line with the command `check`.
+fn with_check<'a>(alloc: Global) -> Result<Command<'a>, AllocError>
+    ensures { IfOk result (λ c. app_of c ≡ with_subcommand line.bare line.check.top) }
+{
+    let check = check(alloc)?;
+    bare_line(alloc).subcommand(check)
+}
+
+/// The command line of bebopk.
+fn command<'a>(alloc: Global) -> Result<Command<'a>, AllocError>
+    ensures { IfOk result (λ c. app_of c ≡ line.bebopk) }
+{
+    let sequential = sequential(alloc)?;
+    with_check(alloc)?.subcommand(sequential)
 }
 
 /// What helps if a word in the place of the command is no command, as the name of a file.
