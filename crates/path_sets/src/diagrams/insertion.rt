@@ -11,7 +11,7 @@ const HALF: u8 = 32;
 
 /// A mask that is to be put into a diagram: the index of the diagram, the low 64 bits of the valuation and those above,
 /// and the mask.
-#[derive(Clone, Copy, PartialEq, Eq, Hash)]
+#[derive(Clone, Copy)]
 pub(crate) struct Insertion {
     pub(crate) diagram: usize,
     pub(crate) low: u64,
