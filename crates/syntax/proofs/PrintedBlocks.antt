@@ -6,10 +6,10 @@ use Rattle.language.specs.Tree.{Name, Mark, Block}
 use Rattle.tokens.specs.Parts.{text_of}
 use Rattle.tokens.proofs.PartsCut.{text_of-append}
 use Rattle.trees.specs.declared.tree.Stmt.{Stmt}
-use Rattle.trees.specs.Trees.{name_of, Deed, simple, Item, deed_of, marked_before, before, block_of}
+use Rattle.trees.specs.Trees.{name_of, Deed, simple, branch, repeat, Item, deed_of, marked_before, before, block_of}
 use Rattle.trees.proofs.Folds.{item_is}
 use Rattle.grammar.specs.Printed.{label_parts, margin, block_parts}
-use Rattle.syntax.specs.PrintedDeed.{deed_parts}
+use Rattle.syntax.specs.PrintedDeed.{deed_parts, head_parts, arms_parts}
 
 -- one more level
 margin_more : (level : ℕ) → text_of (margin (suc level)) ≡ text_of (margin level) ++ (32 ∷ 32 ∷ [])
@@ -36,6 +36,17 @@ pub first_text : {A : Type 0} (level : ℕ) (s : Stmt A) (k : List (Stmt A))
 first_text level s k =
     ap (λ (i : Item). text_of (block_parts level (before i (block_of k)))) (item_is s)
     ∙ marked_text level (record { label = option_map name_of s.label; at = s.at }) (deed_of s.core) (block_of k)
+
+-- what a statement does is printed on its first line, and after it
+deed_text : (level : ℕ) (d : Deed) → text_of (head_parts d) ++ text_of (arms_parts level d) ≡ text_of (deed_parts level d)
+deed_text level (simple s) = append-nil _
+deed_text level (branch side a b) = simp (text_of-append, append_assoc)
+deed_text level (repeat side a) = simp (text_of-append, append_assoc)
+
+pub deed_printed : (level : ℕ) (d : Deed) (s mid new : List ℕ) → mid ≡ s ++ text_of (head_parts d) → new ≡ mid ++ text_of (arms_parts level d)
+    → new ≡ s ++ text_of (deed_parts level d)
+deed_printed level d s mid new h e =
+    e ∙ ap (λ (t : List ℕ). t ++ text_of (arms_parts level d)) h ∙ append_assoc s _ _ ∙ ap (λ (t : List ℕ). s ++ t) (deed_text level d)
 
 -- one more statement is printed
 pub one_printed : {A : Type 0} (level : ℕ) (l : List (Stmt A)) (i : ℕ) (s : Stmt A) (old s1 s2 new w : List ℕ) → i < length l

@@ -1,15 +1,15 @@
 //! Printing statements and blocks.
 
-ghost use Rattle.std.specs.Prelude.{◌≡◌, ◌+◌, ◌++◌, IfOk, option_map};
+ghost use Rattle.std.specs.Prelude.{◌≡◌, suc, ◌+◌, ◌++◌, IfOk, option_map};
 ghost use Rattle.std.specs.String.{string_bytes};
 ghost use Rattle.tokens.specs.Parts.{text_of};
 ghost use Rattle.language.specs.Tree.{assign, goto, leave_with, call, call_for};
 ghost use Rattle.trees.specs.Trees.{name_of, names_of, expr_of, exprs_of, rhs_of, rhss_of, simple};
-ghost use Rattle.trees.specs.Trees.{branch, repeat, deed_of, block_of};
+ghost use Rattle.trees.specs.Trees.{deed_of, block_of};
 ghost use Rattle.grammar.specs.Printed.{Prints, side_parts, label_parts, margin, block_parts};
-ghost use Rattle.syntax.specs.PrintedDeed.{deed_parts};
+ghost use Rattle.syntax.specs.PrintedDeed.{head_parts, arms_parts};
 
-use crate::show::{Show, print_list};
+use crate::show::{Show, print_enclosed, print_list};
 use std::alloc::{AllocError, Allocator};
 use trees::{Core, Expr, Name, Rhs, Stmt};
 
@@ -77,7 +77,7 @@ fn print_jump<N: Allocator, A: Allocator>(
     out: &mut String<A>,
     label: &Name<N>,
 ) -> Result<(), AllocError>
-    ensures { Prints result out.old out.new (deed_parts 0 (simple (goto (name_of label.now)))) }
+    ensures { Prints result out.old out.new (head_parts (simple (goto (name_of label.now)))) }
 {
     out.push_str("goto ")?;
     label.print(out)?;
@@ -91,7 +91,7 @@ fn print_assignment<N: Allocator, A: Allocator>(
     sides: &[Rhs<N>],
 ) -> Result<(), AllocError>
     ensures { Prints result out.old out.new
-        (deed_parts 0 (simple (assign (names_of targets.now) (rhss_of sides.now)))) }
+        (head_parts (simple (assign (names_of targets.now) (rhss_of sides.now)))) }
 {
     print_list(out, targets)?;
     out.push_str(" := ")?;
@@ -106,12 +106,11 @@ fn print_call<N: Allocator, A: Allocator>(
     arguments: &[Expr<N>],
 ) -> Result<(), AllocError>
     ensures { Prints result out.old out.new
-        (deed_parts 0 (simple (call (name_of name.now) (exprs_of arguments.now)))) }
+        (head_parts (simple (call (name_of name.now) (exprs_of arguments.now)))) }
 {
     name.print(out)?;
-    out.push_str("(")?;
-    print_list(out, arguments)?;
-    out.push_str(");\n")
+    print_enclosed(out, arguments)?;
+    out.push_str(";\n")
 }
 
 /// Prints a call for a value, after its margin and its label.
@@ -121,7 +120,7 @@ fn print_asking<N: Allocator, A: Allocator>(
     name: &Name<N>,
     arguments: &[Expr<N>],
 ) -> Result<(), AllocError>
-    ensures { Prints result out.old out.new (deed_parts 0
+    ensures { Prints result out.old out.new (head_parts
         (simple (call_for (name_of target.now) (name_of name.now) (exprs_of arguments.now)))) }
 {
     target.print(out)?;
@@ -135,11 +134,33 @@ fn print_giving<N: Allocator, A: Allocator>(
     value: &Expr<N>,
 ) -> Result<(), AllocError>
     ensures { Prints result out.old out.new
-        (deed_parts 0 (simple (leave_with (expr_of value.now)))) }
+        (head_parts (simple (leave_with (expr_of value.now)))) }
 {
     out.push_str("return ")?;
     value.print(out)?;
     out.push_str(";\n")
+}
+
+/// Prints what follows the label on the first line of a statement.
+fn print_head<N: Allocator, A: Allocator>(
+    out: &mut String<A>,
+    core: &Core<N>,
+) -> Result<(), AllocError>
+    ensures { Prints result out.old out.new (head_parts (deed_of core.now)) }
+{
+    match core {
+        Core::Skip => out.push_str("skip;\n"),
+        Core::Return => out.push_str("return;\n"),
+        Core::Goto(label) => print_jump(out, label),
+        Core::Assign(targets, sides) => print_assignment(out, targets, sides),
+        Core::Call(name, arguments) => print_call(out, name, arguments),
+        Core::Give(value) => print_giving(out, value),
+        Core::CallTo(target, name, arguments) => print_asking(out, target, name, arguments),
+        Core::Assert(side) => print_test(out, "assert(", side, ");\n"),
+        Core::Assume(side) => print_test(out, "assume(", side, ");\n"),
+        Core::If(side, _, _) => print_test(out, "if (", side, ") then\n"),
+        Core::While(side, _) => print_test(out, "while (", side, ") do\n"),
+    }
 }
 
 /// Prints the statements of a block at this level.
@@ -154,68 +175,44 @@ pub(crate) fn print_block<N: Allocator, A: Allocator>(
     for stmt in stmts {
         print_margin(out, level)?;
         print_label(out, &stmt.label)?;
-        print_core(out, level, &stmt.core)?;
+        print_head(out, &stmt.core)?;
+        print_arms(out, level, &stmt.core)?;
     }
     Ok(())
 }
 
-/// Prints what a statement of this level does, after its margin and its label.
+/// Prints what follows the first line of a statement of this level: the blocks of an `if` or a `while`.
 #[cycle(printing)]
-fn print_core<N: Allocator, A: Allocator>(
+fn print_arms<N: Allocator, A: Allocator>(
     out: &mut String<A>,
     level: usize,
     core: &Core<N>,
 ) -> Result<(), AllocError>
-    ensures { Prints result out.old out.new (deed_parts level (deed_of core.now)) }
+    ensures { Prints result out.old out.new (arms_parts level (deed_of core.now)) }
 {
     match core {
-        Core::Skip => out.push_str("skip;\n"),
-        Core::Return => out.push_str("return;\n"),
-        Core::Goto(label) => print_jump(out, label),
-        Core::Assign(targets, sides) => print_assignment(out, targets, sides),
-        Core::Call(name, arguments) => print_call(out, name, arguments),
-        Core::Give(value) => print_giving(out, value),
-        Core::CallTo(target, name, arguments) => print_asking(out, target, name, arguments),
-        Core::Assert(side) => print_test(out, "assert(", side, ");\n"),
-        Core::Assume(side) => print_test(out, "assume(", side, ");\n"),
-        Core::If(side, then, otherwise) => print_branch(out, level, side, then, otherwise),
-        Core::While(side, body) => print_loop(out, level, side, body),
+        Core::If(_, then, otherwise) => {
+            print_inner(out, level, then)?;
+            print_line(out, level, "else\n")?;
+            print_inner(out, level, otherwise)?;
+            print_line(out, level, "fi\n")
+        }
+        Core::While(_, body) => {
+            print_inner(out, level, body)?;
+            print_line(out, level, "od\n")
+        }
+        _ => Ok(()),
     }
 }
 
-/// Prints an `if` of this level, after its margin and its label.
+/// Prints the statements of a block one level further in.
 #[cycle(printing)]
-fn print_branch<N: Allocator, A: Allocator>(
+fn print_inner<N: Allocator, A: Allocator>(
     out: &mut String<A>,
     level: usize,
-    side: &Rhs<N>,
-    then: &[Stmt<N>],
-    otherwise: &[Stmt<N>],
+    stmts: &[Stmt<N>],
 ) -> Result<(), AllocError>
-    ensures { Prints result out.old out.new
-        (deed_parts level (branch (rhs_of side.now) (block_of then.now) (block_of otherwise.now))) }
+    ensures { Prints result out.old out.new (block_parts (suc level) (block_of stmts.now)) }
 {
-    let inner = below(level)?;
-    print_test(out, "if (", side, ") then\n")?;
-    print_block(out, inner, then)?;
-    print_line(out, level, "else\n")?;
-    print_block(out, inner, otherwise)?;
-    print_line(out, level, "fi\n")
-}
-
-/// Prints a `while` of this level, after its margin and its label.
-#[cycle(printing)]
-fn print_loop<N: Allocator, A: Allocator>(
-    out: &mut String<A>,
-    level: usize,
-    side: &Rhs<N>,
-    body: &[Stmt<N>],
-) -> Result<(), AllocError>
-    ensures { Prints result out.old out.new
-        (deed_parts level (repeat (rhs_of side.now) (block_of body.now))) }
-{
-    let inner = below(level)?;
-    print_test(out, "while (", side, ") do\n")?;
-    print_block(out, inner, body)?;
-    print_line(out, level, "od\n")
+    print_block(out, below(level)?, stmts)
 }

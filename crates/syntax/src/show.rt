@@ -2,7 +2,7 @@
 
 ghost use Rattle.std.specs.Prelude.{map};
 ghost use Rattle.grammar.specs.Grammar.{joined};
-ghost use Rattle.grammar.specs.Printed.{Prints, separated};
+ghost use Rattle.grammar.specs.Printed.{Prints, in_parens, separated};
 
 use crate::written::Written;
 use std::alloc::{AllocError, Allocator};
@@ -30,6 +30,18 @@ pub(crate) fn print_list<T: Show, A: Allocator>(
         item.print(out)?;
     }
     Ok(())
+}
+
+/// Prints values in parentheses, separated by commas.
+pub(crate) fn print_enclosed<T: Show, A: Allocator>(
+    out: &mut String<A>,
+    items: &[T],
+) -> Result<(), AllocError>
+    ensures { Prints result out.old out.new (in_parens (separated T.parts (map T.tree items.now))) }
+{
+    out.push_str("(")?;
+    print_list(out, items)?;
+    out.push_str(")")
 }
 
 /// Prints values, one after the other.

@@ -7,8 +7,8 @@ use Rattle.language.specs.Sequential.{statements}
 use Rattle.trees.proofs.Held.{held}
 use Rattle.syntax.proofs.print_statements.+printing.Given as goal
 
-abbrev pub decreases-print_core : goal.decreases-print_core
-decreases-print_core g l = 3 * held (deed_of l.core.now) + 2
+abbrev pub decreases-print_arms : goal.decreases-print_arms
+decreases-print_arms g l = 3 * held (deed_of l.core.now) + 2
 
 abbrev pub decreases-print_block : goal.decreases-print_block
 decreases-print_block g l = 3 * statements (block_of l.stmts.now)
@@ -19,8 +19,5 @@ invariant-print_block-loop-stmt g l =
     string_bytes l.out ++ text_of (block_parts l.level (block_of (drop l.stmt-index l.stmts)))
     ≡ string_bytes l.initial.out ++ text_of (block_parts l.level (block_of l.stmts))
 
-abbrev pub decreases-print_branch : goal.decreases-print_branch
-decreases-print_branch g l = 3 * (statements (block_of l.then.now) + statements (block_of l.otherwise.now)) + 1
-
-abbrev pub decreases-print_loop : goal.decreases-print_loop
-decreases-print_loop g l = 3 * statements (block_of l.body.now) + 1
+abbrev pub decreases-print_inner : goal.decreases-print_inner
+decreases-print_inner g l = 3 * statements (block_of l.stmts.now) + 1

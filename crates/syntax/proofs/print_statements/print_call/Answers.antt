@@ -6,5 +6,5 @@ use Rattle.syntax.proofs.print_statements.print_call.Goals as goal
 
 pub returns : goal.returns
 returns g c =
-    pushed_last c.push_str-2.result (string_bytes c.push_str-2.new.self) (string_bytes c.print_list.new.out) _ _ c.push_str-2.ensures.bytes
-    (rw (c.in_ok-print_list.ensures, c.in_ok-push_str.ensures.bytes, c.in_ok-print.ensures) (simp (text_of-append, append_assoc)))
+    pushed_last c.push_str.result (string_bytes c.push_str.new.self) (string_bytes c.print_enclosed.new.out) _ _ c.push_str.ensures.bytes
+    (rw (c.in_ok-print_enclosed.ensures, c.in_ok-print.ensures) (simp (text_of-append, append_assoc)))
