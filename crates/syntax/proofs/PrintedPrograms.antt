@@ -2,16 +2,14 @@
 use Rattle.std.proofs.Common.{◌≡◌, ℕ, ◌+◌, ◌<◌, cond, List, [], ◌∷◌, ◌++◌, length, map, drop, get_or, sym, ◌∙◌, ap, append_assoc, codes}
 use Rattle.std.specs.Prelude.{◌==◌, false, Result, IfOk, is_ok}
 use Rattle.std.proofs.lemmas.List.{drop_more}
-use Rattle.tokens.specs.declared.vocabulary.Kind.TheVariants as kind
-use Rattle.tokens.specs.Parts.{Part, line, fixed, text_of}
+use Rattle.tokens.specs.Parts.{Part, text_of}
 use Rattle.tokens.proofs.PartsCut.{text_of-append}
 use Rattle.trees.specs.declared.tree.Name.{Name}
 use Rattle.trees.specs.declared.tree.Proc.{Proc}
-use Rattle.trees.specs.declared.tree.Stmt.{Stmt}
 use Rattle.trees.specs.declared.tree.Program.{Program}
 use Rattle.grammar.specs.Grammar.{joined}
 use Rattle.trees.specs.Trees.{name_of, names_of, proc_of, procs_of, threads_of, tree_of, block_of}
-use Rattle.grammar.specs.Printed.{name_parts, in_parens, separated, margin, line_parts, block_parts, declaration_parts, procedure_parts, thread_parts, printed}
+use Rattle.grammar.specs.Printed.{name_parts, separated, margin, block_parts, declaration_parts, procedure_parts, thread_parts, printed}
 use Rattle.syntax.proofs.Prints.{pushed_last, put_last}
 
 pub declared : {A X E : Type 0} (r : Result X E) (level : ℕ) (names : List (Name A)) (old s1 s2 s3 new : List ℕ) → length names == 0 ≡ false
@@ -31,31 +29,17 @@ pub procedure_printed : {A X E : Type 0} (r : Result X E) (p : Proc A) (formals 
 procedure_printed r p formals locals body old s1 s2 s3 s4 s5 s6 new f l b h1 h2 h3 h4 h5 h6 last =
     pushed_last r new s6 _ _ last (rw (h6, h5, h4, h3, h2, h1, f, l, b) (simp (text_of-append, append_assoc)))
 
--- what follows the formals
-abbrev insides_parts : {A : Type 0} → List (Name A) → List (Stmt A) → List Part
-insides_parts locals body =
-    line ∷ (line_parts 0 (fixed kind.Begin ∷ []) ++ (declaration_parts 1 (names_of locals) ++ (block_parts 1 (block_of body)
-    ++ line_parts 0 (fixed kind.End ∷ []))))
+pub declaration_put : {A X E : Type 0} (r : Result X E) (level : ℕ) (names : List (Name A)) (old s new : List ℕ)
+    → length names == 0 ≡ false → s ≡ old ++ text_of (margin level)
+    → IfOk r (λ _. new ≡ s ++ (codes "decl " ++ (text_of (separated name_parts (names_of names)) ++ codes ";\n")))
+    → IfOk r (λ _. new ≡ old ++ text_of (declaration_parts level (names_of names)))
+declaration_put r level [] old s new some h last = cc
+declaration_put r level (n ∷ names) old s new some h last = put_last r new s _ _ last (rw h (simp (text_of-append, append_assoc)))
 
-pub insides_printed : {A X E : Type 0} (r : Result X E) (locals : List (Name A)) (body : List (Stmt A)) (old s1 s2 s3 new : List ℕ)
-    → s1 ≡ old ++ codes "\nbegin\n" → s2 ≡ s1 ++ text_of (declaration_parts 1 (names_of locals))
-    → s3 ≡ s2 ++ text_of (block_parts 1 (block_of body)) → new ≡ cond (is_ok r) (s3 ++ codes "end\n") s3
-    → IfOk r (λ _. new ≡ old ++ text_of (insides_parts locals body))
-insides_printed r locals body old s1 s2 s3 new h1 h2 h3 last =
-    pushed_last r new s3 _ _ last (rw (h3, h2, h1) (simp (text_of-append, append_assoc)))
-
-head_text : (old : List ℕ) (n p rest : List Part)
-    → ((old ++ text_of n) ++ text_of p) ++ text_of (line ∷ rest) ≡ old ++ text_of (((n ++ p) ++ (line ∷ [])) ++ rest)
-head_text old n p rest = simp (text_of-append, append_assoc)
-
-pub procedure_put : {A X E : Type 0} (r : Result X E) (p : Proc A) (formals locals : List (Name A)) (body : List (Stmt A))
-    (old s1 s2 new : List ℕ) → formals ≡ p.formals.items → locals ≡ p.locals.items → body ≡ p.body.items
-    → s1 ≡ old ++ text_of (name_parts (name_of p.name)) → s2 ≡ s1 ++ text_of (in_parens (separated name_parts (names_of formals)))
-    → IfOk r (λ _. new ≡ s2 ++ text_of (insides_parts locals body)) → IfOk r (λ _. new ≡ old ++ text_of (procedure_parts (proc_of p)))
-procedure_put r p formals locals body old s1 s2 new f l b h1 h2 last =
-    put_last r new s2 _ _ last
-    (rw (h2, h1, f, l, b)
-    (head_text old (name_parts (name_of p.name)) (in_parens (separated name_parts (names_of p.formals.items))) _))
+-- the formals are printed with what stands around them
+pub formals_put : (old t new : List ℕ) → new ≡ old ++ (codes "(" ++ (t ++ codes ")\nbegin\n"))
+    → new ≡ ((old ++ codes "(") ++ t) ++ codes ")\nbegin\n"
+formals_put old t new h = h ∙ sym (append_assoc old (codes "(") _) ∙ sym (append_assoc (old ++ codes "(") t _)
 
 -- one more of a list is printed
 module _ {X Y : Type 0} (show : Y → List Part) (f : X → Y) where

@@ -1,17 +1,15 @@
 -- Texts that grow by parts.
 use Rattle.std.proofs.Common.{◌≡◌, ℕ, ◌+◌, ◌<◌, ◌≤◌, cond, List, [], ◌∷◌, ◌++◌, length, map, drop, get_or, sym, ◌∙◌, ap}
-use Rattle.std.proofs.Common.{append_assoc, append-nil, suc, add-one, codes}
+use Rattle.std.proofs.Common.{append_assoc, append-nil, add-one, codes}
 use Rattle.std.specs.Prelude.{Result, Ok, Err, IfOk, is_ok}
 use Rattle.std.proofs.lemmas.List.{drop_more, drop_all}
 use Rattle.language.specs.Tree as tree
 use Rattle.language.specs.Tree.{Operator, Expression, two, RightSide, leave_with, Block}
-use Rattle.tokens.specs.declared.vocabulary.Kind.{Kind}
-use Rattle.tokens.specs.declared.vocabulary.Kind.TheVariants as kind
 use Rattle.tokens.specs.Parts.{Part, space, line, fixed, text_of}
 use Rattle.tokens.proofs.PartsCut.{text_of-append}
 use Rattle.trees.specs.Trees.{simple, branch, repeat}
-use Rattle.grammar.specs.Printed.{in_parens, kind_of, operand_parts, expression_parts, side_parts, ended, margin, block_parts, separated, after_commas}
-use Rattle.syntax.specs.PrintedDeed.{deed_parts, arm_parts, arms_parts}
+use Rattle.grammar.specs.Printed.{kind_of, operand_parts, expression_parts, side_parts, ended, margin, block_parts, separated, after_commas}
+use Rattle.syntax.specs.PrintedDeed.{deed_parts, head_parts, arms_parts}
 
 -- The text at the end of a function whose last call pushes s.
 pub pushed_last : {E : Type 0} {X : Type 0} (r : Result X E) (new before s w : List ℕ) → new ≡ cond (is_ok r) (before ++ s) before
@@ -25,17 +23,13 @@ pub put_last : {E : Type 0} {X : Type 0} (r : Result X E) (new before s w : List
 put_last (Ok x) new before s w e f = e ∙ f
 put_last (Err x) new before s w e f = tt
 
--- what is in parentheses
-pub enclosed_pushed : {E : Type 0} {X : Type 0} (r : Result X E) (old s1 s2 new : List ℕ) (inside : List Part) → s1 ≡ old ++ (40 ∷ [])
-    → s2 ≡ s1 ++ text_of inside → new ≡ cond (is_ok r) (s2 ++ (41 ∷ [])) s2 → IfOk r (λ _. new ≡ old ++ text_of (in_parens inside))
-enclosed_pushed r old s1 s2 new inside h1 h2 last =
-    pushed_last r new s2 _ _ last
-    (ap (λ (t : List ℕ). t ++ (41 ∷ [])) (h2 ∙ ap (λ (t : List ℕ). t ++ text_of inside) h1 ∙ append_assoc old _ _) ∙ append_assoc old _ _
-    ∙ ap (λ (t : List ℕ). old ++ (40 ∷ t)) (sym (text_of-append inside (fixed kind.Close ∷ []))))
-
 value_text : (e : Expression tree.Name)
     → text_of (ended (expression_parts e) ++ (line ∷ [])) ≡ text_of (expression_parts e) ++ codes ";\n"
 value_text e = simp (text_of-append, append_assoc)
+
+pub given_text : (old : List ℕ) (e : Expression tree.Name) → old ++ (codes "return " ++ (text_of (expression_parts e) ++ codes ";\n"))
+    ≡ old ++ text_of (head_parts (simple (leave_with e)))
+given_text old e = ap (λ (t : List ℕ). old ++ (codes "return " ++ t)) (sym (value_text e))
 
 -- Texts that are put together on their way.
 module _ {X E : Type 0} (r : Result X E) (old new s1 s2 s3 s4 : List ℕ) where
@@ -65,32 +59,20 @@ module _ {X E : Type 0} (r : Result X E) (old new s1 s2 s3 s4 : List ℕ) where
         → IfOk r (λ _. new ≡ old ++ text_of (deed_parts level (repeat side a)))
     loop_pushed h1 h2 last = put_last r new s2 _ _ last (rw (h2, h1, below ∙ add-one level) (simp (text_of-append, append_assoc)))
 
--- A block, and the line that ends it.
-arm_text : (old : List ℕ) (level : ℕ) (a : Block tree.Name tree.Name tree.Name) (k : Kind)
-    → (old ++ text_of (block_parts (suc level) a)) ++ (text_of (margin level) ++ text_of (fixed k ∷ line ∷ []))
-    ≡ old ++ text_of (arm_parts level a k)
-arm_text old level a k = simp (text_of-append, append_assoc)
-
-module _ {X E : Type 0} (r : Result X E) (old new s1 s2 s3 : List ℕ) (level : ℕ) (a : Block tree.Name tree.Name tree.Name)
-    (side : RightSide tree.Name) where
-  pub branch_arms : (b : Block tree.Name tree.Name tree.Name) → s1 ≡ old ++ text_of (block_parts (suc level) a)
-      → s2 ≡ s1 ++ (text_of (margin level) ++ codes "else\n") → s3 ≡ s2 ++ text_of (block_parts (suc level) b)
+-- What an `if` or a `while` holds.
+module _ {X E : Type 0} (r : Result X E) (old new s1 s2 s3 : List ℕ) (level inner : ℕ) (a : Block tree.Name tree.Name tree.Name)
+    (side : RightSide tree.Name) (below : inner ≡ level + 1) where
+  pub branch_arms : (b : Block tree.Name tree.Name tree.Name) → s1 ≡ old ++ text_of (block_parts inner a)
+      → s2 ≡ s1 ++ (text_of (margin level) ++ codes "else\n") → s3 ≡ s2 ++ text_of (block_parts inner b)
       → IfOk r (λ _. new ≡ s3 ++ (text_of (margin level) ++ codes "fi\n"))
       → IfOk r (λ _. new ≡ old ++ text_of (arms_parts level (branch side a b)))
   branch_arms b h1 h2 h3 last =
-      put_last r new s3 _ _ last
-      (ap (λ (t : List ℕ). t ++ (text_of (margin level) ++ codes "fi\n")) h3
-      ∙ arm_text s2 level b kind.Fi
-      ∙ ap (λ (t : List ℕ). t ++ text_of (arm_parts level b kind.Fi))
-      (h2 ∙ ap (λ (t : List ℕ). t ++ (text_of (margin level) ++ codes "else\n")) h1 ∙ arm_text old level a kind.Else)
-      ∙ append_assoc old _ _ ∙ ap (λ (t : List ℕ). old ++ t) (sym (text_of-append (arm_parts level a kind.Else) (arm_parts level b kind.Fi))))
+      put_last r new s3 _ _ last (rw (h3, h2, h1, below ∙ add-one level) (simp (text_of-append, append_assoc)))
 
-  pub loop_arm : s1 ≡ old ++ text_of (block_parts (suc level) a)
+  pub loop_arm : s1 ≡ old ++ text_of (block_parts inner a)
       → IfOk r (λ _. new ≡ s1 ++ (text_of (margin level) ++ codes "od\n"))
       → IfOk r (λ _. new ≡ old ++ text_of (arms_parts level (repeat side a)))
-  loop_arm h last =
-      put_last r new s1 _ _ last
-      (ap (λ (t : List ℕ). t ++ (text_of (margin level) ++ codes "od\n")) h ∙ arm_text old level a kind.Od)
+  loop_arm h last = put_last r new s1 _ _ last (rw (h, below ∙ add-one level) (simp (text_of-append, append_assoc)))
 
 -- Lists of what commas separate.
 module _ {X Y : Type 0} (show : Y → List Part) (f : X → Y) where

@@ -1,15 +1,15 @@
 //! Printing statements and blocks.
 
-ghost use Rattle.std.specs.Prelude.{◌≡◌, suc, ◌+◌, ◌++◌, IfOk, option_map};
+ghost use Rattle.std.specs.Prelude.{◌≡◌, ◌+◌, ◌++◌, IfOk, option_map};
 ghost use Rattle.std.specs.String.{string_bytes};
 ghost use Rattle.tokens.specs.Parts.{text_of};
-ghost use Rattle.language.specs.Tree.{assign, goto, leave_with, call, call_for};
-ghost use Rattle.trees.specs.Trees.{name_of, names_of, expr_of, exprs_of, rhs_of, rhss_of, simple};
+ghost use Rattle.language.specs.Tree.{assign, call, call_for};
+ghost use Rattle.trees.specs.Trees.{name_of, names_of, exprs_of, rhss_of, simple};
 ghost use Rattle.trees.specs.Trees.{deed_of, block_of};
-ghost use Rattle.grammar.specs.Printed.{Prints, side_parts, label_parts, margin, block_parts};
+ghost use Rattle.grammar.specs.Printed.{Prints, label_parts, margin, block_parts};
 ghost use Rattle.syntax.specs.PrintedDeed.{head_parts, arms_parts};
 
-use crate::show::{Show, print_enclosed, print_list};
+use crate::show::{Show, print_between, print_list, print_list_between};
 use std::alloc::{AllocError, Allocator};
 use trees::{Core, Expr, Name, Rhs, Stmt};
 
@@ -56,34 +56,6 @@ fn print_label<N: Allocator, A: Allocator>(
     out.push_str(": ")
 }
 
-/// Prints a right side between two texts.
-fn print_test<N: Allocator, A: Allocator>(
-    out: &mut String<A>,
-    before: &str,
-    side: &Rhs<N>,
-    behind: &str,
-) -> Result<(), AllocError>
-    ensures { IfOk result (λ _. string_bytes out.new
-        ≡ string_bytes out.old
-        ++ (before.now ++ (text_of (side_parts (rhs_of side.now)) ++ behind.now))) }
-{
-    out.push_str(before)?;
-    side.print(out)?;
-    out.push_str(behind)
-}
-
-/// Prints a jump, after its margin and its label.
-fn print_jump<N: Allocator, A: Allocator>(
-    out: &mut String<A>,
-    label: &Name<N>,
-) -> Result<(), AllocError>
-    ensures { Prints result out.old out.new (head_parts (simple (goto (name_of label.now)))) }
-{
-    out.push_str("goto ")?;
-    label.print(out)?;
-    out.push_str(";\n")
-}
-
 /// Prints an assignment, after its margin and its label.
 fn print_assignment<N: Allocator, A: Allocator>(
     out: &mut String<A>,
@@ -94,9 +66,7 @@ fn print_assignment<N: Allocator, A: Allocator>(
         (head_parts (simple (assign (names_of targets.now) (rhss_of sides.now)))) }
 {
     print_list(out, targets)?;
-    out.push_str(" := ")?;
-    print_list(out, sides)?;
-    out.push_str(";\n")
+    print_list_between(out, " := ", sides, ";\n")
 }
 
 /// Prints a call, after its margin and its label.
@@ -109,8 +79,7 @@ fn print_call<N: Allocator, A: Allocator>(
         (head_parts (simple (call (name_of name.now) (exprs_of arguments.now)))) }
 {
     name.print(out)?;
-    print_enclosed(out, arguments)?;
-    out.push_str(";\n")
+    print_list_between(out, "(", arguments, ");\n")
 }
 
 /// Prints a call for a value, after its margin and its label.
@@ -128,19 +97,6 @@ fn print_asking<N: Allocator, A: Allocator>(
     print_call(out, name, arguments)
 }
 
-/// Prints a `return` with its value, after its margin and its label.
-fn print_giving<N: Allocator, A: Allocator>(
-    out: &mut String<A>,
-    value: &Expr<N>,
-) -> Result<(), AllocError>
-    ensures { Prints result out.old out.new
-        (head_parts (simple (leave_with (expr_of value.now)))) }
-{
-    out.push_str("return ")?;
-    value.print(out)?;
-    out.push_str(";\n")
-}
-
 /// Prints what follows the label on the first line of a statement.
 fn print_head<N: Allocator, A: Allocator>(
     out: &mut String<A>,
@@ -151,15 +107,15 @@ fn print_head<N: Allocator, A: Allocator>(
     match core {
         Core::Skip => out.push_str("skip;\n"),
         Core::Return => out.push_str("return;\n"),
-        Core::Goto(label) => print_jump(out, label),
+        Core::Goto(label) => print_between(out, "goto ", label, ";\n"),
         Core::Assign(targets, sides) => print_assignment(out, targets, sides),
         Core::Call(name, arguments) => print_call(out, name, arguments),
-        Core::Give(value) => print_giving(out, value),
+        Core::Give(value) => print_between(out, "return ", value, ";\n"),
         Core::CallTo(target, name, arguments) => print_asking(out, target, name, arguments),
-        Core::Assert(side) => print_test(out, "assert(", side, ");\n"),
-        Core::Assume(side) => print_test(out, "assume(", side, ");\n"),
-        Core::If(side, _, _) => print_test(out, "if (", side, ") then\n"),
-        Core::While(side, _) => print_test(out, "while (", side, ") do\n"),
+        Core::Assert(side) => print_between(out, "assert(", side, ");\n"),
+        Core::Assume(side) => print_between(out, "assume(", side, ");\n"),
+        Core::If(side, _, _) => print_between(out, "if (", side, ") then\n"),
+        Core::While(side, _) => print_between(out, "while (", side, ") do\n"),
     }
 }
 
@@ -190,29 +146,18 @@ fn print_arms<N: Allocator, A: Allocator>(
 ) -> Result<(), AllocError>
     ensures { Prints result out.old out.new (arms_parts level (deed_of core.now)) }
 {
+    let inner = below(level)?;
     match core {
         Core::If(_, then, otherwise) => {
-            print_inner(out, level, then)?;
+            print_block(out, inner, then)?;
             print_line(out, level, "else\n")?;
-            print_inner(out, level, otherwise)?;
+            print_block(out, inner, otherwise)?;
             print_line(out, level, "fi\n")
         }
         Core::While(_, body) => {
-            print_inner(out, level, body)?;
+            print_block(out, inner, body)?;
             print_line(out, level, "od\n")
         }
         _ => Ok(()),
     }
-}
-
-/// Prints the statements of a block one level further in.
-#[cycle(printing)]
-fn print_inner<N: Allocator, A: Allocator>(
-    out: &mut String<A>,
-    level: usize,
-    stmts: &[Stmt<N>],
-) -> Result<(), AllocError>
-    ensures { Prints result out.old out.new (block_parts (suc level) (block_of stmts.now)) }
-{
-    print_block(out, below(level)?, stmts)
 }

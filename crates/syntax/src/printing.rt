@@ -1,18 +1,16 @@
 //! Printing a tree.
 
-ghost use Rattle.std.specs.Prelude.{◌≡◌, [], ◌∷◌, ◌++◌, IfOk};
+ghost use Rattle.std.specs.Prelude.{◌≡◌, IfOk};
 ghost use Rattle.std.specs.String.{string_bytes};
-ghost use Rattle.tokens.specs.declared.vocabulary.Kind.TheVariants.{Begin, End};
-ghost use Rattle.tokens.specs.Parts.{line, fixed};
-ghost use Rattle.trees.specs.Trees.{names_of, block_of, tree_of};
+ghost use Rattle.trees.specs.Trees.{names_of, tree_of};
 ghost use Rattle.grammar.specs.InGrammar.{InGrammar};
 ghost use Rattle.syntax.specs.Text.{WithinLimits, IsTextOf};
-ghost use Rattle.grammar.specs.Printed.{Prints, line_parts, block_parts, declaration_parts, printed};
+ghost use Rattle.grammar.specs.Printed.{Prints, declaration_parts, printed};
 
 use crate::print_statements::{print_block, print_margin};
-use crate::show::{Show, print_all, print_enclosed, print_list};
+use crate::show::{Show, print_all, print_between, print_list_between};
 use std::alloc::{AllocError, Allocator};
-use trees::{Name, Proc, Program, Stmt, Thread};
+use trees::{Name, Proc, Program, Thread};
 
 /// Prints a declaration of these names, if there are any.
 fn print_declaration<N: Allocator, A: Allocator>(
@@ -26,40 +24,22 @@ fn print_declaration<N: Allocator, A: Allocator>(
         return Ok(());
     }
     print_margin(out, level)?;
-    out.push_str("decl ")?;
-    print_list(out, names)?;
-    out.push_str(";\n")
-}
-
-/// Prints what follows the formals of a procedure: its locals and its statements, between `begin` and `end`.
-fn print_insides<N: Allocator, A: Allocator>(
-    out: &mut String<A>,
-    locals: &[Name<N>],
-    body: &[Stmt<N>],
-) -> Result<(), AllocError>
-    ensures { Prints result out.old out.new (line ∷ (line_parts 0 (fixed Begin ∷ [])
-        ++ (declaration_parts 1 (names_of locals.now) ++ (block_parts 1 (block_of body.now)
-        ++ line_parts 0 (fixed End ∷ []))))) }
-{
-    out.push_str("\nbegin\n")?;
-    print_declaration(out, 1, locals)?;
-    print_block(out, 1, body)?;
-    out.push_str("end\n")
+    print_list_between(out, "decl ", names, ";\n")
 }
 
 impl<N: Allocator> Show for Proc<N> {
     fn print<A: Allocator>(&self, out: &mut String<A>) -> Result<(), AllocError> {
         self.name.print(out)?;
-        print_enclosed(out, &self.formals)?;
-        print_insides(out, &self.locals, &self.body)
+        print_list_between(out, "(", &self.formals, ")\nbegin\n")?;
+        print_declaration(out, 1, &self.locals)?;
+        print_block(out, 1, &self.body)?;
+        out.push_str("end\n")
     }
 }
 
 impl<N: Allocator> Show for Thread<N> {
     fn print<A: Allocator>(&self, out: &mut String<A>) -> Result<(), AllocError> {
-        out.push_str("thread ")?;
-        self.name.print(out)?;
-        out.push_str(";\n")
+        print_between(out, "thread ", &self.name, ";\n")
     }
 }
 

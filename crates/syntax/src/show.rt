@@ -1,8 +1,10 @@
 //! What is printed one after the other, and the loops that print it.
 
-ghost use Rattle.std.specs.Prelude.{map};
+ghost use Rattle.std.specs.Prelude.{◌≡◌, ◌++◌, map, IfOk};
+ghost use Rattle.std.specs.String.{string_bytes};
+ghost use Rattle.tokens.specs.Parts.{text_of};
 ghost use Rattle.grammar.specs.Grammar.{joined};
-ghost use Rattle.grammar.specs.Printed.{Prints, in_parens, separated};
+ghost use Rattle.grammar.specs.Printed.{Prints, separated};
 
 use crate::written::Written;
 use std::alloc::{AllocError, Allocator};
@@ -32,16 +34,36 @@ pub(crate) fn print_list<T: Show, A: Allocator>(
     Ok(())
 }
 
-/// Prints values in parentheses, separated by commas.
-pub(crate) fn print_enclosed<T: Show, A: Allocator>(
+/// Prints a value between two texts.
+pub(crate) fn print_between<T: Show, A: Allocator>(
     out: &mut String<A>,
-    items: &[T],
+    before: &str,
+    value: &T,
+    behind: &str,
 ) -> Result<(), AllocError>
-    ensures { Prints result out.old out.new (in_parens (separated T.parts (map T.tree items.now))) }
+    ensures { IfOk result (λ _. string_bytes out.new
+        ≡ string_bytes out.old
+        ++ (before.now ++ (text_of (T.parts (T.tree value.now)) ++ behind.now))) }
 {
-    out.push_str("(")?;
+    out.push_str(before)?;
+    value.print(out)?;
+    out.push_str(behind)
+}
+
+/// Prints values between two texts, separated by commas.
+pub(crate) fn print_list_between<T: Show, A: Allocator>(
+    out: &mut String<A>,
+    before: &str,
+    items: &[T],
+    behind: &str,
+) -> Result<(), AllocError>
+    ensures { IfOk result (λ _. string_bytes out.new
+        ≡ string_bytes out.old
+        ++ (before.now ++ (text_of (separated T.parts (map T.tree items.now)) ++ behind.now))) }
+{
+    out.push_str(before)?;
     print_list(out, items)?;
-    out.push_str(")")
+    out.push_str(behind)
 }
 
 /// Prints values, one after the other.

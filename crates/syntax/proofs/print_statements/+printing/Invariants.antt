@@ -8,16 +8,13 @@ use Rattle.trees.proofs.Held.{held}
 use Rattle.syntax.proofs.print_statements.+printing.Given as goal
 
 abbrev pub decreases-print_arms : goal.decreases-print_arms
-decreases-print_arms g l = 3 * held (deed_of l.core.now) + 2
+decreases-print_arms g l = 2 * held (deed_of l.core.now) + 1
 
 abbrev pub decreases-print_block : goal.decreases-print_block
-decreases-print_block g l = 3 * statements (block_of l.stmts.now)
+decreases-print_block g l = 2 * statements (block_of l.stmts.now)
 
 -- the text so far, with what is left, is the whole
 abbrev pub invariant-print_block-loop-stmt : goal.invariant-print_block-loop-stmt
 invariant-print_block-loop-stmt g l =
     string_bytes l.out ++ text_of (block_parts l.level (block_of (drop l.stmt-index l.stmts)))
     ≡ string_bytes l.initial.out ++ text_of (block_parts l.level (block_of l.stmts))
-
-abbrev pub decreases-print_inner : goal.decreases-print_inner
-decreases-print_inner g l = 3 * statements (block_of l.stmts.now) + 1
