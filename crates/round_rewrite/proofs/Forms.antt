@@ -1,21 +1,36 @@
 -- Statements rewritten, one after the other.
-use Rattle.std.proofs.Common.{◌≡◌, ℕ, zero, suc, ◌+◌, ◌<◌, ◌≤◌, List, [], ◌∷◌, length, get_or, drop, map}
-use Rattle.std.proofs.Common.{Option, option_map, refl, sym, ◌∙◌, ap}
+use Rattle.std.proofs.Common.{◌≡◌, ℕ, zero, suc, ◌+◌, ◌*◌, ◌<◌, ◌≤◌, List, [], ◌∷◌, length, get_or, drop, map}
+use Rattle.std.proofs.Common.{Option, option_map, refl, sym, ◌∙◌, ap, arith}
 use Rattle.std.proofs.lemmas.List.{drop_more, drop_all}
 use Rattle.std.proofs.lemmas.Result.{IfOk-weaker}
 use Rattle.std.specs.Prelude.{Result, IfOk}
 use Rattle.language.specs.Tree as tree
-use Rattle.language.specs.Tree.{any, assign, Block, done, one, choose, loop}
+use Rattle.language.specs.Tree.{RightSide, any, assign, Block, done, one, choose, loop}
 use Rattle.language.specs.Rest.{join}
+use Rattle.language.specs.Sequential.{statements}
 use Rattle.trees.specs.declared.tree.Stmt.{Stmt}
 use Rattle.trees.specs.declared.tree.Core.{Core}
 use Rattle.trees.specs.declared.tree.Core.TheFolds.{fold_out-Stmt}
 use Rattle.trees.specs.Trees.{Deed, simple, branch, repeat, Item, name_of, core_step, stmt_step, items_of, deed_of, marked_before}
 use Rattle.trees.specs.Trees.{all_before, block_of}
+use Rattle.trees.specs.Parts.{first_inside, second_inside}
+use Rattle.trees.proofs.Held.{held}
 use Rattle.round_rewrite.specs.Table.{Naming, numbers, each, no_mark, side, drawing, prologue, statement, rewritten}
 use Rattle.round_rewrite.specs.Writing.{TextBlock, Lays, bare_form, form, forms}
 use Rattle.language.proofs.Rests.{join_done}
 use Rattle.round_rewrite.proofs.Blocks.{statement-join}
+
+-- the measure falls from a statement to the first statements that it holds
+pub first_smaller : (d : Deed) (b : TextBlock) → first_inside d ≡ b → 2 * statements b < 2 * held d + 1
+first_smaller d b e =
+    let f = ap statements e in
+    omega (arith, f)
+
+-- the measure falls from a statement to the second statements that it holds
+pub second_smaller : (d : Deed) (b : TextBlock) → second_inside d ≡ b → 2 * statements b < 2 * held d + 1
+second_smaller d b e =
+    let f = ap statements e in
+    omega (arith, f)
 
 module _ (w : Naming tree.Name tree.Name tree.Name tree.Name) (last : ℕ) where
   -- statements rewritten in front of others are the rewritten block, joined with the others
@@ -64,6 +79,25 @@ module _ (w : Naming tree.Name tree.Name tree.Name tree.Name) (last : ℕ) where
       (d : Deed) → d ≡ deed_of core → IfOk r (λ v. Lays a (items v) (λ k. bare_form w last d k))
       → IfOk r (λ v. Lays a (items v) (λ k. bare_form w last (deed_of core) k))
   core_is r items a core d e h = IfOk-weaker r _ _ (λ v l. by_core a (items v) core d (sym e) l) h
+
+  -- an `if` whose branches are rewritten
+  pub if_is : {M N V E : Type 0} (r : Result V E) (items : V → List (Stmt M)) (a : List (Stmt M)) (core : Core N)
+      (s : RightSide tree.Name) (x y x' y' : TextBlock) → deed_of core ≡ branch s x y → x' ≡ rewritten w last x
+      → y' ≡ rewritten w last y → IfOk r (λ v. Lays a (items v) (λ k. choose no_mark (side w last s) x' y' k))
+      → IfOk r (λ v. Lays a (items v) (λ k. bare_form w last (deed_of core) k))
+  if_is r items a core s x y x' y' d e f h =
+      core_is r items a core (branch s x y) (sym d)
+      (IfOk-weaker r _ _ (λ v l k. l k ∙ (λ i. all_before (items_of a) (choose no_mark (side w last s) (e i) (f i) k))) h)
+
+  -- a `while` whose body is rewritten
+  pub while_is : {M N V E : Type 0} (r : Result V E) (items : V → List (Stmt M)) (a : List (Stmt M)) (core : Core N)
+      (s : RightSide tree.Name) (x x' : TextBlock) → deed_of core ≡ repeat s x
+      → x' ≡ join (rewritten w last x) (prologue w last no_mark done)
+      → IfOk r (λ v. Lays a (items v) (λ k. loop no_mark (side w last s) x' k))
+      → IfOk r (λ v. Lays a (items v) (λ k. bare_form w last (deed_of core) k))
+  while_is r items a core s x x' d e h =
+      core_is r items a core (repeat s x) (sym d)
+      (IfOk-weaker r _ _ (λ v l k. l k ∙ (λ i. all_before (items_of a) (loop no_mark (side w last s) (e i) k))) h)
 
   module _ {M N : Type 0} (ss : List (Stmt N)) (i : ℕ) where
     module _ (s : Stmt N) (lt : i < length ss) (is : s ≡ get_or ss i s) where

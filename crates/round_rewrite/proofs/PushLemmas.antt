@@ -1,5 +1,5 @@
 -- What is pushed for one number after the other.
-use Rattle.std.proofs.Common.{◌≡◌, ℕ, zero, suc, ◌+◌, ◌≤◌, List, [], ◌∷◌, ◌++◌, map, sym, ◌∙◌, ap, ap₂}
+use Rattle.std.proofs.Common.{◌≡◌, ℕ, zero, suc, ◌+◌, ◌≤◌, List, [], ◌∷◌, ◌++◌, map, refl, sym, ◌∙◌, ap, ap₂}
 use Rattle.std.proofs.Common.{arith, append_assoc, append-nil, drop, get_or, length, ◌<◌}
 use Rattle.std.specs.Prelude.{Result, Ok, Err, IfOk, IsOkAnd}
 use Rattle.std.proofs.lemmas.List.{map-append, drop_more, drop_all}
@@ -19,6 +19,12 @@ pub put_is : {X Y E : Type 0} (view : X → Y) (r : Result X E) (xs ys : List X)
     → IfOk r (λ v. view v ≡ y) → (x : X) × (ys ≡ xs ++ x ∷ []) × (view x ≡ y)
 put_is view (Ok x) xs ys y put seen = (x, put, seen)
 put_is view (Err e) xs ys y put seen = absurd put
+
+-- one value for each of a list, and one for each number
+pub each_number : {A B D : Type 0} (d : D) (f : A → B) (xs : List A) (start : ℕ)
+    → map (λ n. d) (numbers start (length xs)) ≡ map (λ y. d) (map f xs)
+each_number d f [] start = refl
+each_number d f (x ∷ xs) start = ap (λ l. d ∷ l) (each_number d f xs (suc start))
 
 -- one more is pushed
 pub pushed : {A B : Type 0} (view : A → B) (f : ℕ → B) (old : List B) (items : List A) (item : A) (k : ℕ)

@@ -1,7 +1,7 @@
 -- The bits of the round as they are written: from the highest down, each with its part of the next round.
 use Rattle.std.proofs.Common.{◌≡◌, ℕ, zero, suc, ◌+◌, List, [], ◌∷◌, ◌++◌, map, reverse, refl, sym, ◌∙◌, ap, arith, append_assoc}
 use Rattle.std.proofs.lemmas.List.{map-append, reverse-append}
-use Rattle.language.specs.Tree.{value}
+use Rattle.language.specs.Tree.{var, and, xor, two, value}
 use Rattle.language.specs.Sequential.{numbers}
 use Rattle.round_rewrite.specs.Table.{added, raised}
 use Rattle.round_rewrite.specs.Names.{bit_name, bit_names}
@@ -39,3 +39,11 @@ module _ {B : Type 0} (f : ℕ → B) where
       ∙ (ap (λ x. map view items ++ x ∷ others) seen
       ∙ (ap (λ xs. map view items ++ xs) (sym (highest_first k))
       ∙ (ap (λ n. map view items ++ reverse (map f (numbers 0 n))) (sym e) ∙ so))))
+
+-- what is carried out of one bit more
+pub carried_next : (n m : ℕ) → n ≡ suc m → two and (var (bit_name n)) (carried m) ≡ carried n
+carried_next n m e = ap (λ k. two and (var (bit_name k)) (carried m)) e ∙ sym (ap carried e)
+
+-- a bit of the next round, by what is carried to it
+pub raised_next : (n m : ℕ) → n ≡ suc m → two xor (var (bit_name n)) (carried m) ≡ raised_bit n
+raised_next n m e = ap (λ k. two xor (var (bit_name k)) (carried m)) e ∙ sym (ap raised_bit e)

@@ -30,6 +30,11 @@ Lays old new form = (rest : TextBlock) → all_before (items_of new) rest ≡ al
 abbrev pub Appends : {A T E : Type 0} → Result T E → List (Stmt A) → List (Stmt A) → (TextBlock → TextBlock) → Type 0
 Appends result old new form = IfOk result (λ success. Lays old new form)
 
+-- a statement that holds no others
+abbrev pub IsSimple : Deed → Type 0
+IsSimple (simple _) = Unit {0}
+IsSimple _ = ⊥
+
 -- the names that thread lines have
 abbrev pub line_names : List tree.ThreadLine → List tree.Name
 line_names ts = map (λ (line : tree.ThreadLine). line.name) ts

@@ -1,6 +1,7 @@
 //! What assignments are rewritten to.
 
-ghost use Rattle.std.specs.Prelude.{◌≡◌, suc, ◌+◌, ◌<◌, ◌≤◌, ◌^◌, ◌++◌, IfOk, map, length};
+ghost use Rattle.std.specs.Prelude.{◌≡◌, suc, ◌+◌, ◌<◌, ◌≤◌, ◌^◌, ◌++◌, [], ◌∷◌, IfOk, cond, map};
+ghost use Rattle.std.specs.Prelude.{length};
 ghost use Rattle.language.specs.Tree.{any, var};
 ghost use Rattle.trees.specs.Trees.{name_of, names_of, expr_of, rhs_of, rhss_of};
 ghost use Rattle.round_rewrite.specs.Table.{numbers, draws, targets, sides, copy_value};
@@ -8,7 +9,6 @@ ghost use Rattle.round_rewrite.specs.Table.{expression_form};
 ghost use Rattle.round_rewrite.specs.Table.{each};
 ghost use Rattle.round_rewrite.specs.Names.{copy_name, drawn_name};
 
-use crate::expression::temporary;
 use crate::lists::{put, put_made};
 use crate::names::{clone_name, copy, drawn};
 use crate::writer::Writer;
@@ -28,7 +28,7 @@ pub(crate) fn temporaries<A: Allocator + Copy>(
 {
     let mut list = names;
     for k in 0..number {
-        put(&mut list, drawn(*alloc, k)?)?;
+        put_made(&mut list, drawn(*alloc, k))?;
     }
     Ok(list)
 }
@@ -51,6 +51,18 @@ pub(crate) fn any_values<A: Allocator + Copy>(
 impl<'a, N: Allocator, A: Allocator + Copy> Writer<'a, N, A> {
     ghost use Rattle.round_rewrite.specs.Writing.{naming_of};
 
+    /// How many temporaries a target and its right side draw: one if a `?` has a global target.
+    fn draws_for(&self, x: &Name<N>, r: &Rhs<N>) -> usize
+        ensures count { result
+            ≡ draws (naming_of self.now).is_shared (name_of x.now ∷ []) (rhs_of r.now ∷ []) }
+        ensures few { result ≤ 1 }
+    {
+        match r {
+            Rhs::Any => usize::from(self.is_shared(x)),
+            Rhs::Value(_) => 0,
+        }
+    }
+
     /// How many `?` with a global target an assignment has: it draws that many temporaries. Each call has a target
     /// less; a checked program of at most 128 places has no more targets than places.
     pub(crate) fn draws(&self, xs: &[Name<N>], rs: &[Rhs<N>]) -> usize
@@ -64,15 +76,10 @@ impl<'a, N: Allocator, A: Allocator + Copy> Writer<'a, N, A> {
         let Some((r, others)) = rs.split_first() else {
             return 0;
         };
-        let number = self.draws(more, others);
-        match r {
-            Rhs::Any => number + usize::from(self.is_shared(x)),
-            Rhs::Value(_) => number,
-        }
+        self.draws_for(x, r) + self.draws(more, others)
     }
 
     /// Appends the copies of a global for each round to targets.
-    #[tactic(auto, using(crate::proofs::PushLemmas::pushed))]
     pub(crate) fn copies(&self, x: &Name<N>, into: &mut Vec<Name<A>, A>) -> Result<(), AllocError>
         ensures { IfOk result
             (λ _. names_of into.new.items
@@ -80,35 +87,22 @@ impl<'a, N: Allocator, A: Allocator + Copy> Writer<'a, N, A> {
             (numbers 0 (suc self.now.rounds.last))) }
     {
         for round in 0..self.rounds.count() {
-            put(into, copy(*self.alloc, round, x)?)?;
+            put_made(into, copy(*self.alloc, round, x))?;
         }
         Ok(())
     }
 
-    /// Appends the targets of an assignment to others: all copies of a global, a local itself.
-    pub(crate) fn targets(
-        &self,
-        xs: &[Name<N>],
-        rs: &[Rhs<N>],
-        into: &mut Vec<Name<A>, A>,
-    ) -> Result<(), AllocError>
+    /// Appends what one target of an assignment becomes to others: all copies of a global, a local itself.
+    fn targets_for(&self, x: &Name<N>, into: &mut Vec<Name<A>, A>) -> Result<(), AllocError>
         ensures { IfOk result (λ _. names_of into.new.items
-            ≡ names_of into.old.items ++ targets (naming_of self.now) self.now.rounds.last
-            (names_of xs.now)
-            (rhss_of rs.now)) }
+            ≡ names_of into.old.items ++ cond ((naming_of self.now).is_shared (name_of x.now))
+            (map (λ k. copy_name k (name_of x.now)) (numbers 0 (suc self.now.rounds.last)))
+            (name_of x.now ∷ [])) }
     {
-        let Some((x, more)) = xs.split_first() else {
-            return Ok(());
-        };
-        let Some((_, others)) = rs.split_first() else {
-            return Ok(());
-        };
         if self.is_shared(x) {
-            self.copies(x, into)?;
-            self.targets(more, others, into)
+            self.copies(x, into)
         } else {
-            put_made(into, clone_name(*self.alloc, x))?;
-            self.targets(more, others, into)
+            put_made(into, clone_name(*self.alloc, x))
         }
     }
 
@@ -127,8 +121,8 @@ impl<'a, N: Allocator, A: Allocator + Copy> Writer<'a, N, A> {
             (name_of x.now)) (numbers 0 (suc self.now.rounds.last))) }
     {
         for round in 0..self.rounds.count() {
-            let value = temporary(self.alloc, number)?;
-            put_made(into, self.copy_value(value, x, round))?;
+            let value = drawn(*self.alloc, number)?;
+            put_made(into, self.copy_value(Expr::Var(value), x, round))?;
         }
         Ok(())
     }
@@ -154,17 +148,46 @@ impl<'a, N: Allocator, A: Allocator + Copy> Writer<'a, N, A> {
         Ok(())
     }
 
-    /// Appends the right sides of an assignment to others; the first temporary that is free has this number.
-    pub(crate) fn sides(
+    /// Appends what the targets of one target get to right sides, if the first temporary that is free has this number.
+    fn sides_for(
+        &self,
+        number: usize,
+        x: &Name<N>,
+        r: &Rhs<N>,
+        into: &mut Vec<Rhs<A>, A>,
+    ) -> Result<(), AllocError>
+        requires { number < 2 ^ 63 }
+        ensures { IfOk result (λ _. rhss_of into.new.items
+            ≡ rhss_of into.old.items ++ sides (naming_of self.now) self.now.rounds.last number
+            (name_of x.now ∷ [])
+            (rhs_of r.now ∷ [])) }
+    {
+        if !self.is_shared(x) {
+            return put_made(into, self.side(r));
+        }
+        match r {
+            Rhs::Any => self.drawn_sides(number, x, into),
+            Rhs::Value(e) => self.value_sides(e, x, into),
+        }
+    }
+
+    /// Appends the targets and the right sides of an assignment to others; the first temporary that is free has this
+    /// number.
+    pub(crate) fn both_sides(
         &self,
         number: usize,
         xs: &[Name<N>],
         rs: &[Rhs<N>],
-        into: &mut Vec<Rhs<A>, A>,
+        left: &mut Vec<Name<A>, A>,
+        right: &mut Vec<Rhs<A>, A>,
     ) -> Result<(), AllocError>
         requires { number + length xs.now < 2 ^ 63 }
-        ensures { IfOk result (λ _. rhss_of into.new.items
-            ≡ rhss_of into.old.items ++ sides (naming_of self.now) self.now.rounds.last number
+        ensures targets { IfOk result (λ _. names_of left.new.items
+            ≡ names_of left.old.items ++ targets (naming_of self.now) self.now.rounds.last
+            (names_of xs.now)
+            (rhss_of rs.now)) }
+        ensures sides { IfOk result (λ _. rhss_of right.new.items
+            ≡ rhss_of right.old.items ++ sides (naming_of self.now) self.now.rounds.last number
             (names_of xs.now)
             (rhss_of rs.now)) }
     {
@@ -174,19 +197,8 @@ impl<'a, N: Allocator, A: Allocator + Copy> Writer<'a, N, A> {
         let Some((r, others)) = rs.split_first() else {
             return Ok(());
         };
-        if !self.is_shared(x) {
-            put_made(into, self.side(r))?;
-            return self.sides(number, more, others, into);
-        }
-        match r {
-            Rhs::Any => {
-                self.drawn_sides(number, x, into)?;
-                self.sides(number + 1, more, others, into)
-            }
-            Rhs::Value(e) => {
-                self.value_sides(e, x, into)?;
-                self.sides(number, more, others, into)
-            }
-        }
+        self.targets_for(x, left)?;
+        self.sides_for(number, x, r, right)?;
+        self.both_sides(number + self.draws_for(x, r), more, others, left, right)
     }
 }

@@ -4,14 +4,14 @@ ghost use Rattle.std.specs.Prelude.{◌≡◌, true, [], ◌∷◌, ◌++◌, If
 ghost use Rattle.language.specs.Tree.{const, any, negation, value, assign, assume};
 ghost use Rattle.trees.specs.Trees.{simple, repeat, names_of, expr_of, rhs_of, rhss_of, deed_of};
 ghost use Rattle.trees.specs.Trees.{block_of};
-ghost use Rattle.round_rewrite.specs.Table.{in_round, rise, raised};
+ghost use Rattle.round_rewrite.specs.Table.{each, in_round, rise, raised};
 ghost use Rattle.round_rewrite.specs.Names.{fresh_name, bit_names};
 ghost use Rattle.round_rewrite.specs.Writing.{carried, raised_bit, stop_testing, stopping};
 ghost use Rattle.round_rewrite.specs.Writing.{failed};
 
 use crate::block::{Stmts, push, push_made, single};
-use crate::expression::{bit_of, not, operation, variable};
-use crate::lists::put;
+use crate::expression::{not, operation};
+use crate::lists::{constants, put, put_made};
 use crate::names::{bit, fixed};
 use crate::writer::Writer;
 use std::alloc::{AllocError, Allocator};
@@ -38,40 +38,16 @@ pub(crate) fn push_name<A: Allocator + Copy>(
     Ok(list)
 }
 
-/// Appends a right side to others.
-fn push_side<A: Allocator>(side: Rhs<A>, into: Vec<Rhs<A>, A>) -> Result<Vec<Rhs<A>, A>, AllocError>
-    ensures { IfOk result (λ v. rhss_of v.items ≡ rhss_of into.items ++ rhs_of side ∷ []) }
-{
-    let mut list = into;
-    put(&mut list, side)?;
-    Ok(list)
-}
-
-/// The assignment of 1 to a variable.
-fn set<A: Allocator + Copy>(alloc: &A, text: &str) -> Result<Core<A>, AllocError>
-    ensures { IfOk result
-        (λ c. deed_of c ≡ simple (assign (fresh_name text.now ∷ []) (value (const true) ∷ []))) }
-{
-    let targets = push_name(alloc, text, Vec::new(*alloc))?;
-    let sides = push_side(constant(true), Vec::new(*alloc))?;
-    Ok(Core::Assign(targets, sides))
-}
-
-/// The assignment of 1 to two variables.
-fn set_both<A: Allocator + Copy>(
+/// The assignment of a constant to variables.
+pub(crate) fn set_all<A: Allocator + Copy>(
     alloc: &A,
-    first: &str,
-    second: &str,
+    bit: bool,
+    targets: Vec<Name<A>, A>,
 ) -> Result<Core<A>, AllocError>
-    ensures { IfOk result (λ c. deed_of c
-        ≡ simple
-        (assign (fresh_name first.now ∷ fresh_name second.now ∷ [])
-        (value (const true) ∷ value (const true) ∷ []))) }
+    ensures { IfOk result (λ c. deed_of c ≡ simple (assign (names_of targets.items)
+        (each (value (const bit)) (names_of targets.items)))) }
 {
-    let target = push_name(alloc, first, Vec::new(*alloc))?;
-    let targets = push_name(alloc, second, target)?;
-    let side = push_side(constant(true), Vec::new(*alloc))?;
-    let sides = push_side(constant(true), side)?;
+    let sides = constants(*alloc, bit, &targets)?;
     Ok(Core::Assign(targets, sides))
 }
 
@@ -81,15 +57,16 @@ pub(crate) fn stop_test<A: Allocator + Copy>(alloc: &A) -> Result<Core<A>, Alloc
 {
     let yes = single(alloc, Core::Return)?;
     let no = single(alloc, Core::Skip)?;
-    let test = variable(alloc, "stop__")?;
-    Ok(Core::If(Rhs::Value(test), yes, no))
+    let stop = fixed(*alloc, "stop__")?;
+    Ok(Core::If(Rhs::Value(Expr::Var(stop)), yes, no))
 }
 
 /// The choice to stop.
 pub(crate) fn stop_choice<A: Allocator + Copy>(alloc: &A) -> Result<Core<A>, AllocError>
     ensures { IfOk result (λ c. deed_of c ≡ stopping) }
 {
-    let yes = single(alloc, set(alloc, "stop__")?)?;
+    let stop = push_name(alloc, "stop__", Vec::new(*alloc))?;
+    let yes = single(alloc, set_all(alloc, true, stop)?)?;
     let no = single(alloc, Core::Skip)?;
     Ok(Core::If(Rhs::Any, yes, no))
 }
@@ -98,8 +75,10 @@ pub(crate) fn stop_choice<A: Allocator + Copy>(alloc: &A) -> Result<Core<A>, All
 pub(crate) fn failed<A: Allocator + Copy>(alloc: &A) -> Result<Stmts<A>, AllocError>
     ensures { IfOk result (λ v. block_of v.items ≡ failed) }
 {
+    let bad = push_name(alloc, "bad__", Vec::new(*alloc))?;
+    let both = push_name(alloc, "stop__", bad)?;
     let mut block = Vec::new(*alloc);
-    push_made(set_both(alloc, "bad__", "stop__"), &mut block)?;
+    push_made(set_all(alloc, true, both), &mut block)?;
     push(Core::Return, &mut block)?;
     Ok(block)
 }
@@ -115,7 +94,7 @@ pub(crate) fn push_bits<A: Allocator + Copy>(
 {
     let mut list = into;
     for number in (0..count).rev() {
-        put(&mut list, bit(*alloc, number)?)?;
+        put_made(&mut list, bit(*alloc, number))?;
     }
     Ok(list)
 }
@@ -124,24 +103,24 @@ pub(crate) fn push_bits<A: Allocator + Copy>(
 fn carry<A: Allocator + Copy>(alloc: &A, number: u8) -> Result<Expr<A>, AllocError>
     ensures { IfOk result (λ e. expr_of e ≡ carried number) }
 {
-    let bit = bit_of(alloc, number)?;
+    let name = bit(*alloc, number)?;
     if number == 0 {
-        return Ok(bit);
+        return Ok(Expr::Var(name));
     }
     let below = carry(alloc, number - 1)?;
-    operation(alloc, Op::And, bit, below)
+    operation(alloc, Op::And, Expr::Var(name), below)
 }
 
 /// A bit of the next round's number.
 fn next_bit<A: Allocator + Copy>(alloc: &A, number: u8) -> Result<Expr<A>, AllocError>
     ensures { IfOk result (λ e. expr_of e ≡ raised_bit number) }
 {
-    let bit = bit_of(alloc, number)?;
+    let name = bit(*alloc, number)?;
     if number == 0 {
-        return not(alloc, bit);
+        return not(alloc, Expr::Var(name));
     }
     let below = carry(alloc, number - 1)?;
-    operation(alloc, Op::Xor, bit, below)
+    operation(alloc, Op::Xor, Expr::Var(name), below)
 }
 
 /// A given number of bits of the next round's number, the highest bit first.

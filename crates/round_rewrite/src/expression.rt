@@ -10,54 +10,10 @@ ghost use Rattle.round_rewrite.specs.Names.{fresh_name, bit_name, copy_name, dra
 ghost use Rattle.round_rewrite.specs.Limits.{most_rounds};
 
 use crate::lists::put_made;
-use crate::names::{bit, clone_name, copy, drawn, fixed};
+use crate::names::{bit, clone_name, copy};
 use crate::writer::Writer;
 use std::alloc::{AllocError, Allocator};
 use trees::{Expr, Name, Op, Rhs, declares};
-
-/// A read of a name.
-pub(crate) fn read_of<A: Allocator>(x: Name<A>) -> Expr<A>
-    ensures { expr_of result ≡ var (name_of x) }
-{
-    Expr::Var(x)
-}
-
-/// A variable.
-pub(crate) fn variable<A: Allocator + Copy>(alloc: &A, text: &str) -> Result<Expr<A>, AllocError>
-    ensures { IfOk result (λ e. expr_of e ≡ var (fresh_name text.now)) }
-{
-    Ok(Expr::Var(fixed(*alloc, text)?))
-}
-
-/// A read of a bit of the round's number, by its own number.
-pub(crate) fn bit_of<A: Allocator + Copy>(alloc: &A, number: u8) -> Result<Expr<A>, AllocError>
-    ensures { IfOk result (λ e. expr_of e ≡ var (bit_name number)) }
-{
-    Ok(Expr::Var(bit(*alloc, number)?))
-}
-
-/// A read of the copy of a global for a round.
-pub(crate) fn copy_of<N: Allocator, A: Allocator + Copy>(
-    alloc: &A,
-    round: u8,
-    x: &Name<N>,
-) -> Result<Expr<A>, AllocError>
-    requires { round < most_rounds }
-    ensures { IfOk result (λ e. expr_of e ≡ var (copy_name round (name_of x.now))) }
-{
-    Ok(Expr::Var(copy(*alloc, round, x)?))
-}
-
-/// A temporary, counted from 0.
-pub(crate) fn temporary<A: Allocator + Copy>(
-    alloc: &A,
-    number: usize,
-) -> Result<Expr<A>, AllocError>
-    requires { number < 2 ^ 63 }
-    ensures { IfOk result (λ e. expr_of e ≡ var (drawn_name number)) }
-{
-    Ok(Expr::Var(drawn(*alloc, number)?))
-}
 
 /// The negation of an expression.
 pub(crate) fn not<A: Allocator + Copy>(alloc: &A, e: Expr<A>) -> Result<Expr<A>, AllocError>
@@ -84,11 +40,11 @@ pub(crate) fn operation<A: Allocator + Copy>(
 fn literal<A: Allocator + Copy>(alloc: &A, value: u8, number: u8) -> Result<Expr<A>, AllocError>
     ensures { IfOk result (λ e. expr_of e ≡ literal value (bit_name number)) }
 {
-    let bare = bit_of(alloc, number)?;
+    let name = bit(*alloc, number)?;
     if value == 0 {
-        not(alloc, bare)
+        not(alloc, Expr::Var(name))
     } else {
-        Ok(bare)
+        Ok(Expr::Var(name))
     }
 }
 
@@ -147,8 +103,8 @@ impl<'a, N: Allocator, A: Allocator + Copy> Writer<'a, N, A> {
             (in_round (naming_of self.now) self.now.rounds.last round)
             (var (copy_name round (name_of x.now)))) }
     {
-        let copy = copy_of(self.alloc, round, x)?;
-        self.guarded(copy, round)
+        let name = copy(*self.alloc, round, x)?;
+        self.guarded(Expr::Var(name), round)
     }
 
     /// A read of a global in the rounds up to this one: its copy for the round.
@@ -233,8 +189,8 @@ impl<'a, N: Allocator, A: Allocator + Copy> Writer<'a, N, A> {
     {
         let is_round = self.in_round(round)?;
         let other = not(self.alloc, is_round)?;
-        let copy = copy_of(self.alloc, round, x)?;
-        operation(self.alloc, Op::And, other, copy)
+        let name = copy(*self.alloc, round, x)?;
+        operation(self.alloc, Op::And, other, Expr::Var(name))
     }
 
     /// What the copy of a global for a round gets if the global gets `value`: in that round the value, in every

@@ -8,10 +8,9 @@ ghost use Rattle.round_rewrite.specs.Names.{numbered_name, copy_name};
 ghost use Rattle.round_rewrite.specs.Limits.{most_rounds};
 
 use crate::cores::constant;
-use crate::expression::copy_of;
-use crate::names::{clone_name, numbered};
+use crate::names::{clone_name, copy, numbered};
 use std::alloc::{AllocError, Allocator};
-use trees::{Name, Rhs};
+use trees::{Expr, Name, Rhs};
 
 /// Appends a value to others.
 pub(crate) fn put<T: Drop, A: Allocator>(list: &mut Vec<T, A>, value: T) -> Result<(), AllocError>
@@ -42,7 +41,7 @@ pub(crate) fn clone_names<N: Allocator, A: Allocator + Copy>(
 {
     let mut list = into;
     for x in xs {
-        put(&mut list, clone_name(*alloc, x)?)?;
+        put_made(&mut list, clone_name(*alloc, x))?;
     }
     Ok(list)
 }
@@ -61,35 +60,22 @@ pub(crate) fn numbered_all<N: Allocator, A: Allocator + Copy>(
 {
     let mut list = into;
     for x in xs {
-        put(&mut list, numbered(*alloc, x, mark, round)?)?;
+        put_made(&mut list, numbered(*alloc, x, mark, round))?;
     }
     Ok(list)
 }
 
-/// A `?` for each name.
-pub(crate) fn guessed<N: Allocator, A: Allocator>(
+/// A constant for each name.
+pub(crate) fn constants<N: Allocator, A: Allocator>(
     alloc: A,
+    bit: bool,
     xs: &[Name<N>],
 ) -> Result<Vec<Rhs<A>, A>, AllocError>
-    ensures { IfOk result (λ v. rhss_of v.items ≡ each any (names_of xs.now)) }
+    ensures { IfOk result (λ v. rhss_of v.items ≡ each (value (const bit)) (names_of xs.now)) }
 {
     let mut list = Vec::new(alloc);
     for _x in xs {
-        put(&mut list, Rhs::Any)?;
-    }
-    Ok(list)
-}
-
-/// A 0 for each name.
-pub(crate) fn zeros<N: Allocator, A: Allocator>(
-    alloc: A,
-    xs: &[Name<N>],
-) -> Result<Vec<Rhs<A>, A>, AllocError>
-    ensures { IfOk result (λ v. rhss_of v.items ≡ each (value (const false)) (names_of xs.now)) }
-{
-    let mut list = Vec::new(alloc);
-    for _x in xs {
-        put(&mut list, constant(false))?;
+        put(&mut list, constant(bit))?;
     }
     Ok(list)
 }
@@ -106,7 +92,8 @@ pub(crate) fn reads<N: Allocator, A: Allocator + Copy>(
 {
     let mut list = Vec::new(*alloc);
     for x in xs {
-        put(&mut list, Rhs::Value(copy_of(alloc, round, x)?))?;
+        let name = copy(*alloc, round, x)?;
+        put(&mut list, Rhs::Value(Expr::Var(name)))?;
     }
     Ok(list)
 }

@@ -9,14 +9,15 @@ ghost use Rattle.round_rewrite.specs.Names.{by_names, copy_name, save_name};
 ghost use Rattle.round_rewrite.specs.Writing.{Appends, line_names};
 ghost use Rattle.round_rewrite.specs.Limits.{most_rounds};
 
+use crate::assignment::any_values;
 use crate::block::{Stmts, push, push_made};
-use crate::cores::{push_bits, push_name};
-use crate::expression::{copy_of, operation, read_of};
-use crate::lists::{guessed, numbered_all, reads, zeros};
-use crate::names::{COPY, GUESS, clone_name, numbered};
+use crate::cores::{push_bits, push_name, set_all};
+use crate::expression::operation;
+use crate::lists::{numbered_all, reads};
+use crate::names::{COPY, GUESS, clone_name, copy, numbered};
 use crate::rounds::Rounds;
 use std::alloc::{AllocError, Allocator};
-use trees::{Core, Name, Op, Rhs, Stmt, Thread};
+use trees::{Core, Expr, Name, Op, Rhs, Stmt, Thread};
 
 /// Writes the body of the first procedure: where it allocates, for how many rounds, and the globals of the source.
 #[derive(Drop)]
@@ -34,8 +35,7 @@ fn reset<A: Allocator + Copy>(alloc: &A, rounds: Rounds) -> Result<Core<A>, Allo
 {
     let bits = push_bits(alloc, rounds.bits(), Vec::new(*alloc))?;
     let targets = push_name(alloc, "stop__", bits)?;
-    let sides = zeros(*alloc, &targets)?;
-    Ok(Core::Assign(targets, sides))
+    set_all(alloc, false, targets)
 }
 
 /// The `assume` that a round's guess of a global is what the round before ended with.
@@ -49,10 +49,9 @@ fn agrees<N: Allocator, A: Allocator + Copy>(
         ≡ simple (assume (value (two equal (var (save_name (suc round) (name_of x.now)))
         (var (copy_name round (name_of x.now))))))) }
 {
-    let saved = numbered(*alloc, x, GUESS, round + 1)?;
-    let kept = read_of(saved);
-    let reached = copy_of(alloc, round, x)?;
-    let same = operation(alloc, Op::Equal, kept, reached)?;
+    let kept = numbered(*alloc, x, GUESS, round + 1)?;
+    let reached = copy(*alloc, round, x)?;
+    let same = operation(alloc, Op::Equal, Expr::Var(kept), Expr::Var(reached))?;
     Ok(Core::Assume(Rhs::Value(same)))
 }
 
@@ -65,7 +64,7 @@ impl<'a, N: Allocator, A: Allocator + Copy> MainWriter<'a, N, A> {
             (each any (names_of self.now.globals.now)))) }
     {
         let targets = numbered_all(self.alloc, COPY, round, self.globals, Vec::new(*self.alloc))?;
-        let sides = guessed(*self.alloc, self.globals)?;
+        let sides = any_values(self.alloc, self.globals.len())?;
         Ok(Core::Assign(targets, sides))
     }
 

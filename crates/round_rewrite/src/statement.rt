@@ -2,11 +2,12 @@
 
 ghost use Rattle.std.specs.Prelude.{◌≡◌, ◌<◌, ◌^◌, [], IfOk, cond, map, option_map};
 ghost use Rattle.language.specs.Tree.{goto, assert, assume, assign, call, call_for, leave_with};
-ghost use Rattle.trees.specs.Trees.{simple, branch, repeat, name_of, names_of, rhs_of, rhss_of};
-ghost use Rattle.trees.specs.Trees.{expr_of, exprs_of, items_of, deed_of, block_of};
+ghost use Rattle.language.specs.Tree.{done, choose, loop};
+ghost use Rattle.trees.specs.Trees.{simple, name_of, names_of, rhs_of, rhss_of};
+ghost use Rattle.trees.specs.Trees.{expr_of, exprs_of, items_of, deed_of, block_of, all_before};
 ghost use Rattle.round_rewrite.specs.Table.{drawing, prologue, received, receiver, expression_form};
-ghost use Rattle.round_rewrite.specs.Table.{statement};
-ghost use Rattle.round_rewrite.specs.Writing.{Appends, Lays, bare_form, forms};
+ghost use Rattle.round_rewrite.specs.Table.{no_mark, side, statement};
+ghost use Rattle.round_rewrite.specs.Writing.{Appends, Lays, IsSimple, bare_form, forms};
 
 use crate::assignment::{any_values, temporaries};
 use crate::block::{Stmts, push, push_made, push_marked, single};
@@ -57,9 +58,8 @@ impl<'a, N: Allocator, A: Allocator + Copy> Writer<'a, N, A> {
     {
         self.drawing(self.draws(xs, rs), into)?;
         let mut targets = Vec::new(*self.alloc);
-        self.targets(xs, rs, &mut targets)?;
         let mut sides = Vec::new(*self.alloc);
-        self.sides(0, xs, rs, &mut sides)?;
+        self.both_sides(0, xs, rs, &mut targets, &mut sides)?;
         push(Core::Assign(targets, sides), into)
     }
 
@@ -73,15 +73,6 @@ impl<'a, N: Allocator, A: Allocator + Copy> Writer<'a, N, A> {
         let arguments = self.arguments(es)?;
         push(Core::Call(name, arguments), into)?;
         push_made(stop_test(self.alloc), into)
-    }
-
-    /// Appends the rewriting of a return of a value to others.
-    fn given(&self, e: &Expr<N>, into: &mut Stmts<A>) -> Result<(), AllocError>
-        ensures { Appends result into.old.items into.new.items
-            (statement (naming_of self.now) self.now.rounds.last (leave_with (expr_of e.now))) }
-    {
-        let value = self.expression(e)?;
-        push(Core::Give(value), into)
     }
 
     /// What the value of a call goes to: a global's to the first temporary, a local's to the local itself.
@@ -107,20 +98,6 @@ impl<'a, N: Allocator, A: Allocator + Copy> Writer<'a, N, A> {
         let mut sides = Vec::new(*self.alloc);
         self.drawn_sides(0, x, &mut sides)?;
         push(Core::Assign(targets, sides), into)
-    }
-
-    /// Appends what comes after the call for a value, if a global gets it, to others.
-    fn landing(&self, x: &Name<N>, into: &mut Stmts<A>) -> Result<(), AllocError>
-        ensures { Appends result into.old.items into.new.items
-            (λ rest.
-            cond ((naming_of self.now).is_shared (name_of x.now))
-            (received (naming_of self.now) self.now.rounds.last (name_of x.now) rest) rest) }
-    {
-        if self.is_shared(x) {
-            self.received(x, into)
-        } else {
-            Ok(())
-        }
     }
 
     /// What a call for a value becomes, without what comes after it.
@@ -151,7 +128,11 @@ impl<'a, N: Allocator, A: Allocator + Copy> Writer<'a, N, A> {
     {
         push_made(self.called(x, p, es), into)?;
         push_made(stop_test(self.alloc), into)?;
-        self.landing(x, into)
+        if self.is_shared(x) {
+            self.received(x, into)
+        } else {
+            Ok(())
+        }
     }
 
     /// A copy of the label.
@@ -174,37 +155,33 @@ impl<'a, N: Allocator, A: Allocator + Copy> Writer<'a, N, A> {
         self.prologue(label, stmt.at, into)
     }
 
-    /// Appends the rewriting of statements to others.
-    #[cycle(rewriting)]
-    fn block(&self, stmts: &[Stmt<N>], into: &mut Stmts<A>) -> Result<(), AllocError>
+    /// Appends an `if` with this right side rewritten and these branches to others.
+    fn push_if(
+        &self,
+        r: &Rhs<N>,
+        yes: Stmts<A>,
+        no: Stmts<A>,
+        into: &mut Stmts<A>,
+    ) -> Result<(), AllocError>
         ensures { Appends result into.old.items into.new.items
-            (forms (naming_of self.now) self.now.rounds.last (items_of stmts.now)) }
+            (choose no_mark (side (naming_of self.now) self.now.rounds.last (rhs_of r.now))
+            (block_of yes.items) (block_of no.items)) }
     {
-        for stmt in stmts {
-            self.begin(stmt, into)?;
-            self.core(&stmt.core, into)?;
-        }
-        Ok(())
+        let test = self.side(r)?;
+        push(Core::If(test, yes, no), into)
     }
 
-    /// What statements are rewritten to.
-    #[cycle(rewriting)]
-    pub(crate) fn rewritten(&self, stmts: &[Stmt<N>]) -> Result<Stmts<A>, AllocError>
-        ensures { IfOk result (λ v. Lays [] v.items
-            (λ k. forms (naming_of self.now) self.now.rounds.last (items_of stmts.now) k)) }
-    {
-        let mut list = Vec::new(*self.alloc);
-        self.block(stmts, &mut list)?;
-        Ok(list)
-    }
-
-    /// Appends a `goto` to others.
-    fn jump(&self, l: &Name<N>, into: &mut Stmts<A>) -> Result<(), AllocError>
+    /// Appends a `while` with this right side rewritten and this body, which a prologue ends, to others.
+    fn push_while(&self, r: &Rhs<N>, body: Stmts<A>, into: &mut Stmts<A>) -> Result<(), AllocError>
         ensures { Appends result into.old.items into.new.items
-            (statement (naming_of self.now) self.now.rounds.last (goto (name_of l.now))) }
+            (loop no_mark (side (naming_of self.now) self.now.rounds.last (rhs_of r.now))
+            (all_before (items_of body.items)
+            (prologue (naming_of self.now) self.now.rounds.last no_mark done))) }
     {
-        let label = clone_name(*self.alloc, l)?;
-        push(Core::Goto(label), into)
+        let mut body = body;
+        self.prologue(None, 0, &mut body)?;
+        let test = self.side(r)?;
+        push(Core::While(test, body), into)
     }
 
     /// Appends the rewriting of an assert to others.
@@ -214,49 +191,41 @@ impl<'a, N: Allocator, A: Allocator + Copy> Writer<'a, N, A> {
     {
         let yes = single(self.alloc, Core::Skip)?;
         let no = failed(self.alloc)?;
-        let test = self.side(r)?;
-        push(Core::If(test, yes, no), into)
+        self.push_if(r, yes, no, into)
     }
 
-    /// Appends the rewriting of an assume to others.
-    fn assumed(&self, r: &Rhs<N>, into: &mut Stmts<A>) -> Result<(), AllocError>
+    /// Appends the rewriting of a statement that holds no others, without its prologue, to others.
+    fn simple(&self, core: &Core<N>, into: &mut Stmts<A>) -> Result<(), AllocError>
+        requires { IsSimple (deed_of core.now) }
         ensures { Appends result into.old.items into.new.items
-            (statement (naming_of self.now) self.now.rounds.last (assume (rhs_of r.now))) }
+            (bare_form (naming_of self.now) self.now.rounds.last (deed_of core.now)) }
     {
-        let test = self.side(r)?;
-        push(Core::Assume(test), into)
+        match core {
+            Core::Skip => push(Core::Skip, into),
+            Core::Return => push(Core::Return, into),
+            Core::Goto(l) => push(Core::Goto(clone_name(*self.alloc, l)?), into),
+            Core::Assert(r) => self.asserted(r, into),
+            Core::Assume(r) => push(Core::Assume(self.side(r)?), into),
+            Core::Assign(xs, rs) => self.assigned(xs, rs, into),
+            Core::Call(p, es) => self.call(p, es, into),
+            Core::CallTo(x, p, es) => self.call_for(x, p, es, into),
+            Core::Give(e) => push(Core::Give(self.expression(e)?), into),
+            Core::If(_, _, _) | Core::While(_, _) => unreachable!(),
+        }
     }
 
-    /// Appends the rewriting of an `if` to others.
+    /// What statements are rewritten to.
     #[cycle(rewriting)]
-    fn branch(
-        &self,
-        r: &Rhs<N>,
-        a: &[Stmt<N>],
-        b: &[Stmt<N>],
-        into: &mut Stmts<A>,
-    ) -> Result<(), AllocError>
-        ensures { Appends result into.old.items into.new.items
-            (bare_form (naming_of self.now) self.now.rounds.last
-            (branch (rhs_of r.now) (block_of a.now) (block_of b.now))) }
+    pub(crate) fn rewritten(&self, stmts: &[Stmt<N>]) -> Result<Stmts<A>, AllocError>
+        ensures { IfOk result (λ v. Lays [] v.items
+            (λ k. forms (naming_of self.now) self.now.rounds.last (items_of stmts.now) k)) }
     {
-        let yes = self.rewritten(a)?;
-        let no = self.rewritten(b)?;
-        let test = self.side(r)?;
-        push(Core::If(test, yes, no), into)
-    }
-
-    /// Appends the rewriting of a `while` to others.
-    #[cycle(rewriting)]
-    fn repeat(&self, r: &Rhs<N>, a: &[Stmt<N>], into: &mut Stmts<A>) -> Result<(), AllocError>
-        ensures { Appends result into.old.items into.new.items
-            (bare_form (naming_of self.now) self.now.rounds.last
-            (repeat (rhs_of r.now) (block_of a.now))) }
-    {
-        let mut body = self.rewritten(a)?;
-        self.prologue(None, 0, &mut body)?;
-        let test = self.side(r)?;
-        push(Core::While(test, body), into)
+        let mut list = Vec::new(*self.alloc);
+        for stmt in stmts {
+            self.begin(stmt, &mut list)?;
+            self.core(&stmt.core, &mut list)?;
+        }
+        Ok(list)
     }
 
     /// Appends the rewriting of one statement, without its prologue, to others.
@@ -266,17 +235,16 @@ impl<'a, N: Allocator, A: Allocator + Copy> Writer<'a, N, A> {
             (bare_form (naming_of self.now) self.now.rounds.last (deed_of core.now)) }
     {
         match core {
-            Core::Skip => push(Core::Skip, into),
-            Core::Return => push(Core::Return, into),
-            Core::Goto(l) => self.jump(l, into),
-            Core::Assert(r) => self.asserted(r, into),
-            Core::Assume(r) => self.assumed(r, into),
-            Core::Assign(xs, rs) => self.assigned(xs, rs, into),
-            Core::Call(p, es) => self.call(p, es, into),
-            Core::CallTo(x, p, es) => self.call_for(x, p, es, into),
-            Core::Give(e) => self.given(e, into),
-            Core::If(r, a, b) => self.branch(r, a, b, into),
-            Core::While(r, a) => self.repeat(r, a, into),
+            Core::If(r, a, b) => {
+                let yes = self.rewritten(a)?;
+                let no = self.rewritten(b)?;
+                self.push_if(r, yes, no, into)
+            }
+            Core::While(r, a) => {
+                let body = self.rewritten(a)?;
+                self.push_while(r, body, into)
+            }
+            _ => self.simple(core, into),
         }
     }
 }

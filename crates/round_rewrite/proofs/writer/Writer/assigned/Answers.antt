@@ -14,8 +14,8 @@ returns g c =
     let last = c.args.self.now.rounds.last in
     let xs = names_of c.args.xs.now in
     let rs = rhss_of c.args.rs.now in
-    let left = c.in_ok-targets.ensures ∙ ap (λ ns. names_of ns ++ targets w last xs rs) c.new-targets.ensures.items in
-    let right = c.in_ok-sides.ensures ∙ ap (λ ns. rhss_of ns ++ sides w last 0 xs rs) c.new-sides.ensures.items in
+    let left = c.in_ok-both_sides.ensures.targets ∙ ap (λ ns. names_of ns ++ targets w last xs rs) c.new-targets.ensures.items in
+    let right = c.in_ok-both_sides.ensures.sides ∙ ap (λ ns. rhss_of ns ++ sides w last 0 xs rs) c.new-sides.ensures.items in
     let deed = deed_of-Assign _ _ ∙ (λ i. simple (assign (left i) (right i))) in
     IfOk-weaker c.push.result _ _
     (λ _ l k. laid _ _ no_mark _ _ l deed k

@@ -3,6 +3,8 @@ use Rattle.trees.specs.Trees.{name_of, rhs_of, rhss_of}
 use Rattle.round_rewrite.specs.Table.{copy_value}
 use Rattle.round_rewrite.specs.Names.{drawn_name}
 use Rattle.round_rewrite.specs.Writing.{naming_of}
+use Rattle.std.proofs.Common.{◌∙◌, ap}
+use Rattle.trees.proofs.Folds.{expr_of-Var}
 use Rattle.round_rewrite.proofs.PushLemmas.{put_is, pushed_as, over_rounds}
 use Rattle.round_rewrite.proofs.writer.Writer.drawn_sides.Goals as goal
 
@@ -17,4 +19,4 @@ pub loop-round-preserved : goal.loop-round-preserved
 loop-round-preserved g c =
     let one = put_is rhs_of c.copy_value.result _ _ _ c.in_ok-put_made.ensures c.copy_value.ensures in
     pushed_as rhs_of (λ d. copy_value (naming_of c.args.self.now) c.args.self.now.rounds.last d (name_of c.args.x.now)) _ _ _ _ _ _ _
-    c.loop-round.invariant one.1 one.2 c.in_ok-value.ensures
+    c.loop-round.invariant one.1 one.2 (expr_of-Var _ ∙ ap var c.in_ok-value.ensures)
