@@ -6,7 +6,7 @@ ghost use Rattle.language.specs.Tree.{const, var, negation, two};
 ghost use Rattle.trees.specs.Trees.{name_of, operator_of, expr_of, exprs_of, rhs_of};
 ghost use Rattle.round_rewrite.specs.Table.{numbers, literal, has_value, in_round, read_by_round};
 ghost use Rattle.round_rewrite.specs.Table.{read, expression_form, side, copy_value};
-ghost use Rattle.round_rewrite.specs.Names.{fresh_name, bit_name, copy_name, drawn_name};
+ghost use Rattle.round_rewrite.specs.Names.{bit_name, copy_name};
 ghost use Rattle.round_rewrite.specs.Limits.{most_rounds};
 
 use crate::lists::put_made;

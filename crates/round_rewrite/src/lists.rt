@@ -1,7 +1,7 @@
 //! Lists: one more value; names and right sides, one for each name.
 
-ghost use Rattle.std.specs.Prelude.{◌≡◌, ◌++◌, ◌∷◌, [], ◌<◌, false, IfOk, IsOkAnd, map};
-ghost use Rattle.language.specs.Tree.{any, const, var, value};
+ghost use Rattle.std.specs.Prelude.{◌≡◌, ◌++◌, ◌∷◌, [], ◌<◌, IfOk, IsOkAnd, map};
+ghost use Rattle.language.specs.Tree.{const, var, value};
 ghost use Rattle.trees.specs.Trees.{names_of, rhss_of};
 ghost use Rattle.round_rewrite.specs.Table.{each};
 ghost use Rattle.round_rewrite.specs.Names.{numbered_name, copy_name};

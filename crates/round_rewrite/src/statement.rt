@@ -1,10 +1,10 @@
 //! What statements are rewritten to.
 
-ghost use Rattle.std.specs.Prelude.{◌≡◌, ◌<◌, ◌^◌, [], IfOk, cond, map, option_map};
-ghost use Rattle.language.specs.Tree.{goto, assert, assume, assign, call, call_for, leave_with};
+ghost use Rattle.std.specs.Prelude.{◌≡◌, ◌<◌, ◌^◌, [], IfOk, map, option_map};
+ghost use Rattle.language.specs.Tree.{assert, assign, call, call_for};
 ghost use Rattle.language.specs.Tree.{done, choose, loop};
 ghost use Rattle.trees.specs.Trees.{simple, name_of, names_of, rhs_of, rhss_of};
-ghost use Rattle.trees.specs.Trees.{expr_of, exprs_of, items_of, deed_of, block_of, all_before};
+ghost use Rattle.trees.specs.Trees.{exprs_of, items_of, deed_of, block_of, all_before};
 ghost use Rattle.round_rewrite.specs.Table.{drawing, prologue, received, receiver, expression_form};
 ghost use Rattle.round_rewrite.specs.Table.{no_mark, side, statement};
 ghost use Rattle.round_rewrite.specs.Writing.{Appends, Lays, IsSimple, bare_form, forms};

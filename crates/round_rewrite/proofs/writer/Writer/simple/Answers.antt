@@ -3,11 +3,11 @@ use Rattle.std.proofs.lemmas.Result.{IfOk-weaker}
 use Rattle.language.specs.Tree.{skip, leave, assign, assume, goto, call, call_for, leave_with}
 use Rattle.trees.specs.Trees.{simple, name_of, names_of, rhs_of, rhss_of, expr_of, exprs_of, deed_of}
 use Rattle.round_rewrite.specs.Table.{no_mark}
-use Rattle.round_rewrite.specs.Writing.{naming_of, IsSimple}
+use Rattle.round_rewrite.specs.Writing.{naming_of}
 use Rattle.round_rewrite.proofs.AppendLemmas.{laid}
 use Rattle.round_rewrite.proofs.Forms.{by_core, core_is}
 use Rattle.trees.proofs.Folds.{deed_of-Skip, deed_of-Return, deed_of-Goto, deed_of-Assert, deed_of-Assume, deed_of-Assign, deed_of-Call}
-use Rattle.trees.proofs.Folds.{deed_of-CallTo, deed_of-Give, deed_of-If, deed_of-While}
+use Rattle.trees.proofs.Folds.{deed_of-CallTo, deed_of-Give}
 use Rattle.round_rewrite.proofs.writer.Writer.simple.Goals as goal
 
 pub returns-in-Skip : goal.returns-in-Skip
