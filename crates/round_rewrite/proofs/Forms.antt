@@ -80,6 +80,15 @@ module _ (w : Naming tree.Name tree.Name tree.Name tree.Name) (last : ℕ) where
       → IfOk r (λ v. Lays a (items v) (λ k. bare_form w last (deed_of core) k))
   core_is r items a core d e h = IfOk-weaker r _ _ (λ v l. by_core a (items v) core d (sym e) l) h
 
+  -- a statement that becomes one statement, which is pushed
+  pub pushed_is : {M N V E : Type 0} (r : Result V E) (new a : List (Stmt M)) (core : Core N) (d p p' : Deed) → deed_of core ≡ d
+      → p' ≡ p → ((k : TextBlock) → marked_before no_mark p k ≡ bare_form w last d k)
+      → IfOk r (λ v. Lays a new (λ k. marked_before no_mark p' k))
+      → IfOk r (λ v. Lays a new (λ k. bare_form w last (deed_of core) k))
+  pushed_is r new a core d p p' e f same h =
+      IfOk-weaker r _ _ (λ v l k. l k ∙ (ap (λ x. all_before (items_of a) (marked_before no_mark x k)) f
+      ∙ (ap (all_before (items_of a)) (same k) ∙ ap (λ x. all_before (items_of a) (bare_form w last x k)) (sym e)))) h
+
   -- an `if` whose branches are rewritten
   pub if_is : {M N V E : Type 0} (r : Result V E) (items : V → List (Stmt M)) (a : List (Stmt M)) (core : Core N)
       (s : RightSide tree.Name) (x y x' y' : TextBlock) → deed_of core ≡ branch s x y → x' ≡ rewritten w last x

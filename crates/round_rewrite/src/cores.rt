@@ -34,7 +34,7 @@ pub(crate) fn push_name<A: Allocator + Copy>(
         (λ v. names_of v.items ≡ names_of into.items ++ fresh_name text.now ∷ []) }
 {
     let mut list = into;
-    put(&mut list, fixed(*alloc, text)?)?;
+    put_made(&mut list, fixed(*alloc, text))?;
     Ok(list)
 }
 

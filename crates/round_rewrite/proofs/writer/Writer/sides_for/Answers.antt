@@ -37,6 +37,8 @@ returns-in-Value g c =
     let x = name_of c.args.x.now in
     let old = rhss_of c.args.into.now.items in
     IfOk-weaker c.value_sides.result _ _
-    (λ _ l. l ∙ (ap (λ z. old ++ z) (side_value w last c.args.number x (expr_of c.in-Value.e) (sym c.is_shared.ensures ∙ c.if-not-is_shared.false))
+    (λ _ l. l
+    ∙ (ap (λ z. old ++ z)
+    (side_value w last c.args.number x (expr_of c.in-Value.e) (sym c.is_shared.ensures ∙ c.if-not-is_shared.false))
     ∙ ap (λ r. old ++ sides w last c.args.number (x ∷ []) (rhs_of r ∷ [])) (sym c.in-Value.is)))
     c.value_sides.ensures
