@@ -1,13 +1,40 @@
 -- What is found by keys after a value of a map was written.
 use Rattle.std.proofs.Common.{◌≡◌, ℕ, Bool, true, false, cond, List, [], ◌∷◌, Option, None, Some, slice_get, unwrap_or}
-use Rattle.std.proofs.Common.{zero, suc, refl, sym, ap, ◌∙◌}
+use Rattle.std.proofs.Common.{zero, suc, length, not, refl, sym, ap, ◌∙◌, arith, true≢false}
+use Rattle.std.specs.Bool.{◌==◌, OnFalse}
 use Rattle.std.specs.Cmp.{IsEquivalence}
 use Rattle.std.specs.List.{position_or_len}
 use Rattle.std.specs.Map.{keys_of, values_of, lookup}
+use Rattle.std.proofs.lemmas.Bool.{ne_eqb}
 use Rattle.std.proofs.lemmas.Option.{none-some, same_Some}
 use Rattle.indexmap.specs.IndexMap.{insert_entry}
 use Rattle.indexmap.specs.IndexSet.{insert_key}
 use Rattle.indexmap.proofs.SetLemmas.{keys_insert_entry, inserted_at}
+
+-- what a key finds after an insertion
+module _ {K V : Type 0} {eq : K → K → Bool} (laws : IsEquivalence eq) where
+  lookup_inserted : (es : List (K × V)) (k : K) (v : V) (j : K)
+      → lookup (eq j) (insert_entry eq es k v) ≡ cond (eq k j) (Some v) (lookup (eq j) es)
+  lookup_inserted [] k v j = ap (λ b. cond b (Some v) None) (laws.symm j k)
+  lookup_inserted (e ∷ es) k v j = by (eq k e.0) refl (eq k j) refl (lookup_inserted es k v j)
+    where
+      by : (b : Bool) → eq k e.0 ≡ b → (n : Bool) → eq k j ≡ n
+          → lookup (eq j) (insert_entry eq es k v) ≡ cond (eq k j) (Some v) (lookup (eq j) es)
+          → lookup (eq j) (cond b ((e.0, v) ∷ es) (e ∷ insert_entry eq es k v))
+          ≡ cond n (Some v) (cond (eq j e.0) (Some e.1) (lookup (eq j) es))
+      by true here true same rest = ap (λ b. cond b (Some v) (lookup (eq j) es)) (sym (laws.congr k j e.0 same) ∙ here)
+      by true here false apart rest =
+          let other = laws.symm j e.0 ∙ sym (laws.congr k e.0 j here) ∙ apart in
+          ap (λ b. cond b (Some v) (lookup (eq j) es)) other ∙ sym (ap (λ b. cond b (Some e.1) (lookup (eq j) es)) other)
+      by false there true same rest =
+          ap (λ b. cond b (Some e.1) (lookup (eq j) (insert_entry eq es k v))) (sym (laws.congr k j e.0 same) ∙ there)
+          ∙ rest ∙ ap (λ b. cond b (Some v) (lookup (eq j) es)) same
+      by false there false apart rest =
+          ap (λ o. cond (eq j e.0) (Some e.1) o) (rest ∙ ap (λ b. cond b (Some v) (lookup (eq j) es)) apart)
+
+  pub lookup_after : (es fs : List (K × V)) (k : K) (v : V) → fs ≡ insert_entry eq es k v
+      → (j : K) → lookup (eq j) fs ≡ cond (eq k j) (Some v) (lookup (eq j) es)
+  lookup_after es fs k v is j = ap (lookup (eq j)) is ∙ lookup_inserted es k v j
 
 -- something of a value, or of none, that was written to the key k
 module _ {K V X : Type 0} (eq : K → K → Bool) (of : Option V → X) (es fs : List (K × V)) (k : K) (new : V)
@@ -51,6 +78,13 @@ pub of_unwrapped : {V X : Type 0} (of : Option V → X) (found : Option V) (defa
     → of (Some (unwrap_or found default)) ≡ of found
 of_unwrapped of None default same = same
 of_unwrapped of (Some v) default same = refl
+
+-- where a list is known to be empty
+pub if_empty : {X : Type 0} (empty : Bool) (known all : List X) → empty ≡ (length known == 0) → known ≡ all
+    → OnFalse (not empty) (all ≡ [])
+if_empty false known all is same = tt
+if_empty true [] all is same = sym same
+if_empty true (x ∷ known) all is same = absurd (true≢false (is ∙ ne_eqb (suc (length known)) 0 (λ e. absurd (omega (arith, e)))))
 
 -- the key of the entry at an index
 pub key_at : {K X : Type 0} (es : List (K × X)) (i : ℕ) (e : K × X) → slice_get es i ≡ Some e → slice_get (keys_of es) i ≡ Some e.0

@@ -4,18 +4,19 @@ use Rattle.path_sets.proofs.ShardLemmas.{at_error}
 use Rattle.indexmap.specs.IndexMap.{get}
 use Rattle.indexmap.specs.Entry.{entry_value}
 use Rattle.summaries.specs.declared.calls.KnownCall.{KnownCall}
+use Rattle.summaries.specs.Calls.{sites_of}
 use Rattle.summaries.specs.Chains.{chain_of}
 use Rattle.summaries.specs.KnownCalls.{call_eq, sites_if_any, chain_if_any}
 use Rattle.summaries.specs.contracts.edge.CallKeyEq.TheImpl.Laws.{laws-law}
 use Rattle.summaries.proofs.ChainLemmas.{within_after}
-use Rattle.summaries.proofs.GroupLemmas.{added_after, all_after, keys_after, others_after, place_after}
+use Rattle.summaries.proofs.GroupLemmas.{added_after, all_after, if_empty, keys_after, others_after, place_after}
 use Rattle.summaries.proofs.calls.Calls.add_site.Given.{Over}
 use Rattle.summaries.proofs.calls.Calls.add_site.Goals as goal
 use Rattle.summaries.proofs.calls.Calls.add_site.Goals.{After-add}
 
 -- what was known of the call
 was : (g : Over) (c : After-add g) → Some c.into_mut-known.result.now ≡ get call_eq c.args.self.now.by_key c.args.key
-was g c = sym (sym c.in_ok-entry.ensures.value ∙ ap entry_value c.in-Occupied.is ∙ c.into_mut-known.ensures.value)
+was g c = sym c.into_mut-known.ensures.value ∙ sym (ap entry_value c.in-Occupied.is) ∙ c.in_ok-entry.ensures.value
 
 -- each chain is one of links
 pub invariant_of-self-in-Occupied : goal.invariant_of-self-in-Occupied
@@ -102,3 +103,8 @@ returns-in_ok-add-in-Occupied-clause-others g c =
 pub returns-in-Vacant-clause-others : goal.returns-in-Vacant-clause-others
 returns-in-Vacant-clause-others g c =
     others_after call_eq sites_if_any c.args.self.now.by_key.entries _ c.args.key c.insert.result.now (search rules)
+
+pub returns-in_ok-add-in-Occupied-clause-none : goal.returns-in_ok-add-in-Occupied-clause-none
+returns-in_ok-add-in-Occupied-clause-none g c =
+    if_empty c.is_empty-had.result c.as_slice.result.now (sites_of c.args.self.now c.args.key) c.is_empty-had.ensures
+    (c.as_slice.ensures ∙ ap sites_if_any (was g (goal.at.returns-in_ok-add-in-Occupied-clause-none g c).After-add))

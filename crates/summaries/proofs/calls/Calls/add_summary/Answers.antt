@@ -9,7 +9,7 @@ use Rattle.summaries.specs.Calls.{sites_of}
 use Rattle.summaries.specs.KnownCalls.{call_eq, chain_if_any, sites_if_any}
 use Rattle.summaries.specs.contracts.edge.CallKeyEq.TheImpl.Laws.{laws-law}
 use Rattle.summaries.proofs.ChainLemmas.{chain_added, chain_older, within_after}
-use Rattle.summaries.proofs.GroupLemmas.{added_after, all_after, keys_after, of_unwrapped, others_after, place_after}
+use Rattle.summaries.proofs.GroupLemmas.{added_after, all_after, keys_after, lookup_after, of_unwrapped, others_after, place_after}
 use Rattle.summaries.proofs.calls.Calls.add_summary.Given.{Over}
 use Rattle.summaries.proofs.calls.Calls.add_summary.Goals as goal
 use Rattle.summaries.proofs.calls.Calls.add_summary.Goals.{After-or_insert-known}
@@ -44,7 +44,7 @@ invariant_of-self-in-Break-branch-2 g c =
     let same = ap length c.in_err-known.ensures.err in
     let within = calls.within c.args.key in
     record {
-      within = within_after calls.by_key.entries _ c.args.key c.or_insert-known.result.now (search rules)
+      within = within_after calls.by_key.entries _ c.args.key c.or_insert-known.result.now (lookup_after laws-law _ _ _ _ (search rules))
           (length calls.left.links.items) (length c.add.new.self.links.items) calls.within
           (omega (arith, same)) (omega (arith, same, known, within));
     }
@@ -54,13 +54,13 @@ returns-in_err-known-clause-err g c =
     let links = c.args.self.now.left.links.items in
     at_error c.from_residual-in_err-known.result
     (all_after call_eq (λ o. chain_of c.add.new.self.links.items (chain_if_any o)) c.args.self.now.by_key.entries _ c.args.key
-    c.or_insert-known.result.now (search rules) laws-law
+    c.or_insert-known.result.now (lookup_after laws-law _ _ _ _ (search rules)) laws-law
     (ap (chain_of c.add.new.self.links.items) (chain g (goal.at.returns-in_err-known-clause-err g c).After-or_insert-known))
     ∙ λ i k. chain_of (c.in_err-known.ensures.err i) (chain_if_any (lookup (call_eq k) c.args.self.now.by_key.entries)))
 
 pub returns-in_err-known-clause-sites : goal.returns-in_err-known-clause-sites
 returns-in_err-known-clause-sites g c =
-    all_after call_eq sites_if_any c.args.self.now.by_key.entries _ c.args.key c.or_insert-known.result.now (search rules) laws-law
+    all_after call_eq sites_if_any c.args.self.now.by_key.entries _ c.args.key c.or_insert-known.result.now (lookup_after laws-law _ _ _ _ (search rules)) laws-law
     (sites g (goal.at.returns-in_err-known-clause-sites g c).After-or_insert-known)
 
 pub invariant_of-self-2 : goal.invariant_of-self-2
@@ -70,7 +70,7 @@ invariant_of-self-2 g c =
     let longer = ap length c.in_ok-known.ensures.ok ∙ length-append calls.left.links.items _ in
     record {
       within = within_after calls.by_key.entries _ c.args.key
-          (record c.or_insert-known.result.now { chain = c.in_ok-known.field-0 }) (search rules)
+          (record c.or_insert-known.result.now { chain = c.in_ok-known.field-0 }) (lookup_after laws-law _ _ _ _ (search rules))
           (length calls.left.links.items) (length c.add.new.self.links.items) calls.within
           (omega (arith, longer)) (omega (arith, end));
     }
@@ -92,7 +92,7 @@ returns-clause-added g c =
     let more = c.add.new.self.links.items in
     let last = link c.args.exit c.or_insert-known.result.now.chain in
     added_after call_eq (λ o. chain_of more (chain_if_any o)) c.args.self.now.by_key.entries _ c.args.key
-    (record c.or_insert-known.result.now { chain = c.in_ok-known.field-0 }) (search rules) (laws-law.refl c.args.key) _
+    (record c.or_insert-known.result.now { chain = c.in_ok-known.field-0 }) (lookup_after laws-law _ _ _ _ (search rules)) (laws-law.refl c.args.key) _
     (chain_added links more last c.in_ok-known.ensures.ok c.in_ok-known.field-0 c.in_ok-known.ensures.chain
     ∙ ap (λ n. chain_of links n ++ c.args.exit ∷ []) (chain g (goal.at.returns-clause-added g c).After-or_insert-known))
 
@@ -102,11 +102,11 @@ returns-clause-others g c = λ other apart.
     let more = c.add.new.self.links.items in
     let last = link c.args.exit c.or_insert-known.result.now.chain in
     others_after call_eq (λ o. chain_of more (chain_if_any o)) calls.by_key.entries _ c.args.key
-    (record c.or_insert-known.result.now { chain = c.in_ok-known.field-0 }) (search rules) other apart
+    (record c.or_insert-known.result.now { chain = c.in_ok-known.field-0 }) (lookup_after laws-law _ _ _ _ (search rules)) other apart
     ∙ chain_older calls.left.links.items more last c.in_ok-known.ensures.ok _ (calls.within other)
 
 pub returns-clause-sites : goal.returns-clause-sites
 returns-clause-sites g c =
     all_after call_eq sites_if_any c.args.self.now.by_key.entries _ c.args.key
-    (record c.or_insert-known.result.now { chain = c.in_ok-known.field-0 }) (search rules) laws-law
+    (record c.or_insert-known.result.now { chain = c.in_ok-known.field-0 }) (lookup_after laws-law _ _ _ _ (search rules)) laws-law
     (sites g (goal.at.returns-clause-sites g c).After-or_insert-known)

@@ -37,8 +37,11 @@ links-preserved g c = (
 pub returns-in_err-reach_after_call : goal.returns-in_err-reach_after_call
 returns-in_err-reach_after_call g c =
     reaches_on g.S.PathSet.members c.links.invariant.2 c.in_err-reach_after_call.ensures.stays
-    (back_failed (IsBehind c.args.graph.now c.args.site) _ _ c.in-Some.left c.links.invariant.0.0
-    (whole g (goal.at.returns-in_err-reach_after_call g c).In-Some) _ _ _ _ c.links.invariant.0.2 _ _
+    (back_failed (IsBehind c.args.graph.now c.args.site) (chain_of c.args.calls.now.left.links.items c.args.chain)
+    (chain_of c.args.calls.now.left.links.items c.in-Some.before) c.in-Some.left c.links.invariant.0.0
+    (whole g (goal.at.returns-in_err-reach_after_call g c).In-Some) (g.S.PathSet.members c.args.self.now.edges.now)
+    (g.S.PathSet.members c.links.self.edges.now) c.args.self.now.pending.now.items c.links.self.pending.now.items
+    c.links.invariant.0.2 (g.S.PathSet.members c.reach_after_call.new.self.edges.now) c.reach_after_call.new.self.pending.now.items
     c.in_err-reach_after_call.ensures.adds (search rules)
     (λ e. ap Err (sym (fault_of _ _ _ c.from_residual.ensures.1 e))))
 

@@ -11,7 +11,7 @@ use Rattle.summaries.proofs.groups.Groups.add.Goals.{After-add}
 had : (g : Over) (c : After-add g) →
     values_in c.into_mut-values.result.now ≡ under g.K.PartialEq.eq c.args.self.now.by_key c.args.key
 had g c = ap values_if_any
-    (sym (sym c.in_ok-entry.ensures.value ∙ ap entry_value c.in-Occupied.is ∙ c.into_mut-values.ensures.value))
+    (sym c.into_mut-values.ensures.value ∙ sym (ap entry_value c.in-Occupied.is) ∙ c.in_ok-entry.ensures.value)
 
 pub returns-in_err-add-in-Occupied-clause-err : goal.returns-in_err-add-in-Occupied-clause-err
 returns-in_err-add-in-Occupied-clause-err g c =

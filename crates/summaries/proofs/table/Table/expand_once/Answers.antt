@@ -88,6 +88,10 @@ expanded g c answer new added =
       IfOk-weaker answer _ _ (λ _ grown. (grown.more, grown.longer)) adds.ok,
     )
 
+pub returns-in_default-clause-worked : goal.returns-in_default-clause-worked
+returns-in_default-clause-worked g c =
+    (expanded g (goal.at.returns-in_default-clause-worked g c).Start c.reach_all.result c.reach_all.new.self c.reach_all.ensures).0
+
 pub returns-clause-worked : goal.returns-clause-worked
 returns-clause-worked g c =
     let start = (goal.at.returns-clause-worked g c).Start in

@@ -1,6 +1,7 @@
 use Rattle.std.proofs.Common.{◌≡◌, ◌∷◌, [], Some, Ok, refl, ap, ◌∙◌, subst, length-append, arith}
 use Rattle.summaries.specs.Grows.{triple_of, IsFoundBy}
-use Rattle.summaries.specs.Tables.{IsLessBeside, IsThere, Worked}
+use Rattle.path_sets.specs.EdgeLimits.{most_of}
+use Rattle.summaries.specs.Tables.{limit_of, IsLessBeside, IsThere, Worked}
 use Rattle.summaries.proofs.AsideLemmas.{aside_as}
 use Rattle.summaries.proofs.FrontierLemmas.{same_found}
 use Rattle.summaries.proofs.table.Table.follow.Goals as goal
@@ -34,3 +35,16 @@ edges-preserved g c =
       worked.fault ∙ so_far.6,
       (omega (arith, longer, less.0, so_far.7.0), omega (arith, less.1, so_far.7.1)),
     )
+
+pub edges-smaller : goal.edges-smaller
+edges-smaller g c =
+    let old = c.edges.self in
+    let new = c.work.new.self in
+    let members = g.S.PathSet.members in
+    let next = c.in-Some.next in
+    let ok = c.in_ok-next.ensures in
+    let less = subst (λ one. IsLessBeside members (Ok one) old new) c.in-Some.is ok.less in
+    let longer = length-append new.found.pending.items (next ∷ []) in
+    let limit : limit_of new ≡ limit_of old = ap most_of ok.worked.stays.limit in
+    let within = ok.worked.within in
+    omega (arith, longer, less.0, less.1, limit, within)

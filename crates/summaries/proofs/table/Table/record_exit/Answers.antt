@@ -1,8 +1,8 @@
-use Rattle.std.proofs.Common.{◌≡◌, refl, subst}
+use Rattle.std.proofs.Common.{◌≡◌, map, refl, subst, take}
 use Rattle.path_sets.specs.Triples.{triple}
 use Rattle.summaries.specs.declared.found.Found.{Found}
 use Rattle.summaries.specs.Exits.{IsPairAdded}
-use Rattle.summaries.specs.Found.{pair, mails_in}
+use Rattle.summaries.specs.Found.{calls_in, mail_of, mails_in, pair}
 use Rattle.summaries.specs.Grows.{AddsTo, OfSome, IsSummaryTold}
 use Rattle.summaries.proofs.ExitLemmas.{leave_step, left_indexed, left_told, none_told, added_by, if_none}
 use Rattle.summaries.proofs.StepLemmas.{still_holds, same_step}
@@ -76,3 +76,10 @@ returns-in_default-clause-ok g c =
     let stay = if_none c.in_ok-at.field-0 c.in_default.is c.in_ok-at.ensures.stay in
     let step = same_step self.graph.now self.procedure f h es stay refl refl in
     still_holds self.graph.now self.procedure f h es es step (λ t. t ≡ triple c.args.entry 0 c.args.values) c.requires.holds
+
+pub returns-in_default-clause-answers : goal.returns-in_default-clause-answers
+returns-in_default-clause-answers g c =
+    let self = c.args.self.now in
+    let f = self.found in
+    let stay = if_none c.in_ok-at.field-0 c.in_default.is c.in_ok-at.ensures.stay in
+    λ j. take f.outbox.answered (map (mail_of (calls_in f) (λ at. stay at j) self.procedure) f.outbox.sent.items)
