@@ -1,7 +1,8 @@
 -- Chains of what calls leave.
 use Rattle.std.proofs.Common.{◌≡◌, ◌≤◌, ◌<◌, ℕ, suc, cond, Bool, true, false, List, [], ◌∷◌, ◌++◌, Some, length, reverse}
-use Rattle.std.proofs.Common.{slice_get, inl, inr, refl, sym, ap, ◌∙◌, subst, arith}
+use Rattle.std.proofs.Common.{Result, Ok, Err, slice_get, inl, inr, refl, sym, ap, ◌∙◌, subst, arith}
 use Rattle.std.specs.Map.{lookup}
+use Rattle.std.specs.Result.{OnOk, OnErr}
 use Rattle.std.proofs.lemmas.Bool.{eq-eqb, ne_eqb}
 use Rattle.std.proofs.lemmas.List.{length-reverse, reverse-append, reverse-reverse}
 use Rattle.std.proofs.lemmas.Option.{none-some}
@@ -84,6 +85,22 @@ pub chain_at : (links : List Link) (at : ℕ) (here : Link) (chain : ℕ) → Le
 chain_at links at here chain back is next =
     ap (chain_of links) next
     ∙ at_among (reverse links) at here (ap (λ l. slice_get l at) (reverse-reverse links) ∙ is) (back at here is)
+
+-- if a link is added behind a chain of those before it, each link still is behind such a chain
+leads_back : (links more : List Link) (last : Link) → more ≡ links ++ last ∷ [] → LeadBack links → last.before ≤ length links
+    → LeadBack more
+leads_back links more last is back low at here there =
+    elim (got_from links last here at (ap (λ l. slice_get l at) (sym is) ∙ there)) [
+      | inl (less, was) ↦ back at here was
+      | inr (end, same) ↦ omega (arith, low, end, ap (λ (l : Link). l.before) same)
+    ]
+
+-- and so it is if the link was refused
+pub lead_back_after : {T E : Type 0} (answer : Result T E) (links more : List Link) (last : Link)
+    → OnOk answer (more ≡ links ++ last ∷ []) → OnErr answer (more ≡ links) → LeadBack links → last.before ≤ length links
+    → LeadBack more
+lead_back_after (Ok _) links more last is same = leads_back links more last is
+lead_back_after (Err _) links more last is same = λ back low. subst LeadBack (sym same) back
 
 -- if what is known of a call is written, each chain is within the links if that of the call is
 pub within_after : {A : Type 0} (es fs : List (CallKey × KnownCall A)) (k : CallKey) (new : KnownCall A)

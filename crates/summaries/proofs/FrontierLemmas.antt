@@ -18,7 +18,7 @@ use Rattle.flow_graph.specs.Flows.{last_of, next_of}
 use Rattle.flow_graph.specs.declared.flow.Flow.{Flow}
 use Rattle.summaries.specs.declared.table_fault.TableFault.{TableFault}
 use Rattle.summaries.specs.declared.table_fault.TableFault.TheVariants.{Memory, EdgeLimit}
-use Rattle.summaries.specs.Grows.{Grows, Adds, OfSome, IsAt, IsOtherBefore, IsOther, IsNext, triple_of, edge_of}
+use Rattle.summaries.specs.Grows.{Grows, Adds, OfSome, IsAt, IsFoundBy, IsOtherBefore, IsOther, IsNext, triple_of, edge_of}
 use Rattle.path_sets.proofs.PlaceLemmas.{last_or}
 
 -- an edge that was there adds nothing
@@ -195,6 +195,10 @@ found_or other (Err fault) = other
 -- one edge was found
 pub same_found : (e found : PathEdge) → ◌≡◌ {A = Result (Option PathEdge) TableFault} (Ok (Some e)) (Ok (Some found)) → found ≡ e
 same_found e found is = sym (ap (found_or e) is)
+
+-- no edge is found by an answer that has none
+pub none_is_found : (t : Triple) → IsFoundBy {Fault = TableFault} (Ok None) t → ⊥
+none_is_found t (found, is, at) = absurd cc
 
 -- nothing is added where there is nowhere to go
 pub adds_none : (W : Triple → Type 0) (most : ℕ) (old : List Triple) (before : List PathEdge) → ((t : Triple) → W t → ⊥)

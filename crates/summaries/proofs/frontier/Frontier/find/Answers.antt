@@ -1,8 +1,8 @@
-use Rattle.std.specs.Bool.{OnFalse}
+use Rattle.std.proofs.lemmas.Bool.{OnFalse_at}
 use Rattle.std.proofs.Common.{inl, inr, refl, sym, ap, ◌∙◌, subst, rules}
 use Rattle.language.specs.Lists.{Member}
 use Rattle.summaries.specs.Grows.{triple_of}
-use Rattle.summaries.proofs.FrontierLemmas.{known, added, longer_by, ok_err, same_found}
+use Rattle.summaries.proofs.FrontierLemmas.{known, added, longer_by, none_is_found, ok_err, same_found}
 use Rattle.summaries.proofs.frontier.Frontier.find.Goals as goal
 
 pub returns-then-branch : goal.returns-then-branch
@@ -34,12 +34,12 @@ returns-else-branch g c = record {
   };
   found = λ t m. elim ((c.in_ok-insert.ensures.members t).0 m) [
     | inl is ↦
-        let there = subst (λ new. OnFalse new (Member (triple_of c.args.edge) (g.S.PathSet.members c.args.self.now.edges.now)))
-        c.if-branch.false c.in_ok-insert.ensures.new.1 in
+        let there : Member (triple_of c.args.edge) (g.S.PathSet.members c.args.self.now.edges.now) =
+        OnFalse_at c.if-branch.false c.in_ok-insert.ensures.new.1 in
         inr (subst (λ u. Member u (g.S.PathSet.members c.args.self.now.edges.now)) (sym is) there)
     | inr was ↦ inr was
   ];
-  there = λ t (found, is, at). absurd (cc);
+  there = λ t is. absurd (none_is_found t is);
   pending = refl;
   stays = record { edges = refl; pending = refl; limit = refl };
 }

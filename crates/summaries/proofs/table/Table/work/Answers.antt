@@ -11,7 +11,7 @@ use Rattle.summaries.specs.declared.edge.PathEdge.{PathEdge}
 use Rattle.summaries.specs.declared.table.Table.{Table}
 use Rattle.summaries.specs.declared.table_fault.TableFault.{TableFault}
 use Rattle.summaries.specs.Tables.{IsLessBeside, TookSame, Worked}
-use Rattle.summaries.proofs.FrontierLemmas.{ok_err, fault_of}
+use Rattle.summaries.proofs.FrontierLemmas.{ok_err, fault_of, none_is_found}
 use Rattle.summaries.proofs.table.Table.work.Given.{Over}
 use Rattle.summaries.proofs.table.Table.work.Goals.{In_ok-record_if_exit, After-record_call}
 use Rattle.summaries.proofs.PendingLemmas.{beyond_worked, called_worked}
@@ -130,7 +130,7 @@ returns-in_ok-expand_once-in_default g c =
     let all = rest g before _ _ _ last.worked last.taken in
     record {
       worked = none_found g.S.PathSet.members _ _ _ all.0;
-      there = λ t (found, is, at). absurd cc;
+      there = λ t is. absurd (none_is_found t is);
       taken = all.1;
       less = less_of g before nothing c.expand_once.new.self last.less;
     }
