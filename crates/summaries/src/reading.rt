@@ -166,6 +166,27 @@ fn summary_of<A: Allocator + Copy>(
     Ok(Summary { entries, pairs })
 }
 
+/// What was found, as a summary. First all memory that this is not read from is given back.
+fn read_found<A: Allocator + Copy>(alloc: A, found: Found<A>) -> Result<Summary<A>, AllocError>
+    ensures { IfOk result (IsReadOff found) }
+{
+    let Found {
+        entries,
+        calls,
+        exits,
+        outbox,
+        expanded,
+        pending,
+        last_exit: _,
+        last_entry: _,
+    } = found;
+    drop(calls);
+    drop(outbox);
+    drop(expanded);
+    drop(pending);
+    summary_of(alloc, &entries, &exits)
+}
+
 /// What a table found. First the table gives back all memory that this is not read from.
 pub fn read_off<G: Allocator, A: Allocator + Copy, S: PathSet<A>>(
     alloc: A,
@@ -181,22 +202,8 @@ pub fn read_off<G: Allocator, A: Allocator + Copy, S: PathSet<A>>(
         found,
         fault: _,
     } = table;
-    let Found {
-        entries,
-        calls,
-        exits,
-        outbox,
-        expanded,
-        pending,
-        last_exit: _,
-        last_entry: _,
-    } = found;
     drop(edges);
-    drop(calls);
-    drop(outbox);
-    drop(expanded);
-    drop(pending);
-    summary_of(alloc, &entries, &exits)
+    read_found(alloc, found)
 }
 
 /// What the tables found, table by table.
