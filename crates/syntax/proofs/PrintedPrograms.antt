@@ -12,13 +12,6 @@ use Rattle.trees.specs.Trees.{name_of, names_of, proc_of, procs_of, threads_of, 
 use Rattle.grammar.specs.Printed.{name_parts, separated, margin, block_parts, declaration_parts, procedure_parts, thread_parts, printed}
 use Rattle.syntax.proofs.Prints.{pushed_last, put_last}
 
-pub declared : {A X E : Type 0} (r : Result X E) (level : ℕ) (names : List (Name A)) (old s1 s2 s3 new : List ℕ) → length names == 0 ≡ false
-    → s1 ≡ old ++ text_of (margin level) → s2 ≡ s1 ++ codes "decl " → s3 ≡ s2 ++ text_of (separated name_parts (names_of names))
-    → new ≡ cond (is_ok r) (s3 ++ (59 ∷ 10 ∷ [])) s3 → IfOk r (λ _. new ≡ old ++ text_of (declaration_parts level (names_of names)))
-declared r level [] old s1 s2 s3 new some h1 h2 h3 last = cc
-declared r level (n ∷ names) old s1 s2 s3 new some h1 h2 h3 last =
-    pushed_last r new s3 _ _ last (rw (h3, h2, h1) (simp (text_of-append, append_assoc)))
-
 pub procedure_printed : {A X E : Type 0} (r : Result X E) (p : Proc A) (formals locals : List (Name A)) (body : List _)
     (old s1 s2 s3 s4 s5 s6 new : List ℕ)
     → formals ≡ p.formals.items → locals ≡ p.locals.items → body ≡ p.body.items

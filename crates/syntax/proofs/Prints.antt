@@ -8,8 +8,8 @@ use Rattle.language.specs.Tree.{Operator, Expression, two, RightSide, leave_with
 use Rattle.tokens.specs.Parts.{Part, space, line, fixed, text_of}
 use Rattle.tokens.proofs.PartsCut.{text_of-append}
 use Rattle.trees.specs.Trees.{simple, branch, repeat}
-use Rattle.grammar.specs.Printed.{kind_of, operand_parts, expression_parts, side_parts, ended, margin, block_parts, separated, after_commas}
-use Rattle.syntax.specs.PrintedDeed.{deed_parts, head_parts, arms_parts}
+use Rattle.grammar.specs.Printed.{kind_of, operand_parts, expression_parts, ended, margin, block_parts, separated, after_commas}
+use Rattle.syntax.specs.PrintedDeed.{head_parts, arms_parts}
 
 -- The text at the end of a function whose last call pushes s.
 pub pushed_last : {E : Type 0} {X : Type 0} (r : Result X E) (new before s w : List ℕ) → new ≡ cond (is_ok r) (before ++ s) before
@@ -37,27 +37,6 @@ module _ {X E : Type 0} (r : Result X E) (old new s1 s2 s3 s4 : List ℕ) where
       → s3 ≡ s2 ++ text_of (space ∷ fixed (kind_of o) ∷ space ∷ []) → s4 ≡ s3 ++ text_of (operand_parts b)
       → new ≡ cond (is_ok r) (s4 ++ (41 ∷ [])) s4 → IfOk r (λ _. new ≡ old ++ text_of (operand_parts (two o a b)))
   two_pushed o a b h1 h2 h3 h4 last = pushed_last r new s4 _ _ last (rw (h4, h3, h2, h1) (simp (text_of-append, append_assoc)))
-
-  pub given_pushed : (e : Expression tree.Name) → s1 ≡ old ++ codes "return " → s2 ≡ s1 ++ text_of (expression_parts e)
-      → new ≡ cond (is_ok r) (s2 ++ codes ";\n") s2 → IfOk r (λ _. new ≡ old ++ text_of (deed_parts 0 (simple (leave_with e))))
-  given_pushed e h1 h2 last =
-      pushed_last r new s2 _ _ last
-      (rw (h2, h1) (append_assoc (old ++ codes "return ") _ _ ∙ append_assoc old _ _
-      ∙ ap (λ (t : List ℕ). old ++ (codes "return " ++ t)) (sym (value_text e))))
-
-  module _ (level inner : ℕ) (side : RightSide tree.Name) (a : Block tree.Name tree.Name tree.Name) (below : inner ≡ level + 1) where
-    pub branch_pushed : (b : Block tree.Name tree.Name tree.Name)
-        → s1 ≡ old ++ (codes "if (" ++ (text_of (side_parts side) ++ codes ") then\n")) → s2 ≡ s1 ++ text_of (block_parts inner a)
-        → s3 ≡ s2 ++ (text_of (margin level) ++ codes "else\n") → s4 ≡ s3 ++ text_of (block_parts inner b)
-        → IfOk r (λ _. new ≡ s4 ++ (text_of (margin level) ++ codes "fi\n"))
-        → IfOk r (λ _. new ≡ old ++ text_of (deed_parts level (branch side a b)))
-    branch_pushed b h1 h2 h3 h4 last =
-        put_last r new s4 _ _ last (rw (h4, h3, h2, h1, below ∙ add-one level) (simp (text_of-append, append_assoc)))
-
-    pub loop_pushed : s1 ≡ old ++ (codes "while (" ++ (text_of (side_parts side) ++ codes ") do\n"))
-        → s2 ≡ s1 ++ text_of (block_parts inner a) → IfOk r (λ _. new ≡ s2 ++ (text_of (margin level) ++ codes "od\n"))
-        → IfOk r (λ _. new ≡ old ++ text_of (deed_parts level (repeat side a)))
-    loop_pushed h1 h2 last = put_last r new s2 _ _ last (rw (h2, h1, below ∙ add-one level) (simp (text_of-append, append_assoc)))
 
 -- What an `if` or a `while` holds.
 module _ {X E : Type 0} (r : Result X E) (old new s1 s2 s3 : List ℕ) (level inner : ℕ) (a : Block tree.Name tree.Name tree.Name)
