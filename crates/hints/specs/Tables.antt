@@ -9,7 +9,6 @@ use Rattle.hints.specs.declared.signs.TheConstants.{BRACKETS, COMMENTS, OPERATOR
 use Rattle.hints.specs.declared.words.TheConstants.{ACTIONS, CAPITALS, CHOICES, NAMED_OPERATORS, TYPES}
 use Rattle.hints.specs.declared.tables.Table.{Table}
 use Rattle.hints.specs.declared.tables.Table.TheVariants as table
-use Rattle.hints.specs.declared.tables.TheConstants.{TABLES}
 
 -- the rows of a table
 unfoldable pub rows : Table → List Row
@@ -47,6 +46,14 @@ unfoldable pub row_among : Surroundings → List Table → Option Row
 row_among seen [] = None
 row_among seen (table ∷ tables) = or_row (find (fits seen) (rows table)) (row_among seen tables)
 
+-- the tables, in the order in which they are looked at
+abbrev pub in_order : List Table
+in_order =
+    table.Comments ∷ table.Operators ∷ table.Brackets ∷ table.NamedOperators ∷ table.Capitals ∷ table.Types ∷
+    table.Choices ∷ table.Actions ∷ table.Declarations ∷ table.Threads ∷ table.Heads ∷ table.Ends ∷ table.Beginnings ∷
+    table.Empty ∷ table.Branches ∷ table.Bodies ∷ table.Simple ∷ table.Conditions ∷ table.Targets ∷ table.Calls ∷
+    table.Begun ∷ table.Lists ∷ table.Operands ∷ []
+
 -- the first row that fits what is seen, in the order of the tables
 abbrev pub row_for : Surroundings → Option Row
-row_for seen = row_among seen TABLES.now
+row_for seen = row_among seen in_order
