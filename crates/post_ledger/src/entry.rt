@@ -2,6 +2,7 @@
 
 /// One event of a board. A board's events, in one list, are an order; its projections are a history for each
 /// mailbox and an own list for each pass.
+#[derive(Clone, Copy)]
 pub enum Entry<M> {
     /// A sender posted a message to a mailbox, under the job of the sender's Take of the number `under`. The
     /// opening post is under no job, and has 0 there.

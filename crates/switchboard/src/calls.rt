@@ -39,7 +39,7 @@ pub enum Taken<M> {
 }
 
 /// Why a post was refused. The message comes back.
-#[derive(Clone, Copy, PartialEq, Eq)]
+#[derive(Clone, Copy, Debug, PartialEq, Eq)]
 pub enum PostFault<M> {
     /// The pass has used up its calls.
     Spent(M),
