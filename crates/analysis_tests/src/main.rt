@@ -1,4 +1,4 @@
-//! Rows of what leads from a text to its tables: each line of the standard input is a case, and is printed again with
+//! Rows of what leads from a text to its tables, and of boards: each line of the standard input is a case, and is printed again with
 //! its result. What is wanted was worked out by hand. A line that begins with `#` is a heading.
 //!
 //! The first word of a case says what it is about. `each allocation: ` before a case has each of its allocations
@@ -13,8 +13,10 @@
 //! | a number | the answer to a question on the flow graphs of a text that is rewritten for so many rounds (graphs.rt) |
 //! | `set`, `many`, `refused`, `nodes` | what sets of path edges return (sets.rt) |
 //! | `limit`, `summaries`, `table` | what a table owes after some messages, and what it all comes to (tables.rt) |
+//! | `one`, `lock` | what a board returns after an abort (boards.rt) |
 #![tactic(auto)]
 
+mod boards;
 mod graphs;
 mod rewritings;
 mod sequential;
@@ -26,9 +28,10 @@ mod texts;
 use cases::{each_case, sweep_before};
 use std::alloc::{AllocError, Global};
 use std::io;
+use std::sync::Wait;
 
 /// Writes the result of a line.
-fn answer(alloc: Global, out: &mut String, line: &str) -> Result<(), AllocError> {
+fn answer<R: Wait>(rt: &R, alloc: Global, out: &mut String, line: &str) -> Result<(), AllocError> {
     let (sweep, case) = sweep_before(line);
     let (word, rest) = case.split_once(' ').unwrap_or((case, ""));
     match word {
@@ -43,6 +46,7 @@ fn answer(alloc: Global, out: &mut String, line: &str) -> Result<(), AllocError>
         }
         "set" | "many" | "refused" | "nodes" => sets::answer(alloc, out, sweep, word, rest),
         "limit" | "summaries" | "table" => tables::answer(alloc, out, sweep, word, rest),
+        "one" | "lock" => boards::answer(rt, alloc, out, line),
         _ => graphs::answer(alloc, out, sweep, case),
     }
 }
@@ -50,6 +54,6 @@ fn answer(alloc: Global, out: &mut String, line: &str) -> Result<(), AllocError>
 fn main(rt: HostRuntime) -> io::Result<()> {
     each_case(
         &rt,
-        |line: &str, out: &mut String| answer(rt.alloc(), out, line),
+        |line: &str, out: &mut String| answer(&rt, rt.alloc(), out, line),
     )
 }

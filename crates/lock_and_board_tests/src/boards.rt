@@ -194,24 +194,6 @@ pub(crate) fn post<R: Wait, B: Letters>(
     Board::post(board, rt, pass, job, to, Letter(message))
 }
 
-// Posts to mailbox 1: this must be the result.
-fn posts<R: Wait + Abort, B: Letters>(
-    rt: &R,
-    board: &B,
-    pass: &mut B::Pass,
-    job: &Job,
-    message: u32,
-    wanted: Result<(), PostFault<Letter>>,
-)
-    requires board { (B.sight pass.old).board ≡ B.identity board.now }
-    requires job { HasJob (B.sight pass.old).number job.now (B.sight pass.old).seen.order }
-    requires boxes { 1 < (B.sight pass.old).seen.boxes }
-    ensures pass { IsSame (B.sight pass.old) (B.sight pass.new) }
-    ensures keeps { KeepsJobs (B.sight pass.old) (B.sight pass.new) }
-{
-    assert!(rt; post(rt, board, pass, job, 1, message) == wanted);
-}
-
 // What the first pass had seen, for the second.
 fn tells<B: Letters>(board: &B, first: &mut B::Pass, second: &mut B::Pass)
     requires first { (B.sight first.old).board ≡ B.identity board.now }
@@ -330,22 +312,9 @@ fn posts_two<R: Wait + Abort, B: Letters>(rt: &R, board: &B, zero: &mut B::Pass)
     ensures job { HasJob (B.sight zero.new).number result (B.sight zero.new).seen.order }
 {
     let job = takes(rt, board, zero, 10);
-    posts(rt, board, zero, &job, 11, Ok(()));
-    posts(rt, board, zero, &job, 12, Ok(()));
+    assert!(rt; post(rt, board, zero, &job, 1, 11).is_ok());
+    assert!(rt; post(rt, board, zero, &job, 1, 12).is_ok());
     job
-}
-
-// Takes 11 and 12 and completes them; there is no more.
-fn serves_two<R: Wait + Abort, B: Letters>(rt: &R, board: &B, one: &mut B::Pass)
-    requires { (B.sight one.old).board ≡ B.identity board.now }
-    ensures { IsSame (B.sight one.old) (B.sight one.new) }
-{
-    let second = takes(rt, board, one, 11);
-    let third = takes(rt, board, one, 12);
-    finds(rt, board, one, Answer::Empty);
-    done(rt, board, one, second);
-    done(rt, board, one, third);
-    finds(rt, board, one, Answer::Empty);
 }
 
 // The ledger of a board whose passes are these two.
@@ -368,80 +337,6 @@ where
     gather(rt, &board, &mut passes, zero);
     gather(rt, &board, &mut passes, one);
     settle(board, passes)
-}
-
-// The ledger of a board of two mailboxes that served three messages, and closed after the last done.
-fn ledger_of_three<R: Wait + Abort, B: Letters>(
-    rt: &R,
-    alloc: B::Heap,
-    more: B::Heap,
-) -> Ledger<Letter, B::Heap>
-where
-    B::Heap: Clone,
-    B::Pass: Drop,
-{
-    let (board, mut zero, mut one) = two::<R, B>(rt, alloc, 1000);
-    let job = posts_two(rt, &board, &mut zero);
-    tells(&board, &mut zero, &mut one);
-    serves_two(rt, &board, &mut one);
-    done(rt, &board, &mut zero, job);
-    finds(rt, &board, &mut zero, Answer::Closed);
-    finds(rt, &board, &mut one, Answer::Closed);
-    settle_two(rt, more, board, zero, one)
-}
-
-// Three messages over two mailboxes; the board closes after the last done.
-fn closes_after_the_last_done<R: Wait + Abort, B: Letters>(rt: &R, alloc: B::Heap, more: B::Heap)
-where
-    B::Heap: Clone,
-    B::Pass: Drop,
-{
-    let ledger = ledger_of_three::<R, B>(rt, alloc, more);
-    assert!(rt; ledger.closed);
-    assert!(rt; counts(ledger.histories.as_slice()) == (3, 3, 3));
-}
-
-// Each pass has one call, and its abort is always made.
-fn has_one_call<R: Wait + Abort, B: Letters + Drop>(rt: &R, alloc: B::Heap)
-where
-    B::Heap: Clone,
-    B::Pass: Drop,
-{
-    let (board, mut zero, mut one) = two::<R, B>(rt, alloc, 2);
-    let (job, _first) = message(rt, &board, &mut zero);
-    posts(
-        rt,
-        &board,
-        &mut zero,
-        &job,
-        11,
-        Err(PostFault::Spent(Letter(11))),
-    );
-    Board::abort(&board, rt, &mut zero, Some(job), Cause::Spent);
-    finds(rt, &board, &mut one, Answer::Aborted);
-    finds(rt, &board, &mut zero, Answer::Spent);
-}
-
-// An abort stops posts, but not dones.
-fn stops_posts<R: Wait + Abort, B: Letters + Drop>(rt: &R, alloc: B::Heap)
-where
-    B::Heap: Clone,
-    B::Pass: Drop,
-{
-    let (board, mut zero, mut one) = two::<R, B>(rt, alloc, 1000);
-    let (job, _first) = message(rt, &board, &mut zero);
-    Board::abort(&board, rt, &mut one, None, Cause::NoWorker);
-    posts(
-        rt,
-        &board,
-        &mut zero,
-        &job,
-        11,
-        Err(PostFault::Aborted(Letter(11))),
-    );
-    done(rt, &board, &mut zero, job);
-    finds(rt, &board, &mut zero, Answer::Closed);
-    finds(rt, &board, &mut one, Answer::Closed);
 }
 
 // Takes 10 and completes it: before that the mailbox is empty, and then closed.
@@ -617,9 +512,6 @@ where
     B::Heap: Copy,
     B::Pass: Drop,
 {
-    closes_after_the_last_done::<R, B>(rt, alloc, alloc);
-    has_one_call::<R, B>(rt, alloc);
-    stops_posts::<R, B>(rt, alloc);
     closes_alone::<R, B>(rt, alloc, alloc);
     turns_in_order::<R, B>(rt, alloc, alloc);
     turn_is_spent::<R, B>(rt, alloc);
