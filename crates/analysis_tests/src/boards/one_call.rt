@@ -135,7 +135,7 @@ pub(crate) fn call<R: Wait, B: Letters>(
             Answer::Nothing
         }
         Act::AbortAlone => {
-            Board::abort(board, rt, pass, None, Cause::Memory);
+            Board::abort(board, rt, pass, None, Cause::NoWorker);
             Answer::Nothing
         }
     }
