@@ -57,3 +57,15 @@ returns-clause-ok g c =
     ∙ posted_event (posted_of i.messages.items i.steps.items) (map numbered_of i.steps.items) c.args.sender c.args.message
     c.self.invariant.counts.numbered
     ∙ ap (λ l. l ++ Post c.args.sender c.args.message ∷ []) c.self.view_is
+
+pub returns-in_default-clause-ok : goal.returns-in_default-clause-ok
+returns-in_default-clause-ok g c = tt
+
+pub returns-in-Err-clause-ok : goal.returns-in-Err-clause-ok
+returns-in-Err-clause-ok g c = tt
+
+pub returns-in-Err-reserve-clause-ok : goal.returns-in-Err-reserve-clause-ok
+returns-in-Err-reserve-clause-ok g c = tt
+
+pub returns-clause-err : goal.returns-clause-err
+returns-clause-err g c = tt
