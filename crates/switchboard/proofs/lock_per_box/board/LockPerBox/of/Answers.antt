@@ -1,7 +1,8 @@
 -- The table is laid for the parameters, and the first seat begins with what is known of them.
-use Rattle.std.proofs.Common.{◌<◌, [], sym, ap, ◌∙◌, subst, arith}
+use Rattle.std.proofs.Common.{◌≡◌, ◌+◌, ◌-◌, ◌<◌, [], sym, ap, ◌∙◌, subst, arith}
 use Rattle.switchboard.specs.Knowing.{first_view}
 use Rattle.switchboard.specs.PerBox.{IsBoardTable}
+use Rattle.switchboard.specs.Sights.{opened, fresh_sights}
 use Rattle.switchboard.specs.declared.lock_per_box.knowing.Ground.{Ground}
 use Rattle.post_ledger.specs.declared.mailbox.Mailbox.{Mailbox}
 use Rattle.switchboard.proofs.lock_per_box.board.LockPerBox.of.Goals as goal
@@ -48,3 +49,20 @@ invariant_of-result g c =
       sized = (subst (IsBoardTable c.in_ok-table.table.shared.table_id) (sym boxes) laid.1, omega (arith, boxes, c.requires.boxes.0));
       free = (room.len, omega (arith, boxes, room.capacity, c.from.ensures));
     }
+
+pub returns : goal.returns
+returns g c =
+    let about = c.args.about in
+    let id = c.in_ok-table.table.shared.table_id in
+    let key = c.in_ok-table.ensures.0 in
+    let budget : c.args.budget - 1 + 1 ≡ c.args.budget = omega (arith, c.requires.budget.0) in (
+      ap (λ (a : Ground g.row.M.Denot g.row.W.Denot). a.boxes) key,
+      subst
+          (λ n. c.deal.new.passes.items
+          ≡ fresh_sights id n (opened c.args.world.now about.boxes about.to about.first) 0 about.boxes)
+          budget
+          (subst
+          (λ (a : Ground g.row.M.Denot g.row.W.Denot). c.deal.new.passes.items
+          ≡ fresh_sights id (c.args.budget - 1 + 1) (opened c.args.world.now about.boxes a.to a.first) 0 about.boxes)
+          key c.deal.ensures),
+    )

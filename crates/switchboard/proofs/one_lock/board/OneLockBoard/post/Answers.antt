@@ -1,5 +1,5 @@
 -- The message is posted under a job of the state that the pass finds, or nothing changes.
-use Rattle.std.proofs.Common.{◌<◌, arith}
+use Rattle.std.proofs.Common.{◌<◌, refl, sym, ◌∙◌, arith}
 use Rattle.post_ledger.specs.Orders.{HasJob}
 use Rattle.switchboard.proofs.Inside.{inside, to_call, boxes_inside, job_inside, posting, posts_on, shows_posted}
 use Rattle.switchboard.proofs.Visits.{may_leave}
@@ -35,3 +35,6 @@ returns g c =
     let h = inside g.M.Mail.fits c.pass.invariant c.in-Ok.ensures c.pass.view_is c.number-number.ensures c.value.ensures.value in
     shows_posted _ h c.leave.ensures (posting _ h _ _ _ c.post-answer.result c.post-answer.new.self c.requires.job c.requires.fits
     c.post-answer.ensures.ok c.post-answer.ensures.err) c.calls.ensures c.if-calls-eq0.false
+
+pub returns-then-calls-eq0 : goal.returns-then-calls-eq0
+returns-then-calls-eq0 g c = (refl, (sym c.calls.ensures ∙ c.if-calls-eq0.true, refl))

@@ -1,11 +1,12 @@
 -- The Take of the job is there and is not completed, so there is room for its Done.
-use Rattle.std.proofs.Common.{refl, ◌<◌, ◌+◌, length, Contains, ap, arith}
+use Rattle.std.proofs.Common.{refl, ◌∙◌, set, length-set, ◌<◌, ◌+◌, length, Contains, ap, arith}
 use Rattle.std.specs.Vec.{vec_capacity}
 use Rattle.post_ledger.specs.declared.entry.Entry.TheVariants.{Completed}
 use Rattle.post_ledger.specs.History.{takes, dones}
 use Rattle.post_ledger.specs.Orders.{HasJob}
+use Rattle.switchboard.specs.Books.{with_new_event}
 use Rattle.post_ledger.proofs.Orders.{job_inside}
-use Rattle.switchboard.proofs.Keeping.{box_at, kept_entry, room_done, few_done, job_inside_is, job_in_box}
+use Rattle.switchboard.proofs.Keeping.{state_push, box_at, kept_entry, room_done, few_done, job_inside_is, job_in_box}
 use Rattle.switchboard.proofs.one_lock.book.Book.done.Given as given
 use Rattle.switchboard.proofs.one_lock.book.Book.done.Goals as goal
 use Rattle.switchboard.proofs.one_lock.book.Book.done.Goals.{After-index_mut-mailbox}
@@ -80,3 +81,11 @@ invariant_of-self g c =
     (Completed c.args.by c.job.inside.take) c.from.result c.index_mut-mailbox.result.now c.done.new.self
     c.from.ensures c.self.invariant at has tt (omega arith) (omega arith)
     (omega (arith, c.self.invariant.room, c.push_reserved.ensures.capacity)) c.done.ensures c.push_reserved.ensures.items
+
+pub returns : goal.returns
+returns g c =
+    let i = c.self.inside in
+    state_push i.world.value i.mailboxes.items (set i.mailboxes.items c.from.result c.done.new.self) i.order.items
+    c.push_reserved.new.self.items (Completed c.args.by c.job.inside.take) i.aborted c.args.self.now
+    (length-set i.mailboxes.items c.from.result c.done.new.self) c.push_reserved.ensures.items c.self.view_is
+    ∙ ap (λ j. with_new_event (Completed c.args.by j) c.args.self.now) c.job.view_is

@@ -1,8 +1,11 @@
 -- There is room for the Post and for all that is owed.
-use Rattle.std.proofs.Common.{◌+◌, ◌∷◌, ◌++◌, [], ap, ◌∙◌, arith}
+use Rattle.std.proofs.Common.{◌≡◌, ◌+◌, ◌∷◌, ◌++◌, [], None, refl, set, length, length-set, ap, ◌∙◌, subst, arith}
 use Rattle.std.specs.Vec.{vec_capacity}
+use Rattle.std.specs.Prelude.{IsSome}
 use Rattle.std.proofs.Common.{◌*◌, ◌≤◌}
 use Rattle.post_ledger.specs.declared.entry.Entry.TheVariants.{Posted}
+use Rattle.switchboard.specs.Books.{with_new_event}
+use Rattle.switchboard.proofs.Keeping.{state_push, none_of, some_of}
 use Rattle.switchboard.proofs.Keeping.{box_at, kept_entry, kept_back, order_fits, job_inside_is}
 use Rattle.switchboard.proofs.one_lock.book.Book.post.Goals as goal
 
@@ -58,3 +61,55 @@ overflow_add-self g c = omega (arith, c.self.invariant.room, c.self.inside.order
 
 pub index_mut-mailbox-requires : goal.index_mut-mailbox-requires
 index_mut-mailbox-requires g c = omega (arith, c.from.ensures, c.requires.to, ap (λ s. s.boxes) c.self.view_is)
+
+pub returns-then-is_some-clause-err : goal.returns-then-is_some-clause-err
+returns-then-is_some-clause-err g c =
+    let i = c.self.inside in
+    let some = some_of i.aborted c.is_some.result c.is_some.ensures c.if-is_some.true in
+    (refl, refl, subst (λ s. IsSome s.aborted) c.self.view_is some)
+
+pub returns-in-Err-clause-err : goal.returns-in-Err-clause-err
+returns-in-Err-clause-err g c =
+    let i = c.self.inside in
+    let none = none_of i.aborted c.is_some.result c.is_some.ensures c.if-is_some.false in (
+      refl,
+      (λ k. record {
+        world = i.world.value;
+        boxes = length i.mailboxes.items;
+        order = c.reserve.ensures.items k;
+        aborted = i.aborted;
+      })
+          ∙ c.self.view_is,
+      subst (λ s. s.aborted ≡ None) c.self.view_is none,
+    )
+
+pub returns-in-Err-post-clause-err : goal.returns-in-Err-post-clause-err
+returns-in-Err-post-clause-err g c =
+    let i = c.self.inside in
+    let none = none_of i.aborted c.is_some.result c.is_some.ensures c.if-is_some.false in (
+      c.in-Err-post.ensures.err.0,
+      (λ k. record {
+        world = i.world.value;
+        boxes = length-set i.mailboxes.items c.from.result c.post.new.self k;
+        order = c.reserve.ensures.items k;
+        aborted = i.aborted;
+      })
+          ∙ c.self.view_is,
+      subst (λ s. s.aborted ≡ None) c.self.view_is none,
+    )
+
+pub returns-in-Err-post-clause-ok : goal.returns-in-Err-post-clause-ok
+returns-in-Err-post-clause-ok g c = tt
+
+pub returns-in-Ok-post-clause-ok : goal.returns-in-Ok-post-clause-ok
+returns-in-Ok-post-clause-ok g c =
+    let i = c.self.inside in
+    let none = none_of i.aborted c.is_some.result c.is_some.ensures c.if-is_some.false in
+    let e = Posted c.args.to c.args.by c.args.message c.job.inside.take in (
+      subst (λ s. s.aborted ≡ None) c.self.view_is none,
+      state_push i.world.value i.mailboxes.items (set i.mailboxes.items c.from.result c.post.new.self) i.order.items
+          c.push_reserved.new.self.items e i.aborted c.args.self.now
+          (length-set i.mailboxes.items c.from.result c.post.new.self)
+          (c.push_reserved.ensures.items ∙ ap (λ l. l ++ e ∷ []) c.reserve.ensures.items) c.self.view_is
+          ∙ ap (λ j. with_new_event (Posted c.args.to c.args.by c.args.message j) c.args.self.now) c.job.view_is,
+    )
