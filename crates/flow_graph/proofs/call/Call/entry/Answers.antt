@@ -2,6 +2,8 @@
 use Rattle.resolved.specs.Limits.{most_places}
 use Rattle.std.proofs.Common.{◌≡◌, ◌∷◌, ◌+◌, ◌*◌, ◌^◌, ◌∙◌, ◌<◌, ap, sym, map, drop, arith}
 use Rattle.std.proofs.lemmas.List.{drop_more, drop_all}
+use Rattle.std.proofs.lemmas.Nat.{pow_pos}
+use Rattle.std.proofs.Math.Nat.{mod-lt}
 use Rattle.flow_graph.specs.Bits.{coded, worth_of}
 use Rattle.flow_graph.specs.Calls.{call_entry}
 use Rattle.flow_graph.specs.Formulas.{says}
@@ -46,3 +48,12 @@ returns g c =
     sym (ap (λ n. c.loop-argument.entry + 2 ^ c.loop-argument.bit * n) all ∙ none)
     ∙ c.loop-argument.invariant.0
     ∙ ap (λ l. call_entry c.args.self.now.globals l c.args.values) c.as_slice-argument-items.ensures.value
+
+pub loop-argument-init : goal.loop-argument-init
+loop-argument-init g c =
+    let n = c.args.self.now.globals in
+    let whole = coded (map (λ f. says f c.args.values) c.as_slice-argument-items.result.now) in (
+      λ i. c.of-entry.ensures i + 2 ^ c.count-bit.ensures i * whole,
+      omega (arith, c.of-entry.ensures, ap (λ k. 2 ^ k) c.count-bit.ensures, mod-lt c.args.values (pow_pos n)),
+      omega (arith, c.count-bit.ensures),
+    )

@@ -23,3 +23,8 @@ returns-clause-valuation g c v e target wide count has masks is left =
     ∙ (λ t. masked (c.of-globals.ensures t + (c.args.values - c.of.ensures t)) (masks t) c.args.left.result)
     ∙ (λ t. resumed n (target_mask n target) (is t) (left t))
     ∙ resumed_code n target v e wide count has
+
+pub returns-clause-number : goal.returns-clause-number
+returns-clause-number g c =
+    c.masked.ensures
+    ∙ (λ i. masked (c.of-globals.ensures i + (c.args.values - c.of.ensures i)) c.args.self.now.target c.args.left.result)
