@@ -1,4 +1,4 @@
-use Rattle.std.proofs.Common.{◌≡◌, List}
+use Rattle.std.proofs.Common.{◌≡◌, List, arith}
 use Rattle.std.specs.Prelude.{IsTrue}
 use Rattle.tokens.specs.Token.{Tok, toks_of}
 use Rattle.tokens.specs.Cuts.{Cuts}
@@ -17,3 +17,8 @@ returns g c =
     text_read g.row.A.Denot c.args.bytes.now (toks_of c.in_ok-tokens.tokens.items) c.if-bytes-gt-MOST_BYTES.false
     c.in-Some.ensures.ascii cut only shallow
     c.program.result (rw c.deref-2.ensures.value at c.program.ensures.gives)
+
+pub returns-then-bytes-gt-MOST_BYTES : goal.returns-then-bytes-gt-MOST_BYTES
+returns-then-bytes-gt-MOST_BYTES g c =
+    let long = c.if-bytes-gt-MOST_BYTES.true in
+    record { found = tt; only = λ tree text. absurd (omega (arith, long, text.within)); fault = long }
