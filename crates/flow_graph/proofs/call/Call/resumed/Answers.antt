@@ -27,4 +27,5 @@ returns-clause-valuation g c v e target wide count has masks is left =
 pub returns-clause-number : goal.returns-clause-number
 returns-clause-number g c =
     let target = c.args.self.now.target in
-    c.masked.ensures ∙ (λ i. masked (c.of-globals.ensures i + (c.args.values - c.of.ensures i)) target c.args.left.result)
+    c.masked.ensures
+    ∙ (λ i. masked (c.of-globals.ensures i + (c.args.values - c.of.ensures i)) target c.args.left.result)
