@@ -23,9 +23,3 @@ returns-clause-valuation g c v e target wide count has masks is left =
     ∙ (λ t. masked (c.of-globals.ensures t + (c.args.values - c.of.ensures t)) (masks t) c.args.left.result)
     ∙ (λ t. resumed n (target_mask n target) (is t) (left t))
     ∙ resumed_code n target v e wide count has
-
-pub returns-clause-number : goal.returns-clause-number
-returns-clause-number g c =
-    let target = c.args.self.now.target in
-    c.masked.ensures
-    ∙ (λ i. masked (c.of-globals.ensures i + (c.args.values - c.of.ensures i)) target c.args.left.result)
