@@ -1,5 +1,5 @@
 -- The report is on the rewriting, which keeps the failing asserts.
-use Rattle.std.proofs.Common.{Err, sym, ◌∙◌, subst, true≢false}
+use Rattle.std.proofs.Common.{Err, sym, ◌∙◌, subst, true≢false, rules}
 use Rattle.std.proofs.lemmas.Result.{err_from_is_err_and}
 use Rattle.language.specs.Sequential.{sequential_of}
 use Rattle.language.specs.Tree.{Tree}
@@ -15,6 +15,9 @@ use Rattle.summaries.specs.Tabulated.{SomePairBad}
 use Rattle.gather.proofs.ReportLemmas.{keeps_answer, no_report}
 use Rattle.gather.proofs.report.check_rounds_tried.Goals as goal
 use Rattle.gather.proofs.report.check_rounds_tried.Goals.{then-bad, else-bad}
+
+pub returns-in-Err-Memory-clause-none : goal.returns-in-Err-Memory-clause-none
+returns-in-Err-Memory-clause-none g c = search rules
 
 pub returns-in_err-ledger-clause-none : goal.returns-in_err-ledger-clause-none
 returns-in_err-ledger-clause-none g c =
