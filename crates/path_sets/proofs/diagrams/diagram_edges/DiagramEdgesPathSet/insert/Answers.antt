@@ -160,3 +160,9 @@ overflow_add-self g c =
     let s = c.args.self.now in
     let edges = whole s.merged s.gathered.batches.items in
     count_fits s.count edges edges s.counted refl c.requires
+
+pub returns-in_default-clause-new : goal.returns-in_default-clause-new
+returns-in_default-clause-new g c = c.insert_elsewhere.ensures.new
+
+pub returns-in_default-clause-len : goal.returns-in_default-clause-len
+returns-in_default-clause-len g c = c.insert_elsewhere.ensures.len
