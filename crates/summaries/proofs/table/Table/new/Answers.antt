@@ -36,3 +36,6 @@ returns-clause-quiet g c =
     let held = new.table.holds refl in
     quiet_table g.S.PathSet.members _ held.0 held.1 c.new.ensures.pending
     (new.answered ∙ sym (none_sent c.args.procedure c.new.result c.new.ensures))
+
+pub returns-clause-graph : goal.returns-clause-graph
+returns-clause-graph g c = c.graph.ensures

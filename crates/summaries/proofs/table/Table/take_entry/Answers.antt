@@ -1,0 +1,5 @@
+use Rattle.std.proofs.Common.{rules}
+use Rattle.summaries.proofs.table.Table.take_entry.Goals as goal
+
+pub returns : goal.returns
+returns g c = search rules
