@@ -24,6 +24,7 @@ pub mod EntryLemmas
 pub mod SummaryLemmas
 pub mod ExpandedLemmas
 pub mod TableInvariants
+pub mod TakenLemmas
 pub mod WorkLemmas
 pub mod TableLemmas
 pub mod ReplaceLemmas
