@@ -9,9 +9,11 @@ use Rattle.summaries.specs.declared.table_fault.TableFault.{TableFault}
 use Rattle.summaries.specs.Tables.{TableTakes, TookAlso, TookOnly, Worked, failed_by}
 
 -- what has worked on a message has taken it, and has failed if the answer is a fault
-module _ {G A S : Type 0} (members : S → List Triple) (message : Due) (old mid : Table G A S) (none : old.fault ≡ None) where
-  pub has_taken : {T : Type 0} (r : Result T TableFault) → Worked members (λ t. ⊥) r old mid → OnOk r (TookAlso message old.found mid.found)
-      → TookOnly message old.found mid.found → TableTakes members message r old (failed_by r mid)
+module _ {G A S : Type 0} (members : S → List Triple) (message : Due) (old mid : Table G A S)
+    (none : old.fault ≡ None) where
+  pub has_taken : {T : Type 0} (r : Result T TableFault) → Worked members (λ t. ⊥) r old mid
+      → OnOk r (TookAlso message old.found mid.found) → TookOnly message old.found mid.found
+      → TableTakes members message r old (failed_by r mid)
   has_taken (Ok _) worked taken only = record {
     table = record {
       edges = worked.edges;
