@@ -53,3 +53,6 @@ returns-in-Ok-clause-few g c =
     few g.S.PathSet.members g.program c.deref.result.now full.0 full.1 (most_of c.args.limit)
     (subst (HaveLimit (most_of c.args.limit)) (sym c.deref.ensures.value)
     (c.in-Ok.ensures.limits (most_of c.args.limit) c.in_ok-tables.ensures.limit))
+
+pub returns-in-Ok-clause-limit : goal.returns-in-Ok-clause-limit
+returns-in-Ok-clause-limit g c = λ q is. let no : ⊥ = cc in absurd no

@@ -57,9 +57,3 @@ work-preserved g c =
         limit = new.stays.limit ∙ mid.stays.limit ∙ so_far.4.limit;
       },
     )
-
-pub returns-in-Some-answer-clause-none : goal.returns-in-Some-answer-clause-none
-returns-in-Some-answer-clause-none g c = tt
-
-pub returns-in-Some-answer-clause-quiet : goal.returns-in-Some-answer-clause-quiet
-returns-in-Some-answer-clause-quiet g c = tt
