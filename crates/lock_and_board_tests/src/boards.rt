@@ -9,7 +9,7 @@ use post_ledger::{Event, Ledger, Mailbox};
 use std::alloc::{Allocator, Global};
 use std::process::Abort;
 use std::sync::Wait;
-use switchboard::{Board, Cause, Job, LockPerBox, Mail, OneLock, OnePass, PostFault, Taken};
+use switchboard::{Board, Cause, Job, LockPerBox, Mail, OneLock, PostFault, Taken};
 use ticket_lock::Spent;
 
 /// A message of the rows, which fits every mailbox.
@@ -21,10 +21,6 @@ impl Mail<()> for Letter {
 
     ghost fits = { λ world mailbox message. Unit {0} };
 }
-
-pub(crate) type Lines<A> = OneLock<Letter, (), A>;
-
-pub(crate) type Line<A> = OnePass<Letter, (), A>;
 
 /// A board of letters.
 pub(crate) trait Letters: Board<Letter, (), Self::Heap> {
