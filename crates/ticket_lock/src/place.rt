@@ -31,6 +31,9 @@ const YIELDS: u32 = 16;
 
 const SLEEPS: u32 = 8;
 
+// A seat that finds the lock busy draws a ticket after some ten milliseconds at most.
+const _: () = prove!(PAUSES + YIELDS + SLEEPS <= 88);
+
 // How often a ticket is looked at before its thread yields, since the one that it waits for may have no processor.
 const LOOKS: u32 = 16;
 

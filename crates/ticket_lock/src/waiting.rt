@@ -6,6 +6,9 @@ use std::time::Duration;
 /// The longest sleep, in microseconds, as a power of two.
 const LONGEST: u32 = 11;
 
+// A sleep takes two milliseconds at most, whatever number a caller counts.
+const _: () = prove!(LONGEST <= 11);
+
 /// Sleeps for 2^power microseconds, and at most for 2^11. Nobody wakes it before its time.
 pub fn sleep<R: Wait>(rt: &R, power: u32) {
     let word = AtomicU64::new(0);
