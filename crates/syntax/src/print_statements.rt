@@ -1,6 +1,6 @@
 //! Printing statements and blocks.
 
-ghost use Rattle.std.specs.Prelude.{◌≡◌, ◌+◌, ◌++◌, IfOk, option_map};
+ghost use Rattle.std.specs.Prelude.{◌≡◌, ◌≤◌, ◌+◌, ◌^◌, ◌++◌, IfErr, IfOk, option_map};
 ghost use Rattle.std.specs.String.{string_bytes};
 ghost use Rattle.tokens.specs.Parts.{text_of};
 ghost use Rattle.language.specs.Tree.{assign, call, call_for};
@@ -15,7 +15,8 @@ use trees::{Core, Expr, Name, Rhs, Stmt};
 
 /// The level below. No line that fits into memory is indented so far that its level fits no number.
 fn below(level: usize) -> Result<usize, AllocError>
-    ensures { IfOk result (λ next. next ≡ level + 1) }
+    ensures next { IfOk result (λ next. next ≡ level + 1) }
+    ensures none { IfErr result (λ _. 2 ^ 64 ≤ level + 1) }
 {
     level.checked_add(1).ok_or(AllocError)
 }

@@ -58,7 +58,7 @@ print_arms-returns-in_ok-print_block-in-If-2 g t c =
     rw (ap deed_of c.in-If.is ∙ deed_of-If c.in-If.field-0 c.in-If.then c.in-If.otherwise)
     (branch_arms c.print_line-in-If.result (string_bytes c.args.out.now) (string_bytes c.print_line-in-If.new.out)
     (string_bytes c.print_block.new.out) (string_bytes c.print_line.new.out) (string_bytes c.print_block-in-If.new.out)
-    c.args.level c.in_ok-inner.inner (block_of c.in-If.then.items) (rhs_of c.in-If.field-0) c.in_ok-inner.ensures (block_of c.in-If.otherwise.items)
+    c.args.level c.in_ok-inner.inner (block_of c.in-If.then.items) (rhs_of c.in-If.field-0) c.in_ok-inner.ensures.next (block_of c.in-If.otherwise.items)
     (rw c.deref.ensures.value at c.in_ok-print_block-in-If.ensures) c.in_ok-print_line-in-If.ensures
     (rw c.deref-in-If.ensures.value at c.in_ok-print_block-in-If-2.ensures) c.print_line-in-If.ensures)
 
@@ -67,7 +67,7 @@ print_arms-returns-in_ok-print_block-in-While g t c =
     rw (ap deed_of c.in-While.is ∙ deed_of-While c.in-While.field-0 c.in-While.body)
     (loop_arm c.print_line-in-While.result (string_bytes c.args.out.now) (string_bytes c.print_line-in-While.new.out)
     (string_bytes c.print_block-in-While.new.out) [] [] c.args.level c.in_ok-inner.inner (block_of c.in-While.body.items) (rhs_of c.in-While.field-0)
-    c.in_ok-inner.ensures
+    c.in_ok-inner.ensures.next
     (rw c.deref-in-While.ensures.value at c.in_ok-print_block-in-While.ensures) c.print_line-in-While.ensures)
 
 pub print_arms-print_block-requires : goal.print_arms-print_block-requires
