@@ -5,6 +5,7 @@ use Rattle.std.specs.Prelude.{◌⊎◌, MatchBool, nat_lt}
 use Rattle.std.specs.Fmt.{decimal}
 use Rattle.std.specs.List.{prefix_len}
 use Rattle.checked.specs.Checked.{offset}
+use Rattle.checked.specs.Limits.{most_procedures, most_statements, most_threads}
 use Rattle.checked.specs.declared.fault.ScopeFault.{ScopeFault}
 use Rattle.checked.specs.declared.fault.ScopeFault.TheVariants as fault
 use Rattle.diagnostics.specs.Message.{WritesPlace, quoted}
@@ -23,7 +24,7 @@ use Rattle.fault_details.specs.Seeking.{comes_first, seek}
 use Rattle.fault_details.specs.declared.seeking.Sought.TheVariants as sought
 use Rattle.fault_details.specs.Visible.{global_tokens, like_variable}
 use Rattle.fault_details.specs.declared.details.TheConstants.{AND, ARGUMENT, ASSIGNED, CONSTANT, DECLARED, GIVEN, HAS, LABELS}
-use Rattle.fault_details.specs.declared.details.TheConstants.{LIKE, LIKE_END, MOST_PROCEDURES, MOST_STATEMENTS, MOST_THREADS}
+use Rattle.fault_details.specs.declared.details.TheConstants.{LIKE, LIKE_END}
 use Rattle.fault_details.specs.declared.details.TheConstants.{NO_LABEL, NO_PROCEDURE, NONE_FOR_THREADS, PAST, PROCEDURES, RESERVED}
 use Rattle.fault_details.specs.declared.details.TheConstants.{RIGHT_SIDE, STATEMENTS, TAKES, TARGET, THREADS, UNDECLARED}
 
@@ -134,9 +135,9 @@ limit most what many =
 -- which limit of a text is passed, at a thread line, a procedure or a statement
 abbrev pub too_many : List Token → List Token → List Token → List ℕ
 too_many tokens before after =
-    if comes_first kind.Thread after then limit MOST_THREADS THREADS.now (count kind.Thread tokens)
-    else if is_outside before then limit MOST_PROCEDURES PROCEDURES.now (count kind.End tokens)
-    else limit MOST_STATEMENTS STATEMENTS.now (statement_count tokens)
+    if comes_first kind.Thread after then limit most_threads THREADS.now (count kind.Thread tokens)
+    else if is_outside before then limit most_procedures PROCEDURES.now (count kind.End tokens)
+    else limit most_statements STATEMENTS.now (statement_count tokens)
 
 -- The word is a constant in other languages.
 abbrev pub is_constant : List ℕ → Bool
