@@ -26,7 +26,7 @@ use Rattle.fault_details.specs.Deep.{GetsDeep}
 use Rattle.fault_details.specs.Details.{CountsGlobals, CountsThreads, Says}
 use Rattle.hints.specs.Hint.{AddsHint}
 use Rattle.refusals.specs.declared.explanation.TheConstants.{ALL_ASCII, BYTES, EDGES, FEWER, FEWER_END, HIGHER, LESS_OPEN, MAIN}
-use Rattle.refusals.specs.declared.explanation.TheConstants.{MARKED, NO_CALLS, NO_HIGHER, NO_MEMORY, NO_THREAD, ONE_ROUND, OPEN}
+use Rattle.refusals.specs.declared.explanation.TheConstants.{MARKED, NO_HIGHER, NO_MEMORY, ONE_ROUND, OPEN}
 use Rattle.refusals.specs.declared.explanation.TheConstants.{PLACES, PLACES_END, ROUNDS, RUN, SHORTER, TOO_DEEP, TOO_LONG, WIDE}
 use Rattle.refusals.specs.declared.explanation.TheConstants.{WIDE_CHARACTERS}
 use Rattle.refusals.specs.declared.refusal.Refusal.{Refusal}
@@ -163,5 +163,5 @@ Explains path text order (Unchecked fault) old new = ExplainsFault path text fau
 Explains path text order (TooWide wide) old new = ExplainsWide path text (rounds_of order) wide old new
 Explains path text order (EdgeLimit at) old new = ExplainsLimit path text at order old new
 Explains path text order Memory old new = new ≡ old ++ no_memory
-Explains path text order NoWorker old new = new ≡ old ++ (escaped path ++ NO_THREAD.now)
-Explains path text order Spent old new = new ≡ old ++ (escaped path ++ NO_CALLS.now)
+Explains path text order NoWorker old new = new ≡ old ++ (escaped path ++ codes ": error: the system refused a thread for a procedure\n")
+Explains path text order Spent old new = new ≡ old ++ (escaped path ++ codes ": error: the worker of a procedure has used up its calls\n")
