@@ -1,6 +1,6 @@
 //! The messages that a table sends.
 
-ghost use Rattle.std.specs.Prelude.{◌≡◌, ◌≤◌, ◌<◌, ◌^◌, ◌∷◌, [], ◌++◌, length, OnOk, OnErr, IfOk};
+ghost use Rattle.std.specs.Prelude.{◌≡◌, ◌≤◌, ◌<◌, ◌^◌, ◌∷◌, [], ◌++◌, length, OnOk, OnErr, IfErr, IfOk};
 ghost use Rattle.std.specs.Prelude.{IfSome, IfNone};
 ghost use Rattle.std.specs.Bool.{OnTrue, OnFalse};
 ghost use Rattle.language.specs.Lists.{Member, NoneTwice, NoneTwice-prop};
@@ -30,7 +30,8 @@ pub(crate) struct Outbox<A: Allocator> {
 
 /// An index as it is kept. One past what 32 bits hold counts as memory refused.
 pub(crate) fn index_in_32_bits(at: usize) -> Result<u32, AllocError>
-    ensures { IfOk result (λ n. n ≡ at) }
+    ensures same { IfOk result (λ n. n ≡ at) }
+    ensures past { IfErr result (λ _. 2 ^ 32 ≤ at) }
 {
     if at > u32::MAX as usize {
         return Err(AllocError);

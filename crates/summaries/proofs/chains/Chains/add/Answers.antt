@@ -12,7 +12,7 @@ invariant_of-self g c = record {
 pub returns-clause-chain : goal.returns-clause-chain
 returns-clause-chain g c =
     let links = c.args.self.now.links.items in
-    let added = c.in_ok-added.ensures in
+    let added = c.in_ok-added.ensures.same in
     let grown = ap length c.in_ok-append.ensures.ok in
     let longer = length-append links (link c.args.exit c.args.chain ∷ []) in
     omega (arith, added, grown, longer)

@@ -53,7 +53,7 @@ is_new-requires-clause-last g c =
     let same = c.deref.ensures.value ∙ c.make_room.ensures.same in
     let link = mid.last c.find.new.last c.in-Some.field-0-0.now known (sym c.in-Some.ensures.entry) in
     subst (λ ps. IsLink (owners ps) c.in_ok-at.at (length ps) known.last) (sym same)
-    (subst (λ m. IsLink (owners mid.pairs.items) m (length mid.pairs.items) known.last) (sym c.in_ok-at.ensures) link)
+    (subst (λ m. IsLink (owners mid.pairs.items) m (length mid.pairs.items) known.last) (sym c.in_ok-at.ensures.same) link)
 
 pub is_new-requires-clause-fresh : goal.is_new-requires-clause-fresh
 is_new-requires-clause-fresh g c =
@@ -63,7 +63,7 @@ is_new-requires-clause-fresh g c =
     let fresh = seen_before (keys_of mid.pairs.items) (c.find.new.last, c.args.left) (MayHave known.seen c.args.left) c.add-fresh.result
     c.add-fresh.ensures.new (mid.seen c.find.new.last c.in-Some.field-0-0.now known c.args.left (sym c.in-Some.ensures.entry)) in
     subst (λ ps. OnTrue c.add-fresh.result (is_one_of (keys_of ps) (c.in_ok-at.at, c.args.left) ≡ false)) (sym same)
-    (subst (λ m. OnTrue c.add-fresh.result (is_one_of (keys_of mid.pairs.items) (m, c.args.left) ≡ false)) (sym c.in_ok-at.ensures) fresh)
+    (subst (λ m. OnTrue c.add-fresh.result (is_one_of (keys_of mid.pairs.items) (m, c.args.left) ≡ false)) (sym c.in_ok-at.ensures.same) fresh)
 
 pub is_new-requires-clause-hashed : goal.is_new-requires-clause-hashed
 is_new-requires-clause-hashed g c = λ past.
@@ -71,7 +71,7 @@ is_new-requires-clause-hashed g c = λ past.
     let known = c.in-Some.known.now in
     let same = c.deref.ensures.value ∙ c.make_room.ensures.same in
     subst (λ ps. HasAllOf mid.many.keys (keys_of ps) c.in_ok-at.at) (sym same)
-    (subst (HasAllOf mid.many.keys (keys_of mid.pairs.items)) (sym c.in_ok-at.ensures)
+    (subst (HasAllOf mid.many.keys (keys_of mid.pairs.items)) (sym c.in_ok-at.ensures.same)
     (mid.hashed c.find.new.last c.in-Some.field-0-0.now known (sym c.in-Some.ensures.entry) past))
 
 pub invariant_of-self-in-Break-branch-5 : goal.invariant_of-self-in-Break-branch-5
@@ -107,7 +107,7 @@ returns-then-not-new-clause-known g c =
     let there = not_new (is_one_of (keys_of c.deref.result.now) (c.in_ok-at.at, c.args.left)) c.in_ok-new.new c.in_ok-new.ensures.new
     c.if-not-new.true in
     let its : is_one_of (keys_of mid.pairs.items) (n, c.args.left) ≡ true =
-    (λ i. is_one_of (keys_of (sym same i)) (sym c.in_ok-at.ensures i, c.args.left)) ∙ there in
+    (λ i. is_one_of (keys_of (sym same i)) (sym c.in_ok-at.ensures.same i, c.args.left)) ∙ there in
     pair_known c.args.self.now mid n c.args.entry c.args.left c.find.ensures.stay
     (stands (keys mid.by_entry) c.args.entry n c.in_ok-find.ensures.at) (is_member (keys_of mid.pairs.items) (n, c.args.left) its)
 
@@ -130,16 +130,16 @@ invariant_of-self-2 g c =
     let here = sym c.in-Some.ensures.entry in
     let link = c.in_ok-link.link in
     let has : KnownEntry = record { seen = c.add-fresh.new.self; last = link; count = c.one_more.result } in
-    let kept : c.new-pair.result ≡ (n, b) = c.new-pair.ensures ∙ (λ i. (c.in_ok-at.ensures i, b)) in
+    let kept : c.new-pair.result ≡ (n, b) = c.new-pair.ensures ∙ (λ i. (c.in_ok-at.ensures.same i, b)) in
     let after = c.push_reserved.new.self.items in
     let more : after ≡ ps ++ ((n, b), had.last) ∷ [] =
     c.push_reserved.ensures.items ∙ (λ i. c.make_room.ensures.same i ++ (kept i, had.last) ∷ []) in
-    let is_link : link ≡ length ps + 1 = c.in_ok-link.ensures ∙ ap (λ k. k + 1) (c.len.ensures ∙ mid.pairs.ok.0) in
+    let is_link : link ≡ length ps + 1 = c.in_ok-link.ensures.same ∙ ap (λ k. k + 1) (c.len.ensures ∙ mid.pairs.ok.0) in
     let (owned, last, linked) = links_after es ps n entry had b here has after is_link more mid.owned mid.last mid.linked in
     let same = c.deref.ensures.value ∙ c.make_room.ensures.same in
     let keys_more : keys_of after ≡ keys_of ps ++ (n, b) ∷ [] = ap keys_of more ∙ keys_with ps ((n, b), had.last) in
     let looked : IsLookedUp (keys_of ps ++ (n, b) ∷ []) mid.many.keys c.is_new.new.many.keys =
-    subst (λ ks. IsLookedUp ks mid.many.keys c.is_new.new.many.keys) (λ i. keys_of (same i) ++ (c.in_ok-at.ensures i, b) ∷ [])
+    subst (λ ks. IsLookedUp ks mid.many.keys c.is_new.new.many.keys) (λ i. keys_of (same i) ++ (c.in_ok-at.ensures.same i, b) ∷ [])
     (on_true c.in_ok-new.new c.if-not-new.false c.in_ok-new.ensures.added) in
     record {
       once = subst (IsDistinct nat_eq) (sym (keys_written es n has)) mid.once;
@@ -151,7 +151,7 @@ invariant_of-self-2 g c =
       counted = counted_after es ps after n entry had has b here keys_more c.one_more.ensures
           (ap owners more ∙ owners_with ps ((n, b), had.last)) mid.counted;
       hashed = hashed_after es ps after n entry had has b here keys_more mid.many.keys c.is_new.new.many.keys looked.stay
-          (λ past. subst (λ m. HasAllOf c.is_new.new.many.keys (keys_of ps ++ (m, b) ∷ []) m) c.in_ok-at.ensures
+          (λ past. subst (λ m. HasAllOf c.is_new.new.many.keys (keys_of ps ++ (m, b) ∷ []) m) c.in_ok-at.ensures.same
           (subst (λ ks. HasAllOf c.is_new.new.many.keys (ks ++ (c.in_ok-at.at, b) ∷ []) c.in_ok-at.at) (ap keys_of same)
           (on_true c.in_ok-new.new c.if-not-new.false c.in_ok-new.ensures.all (let is = c.one_more.ensures in omega (arith, is, past)))))
           mid.hashed;
@@ -172,14 +172,14 @@ returns-clause-new g c =
     let place = c.deref.ensures.value ∙ c.make_room.ensures.same in
     let apart : Member (n, b) (keys_of ps) → ⊥ = λ m.
     is_new_only (is_one_of (keys_of c.deref.result.now) (c.in_ok-at.at, b)) c.in_ok-new.new c.in_ok-new.ensures.new c.if-not-new.false
-    ((λ i. is_one_of (keys_of (place i)) (c.in_ok-at.ensures i, b)) ∙ one_of (keys_of ps) (n, b) m) in
+    ((λ i. is_one_of (keys_of (place i)) (c.in_ok-at.ensures.same i, b)) ∙ one_of (keys_of ps) (n, b) m) in
     let es = set_value_at mid.by_entry.entries n has in
     let same = keys_written mid.by_entry.entries n has in
-    let kept : c.new-pair.result ≡ (n, b) = c.new-pair.ensures ∙ (λ i. (c.in_ok-at.ensures i, b)) in
+    let kept : c.new-pair.result ≡ (n, b) = c.new-pair.ensures ∙ (λ i. (c.in_ok-at.ensures.same i, b)) in
     let after = c.push_reserved.new.self.items in
     let more : after ≡ ps ++ ((n, b), had.last) ∷ [] =
     c.push_reserved.ensures.items ∙ (λ i. c.make_room.ensures.same i ++ (kept i, had.last) ∷ []) in
-    let is_link : link ≡ length ps + 1 = c.in_ok-link.ensures ∙ ap (λ k. k + 1) (c.len.ensures ∙ mid.pairs.ok.0) in
+    let is_link : link ≡ length ps + 1 = c.in_ok-link.ensures.same ∙ ap (λ k. k + 1) (c.len.ensures ∙ mid.pairs.ok.0) in
     let is : link - 1 ≡ length ps = omega (arith, is_link) in
     record {
       apart = new_apart old mid n c.args.entry b stay known apart es same had.last after more (link - 1) is;
@@ -189,7 +189,7 @@ returns-clause-new g c =
     }
 
 pub overflow_sub-result : goal.overflow_sub-result
-overflow_sub-result g c = omega (arith, c.in_ok-link.ensures)
+overflow_sub-result g c = omega (arith, c.in_ok-link.ensures.same)
 
 pub invariant_of-self : goal.invariant_of-self
 invariant_of-self g c =
