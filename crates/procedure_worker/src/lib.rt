@@ -15,6 +15,6 @@ mod working;
 pub use desk::Context;
 pub use gate::{Gate, Open};
 pub use laws::a_new_pass_is_fresh;
-pub use memory::OutOfMemory;
+pub use memory::{OutOfMemory, read_off};
 pub use outcome::{End, Outcome};
 pub use working::work;

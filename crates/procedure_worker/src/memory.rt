@@ -4,6 +4,7 @@ ghost use Rattle.post_ledger.specs.Orders.{HasJob};
 ghost use Rattle.switchboard.specs.Promises.{WasPosted};
 ghost use Rattle.summaries.specs.Fitting.{FitsIn};
 ghost use Rattle.summaries.specs.Tables.{IsTable, IsAnswer, IsQuiet, KeepsTable, answers_of};
+ghost use Rattle.summaries.specs.Together.{IsReadOff};
 ghost use Rattle.procedure_worker.specs.Stops.{RefusedFor, FailsFor, TakesOrFails};
 
 use crate::desk::Desk;
@@ -12,7 +13,7 @@ use flow_graph::Graphs;
 use path_sets::PathSet;
 use std::alloc::Allocator;
 use std::sync::Wait;
-use summaries::{Due, Table, TableFault};
+use summaries::{Due, Summary, Table, TableFault};
 use switchboard::{Board, Job, PostFault};
 
 /// Evidence that memory was refused to a worker: it comes only from such a refusal.
@@ -74,5 +75,18 @@ pub(crate) fn deliver<G: Allocator, A: Allocator + Copy, S: PathSet<A>>(
         Ok(()) => Ok(()),
         Err(TableFault::Memory) => Err(Reason::OutOfMemory(OutOfMemory(()))),
         Err(TableFault::EdgeLimit) => Err(Reason::EdgeLimit),
+    }
+}
+
+/// What the table of a worker that has ended found, as `summaries::read_off` says it.
+pub fn read_off<G: Allocator, A: Allocator + Copy, S: PathSet<A>>(
+    alloc: A,
+    table: Table<'_, G, A, S>,
+) -> Result<Summary<A>, OutOfMemory>
+    ensures { IfOk result (IsReadOff table.entry.found) }
+{
+    match summaries::read_off(alloc, table) {
+        Ok(summary) => Ok(summary),
+        Err(_) => Err(OutOfMemory(())),
     }
 }

@@ -1,5 +1,5 @@
 //! What a worker does with what its last take answered.
-ghost use Rattle.std.specs.Prelude.{◌≡◌, OnOk, MatchResult};
+ghost use Rattle.std.specs.Prelude.{◌≡◌, ◌⊎◌, IfOk, OnOk, MatchResult};
 ghost use Rattle.std.specs.Option.{ForSome};
 ghost use Rattle.post_ledger.specs.Orders.{HasJob};
 ghost use Rattle.summaries.specs.Fitting.{FitsIn};
@@ -190,7 +190,6 @@ impl<'g, P, G: Allocator, A: Allocator + Copy, S: PathSet<A>> Worker<'g, P, G, A
         ensures { HasDealt (start_of B.identity desk.now) S.members job result
             (B.sight self.old.pass) (B.sight self.new.pass) self.new }
     {
-        self.empty = 0;
         self.taken = self.taken.wrapping_add(1);
         desk.context.gate.taken(desk.number, self.taken);
         match deliver(&mut self.table, due) {
@@ -208,8 +207,9 @@ impl<'g, P, G: Allocator, A: Allocator + Copy, S: PathSet<A>> Worker<'g, P, G, A
     ) -> Result<Taken<Due>, Finish>
         requires { IsReady (start_of B.identity desk.now) S.members
             (B.sight self.old.pass) self.old }
-        ensures { HasTurned (start_of B.identity desk.now) S.members answer.Empty result
+        ensures turned { HasTurned (start_of B.identity desk.now) S.members answer.Empty result
             (B.sight self.old.pass) (B.sight self.new.pass) self.new }
+        ensures rested { IfOk result (λ taken. (taken ≡ answer.Empty) ⊎ (self.new.empty ≡ 0)) }
     {
         // Read before the take, so that `pause` sees a visit that the take came too early for.
         let visits = desk.context.board.visits(&self.pass);
@@ -220,7 +220,10 @@ impl<'g, P, G: Allocator, A: Allocator + Copy, S: PathSet<A>> Worker<'g, P, G, A
                 self.empty = self.empty.saturating_add(1);
                 Ok(Taken::Empty)
             }
-            Ok(taken) => Ok(taken),
+            Ok(taken) => {
+                self.empty = 0;
+                Ok(taken)
+            }
             Err(Spent) => Err(fail(desk, &mut self.pass, None, Reason::Spent)),
         }
     }
