@@ -142,7 +142,7 @@ partners R (x ∷ xs) has =
 -- the evidence with which a lane failed
 abbrev lack_in : {A : Type 0} → Finding A → Option OutOfMemory
 lack_in (finding.Closed s) = None
-lack_in (finding.Unread error) = None
+lack_in (finding.Unread evidence) = None
 lack_in finding.Aborted = None
 lack_in (finding.Failed c out_of_memory) = out_of_memory
 

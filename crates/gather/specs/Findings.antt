@@ -19,7 +19,7 @@ module _ {Alloc : Type 0} where
   -- how a lane ended
   abbrev pub finding_end : Finding Alloc → End
   finding_end (Closed s) = end.Closed
-  finding_end (Unread error) = end.Closed
+  finding_end (Unread evidence) = end.Closed
   finding_end Aborted = end.Aborted
   finding_end (Failed c out_of_memory) = end.Failed c
 

@@ -4,9 +4,9 @@ ghost use Rattle.summaries.specs.declared.table.Table.{Table};
 ghost use Rattle.gather.specs.Findings.{finding_end, IsLeftOf};
 
 use path_sets::PathSet;
-use procedure_worker::{End, OutOfMemory, Outcome};
-use std::alloc::{AllocError, Allocator};
-use summaries::{Summary, read_off};
+use procedure_worker::{End, OutOfMemory, Outcome, read_off};
+use std::alloc::Allocator;
+use summaries::Summary;
 use switchboard::Cause;
 
 /// What a lane leaves beside its pass: what its table found, or why that is not known.
@@ -14,8 +14,8 @@ use switchboard::Cause;
 pub enum Finding<A: Allocator> {
     /// Its worker ended at the close, and this was read off its table.
     Closed(Summary<A>),
-    /// Its worker ended at the close, but memory was refused while its table was read off.
-    Unread(AllocError),
+    /// Its worker ended at the close, but its table was not read off: there is evidence that memory was refused for that.
+    Unread(OutOfMemory),
     /// Its worker ended at the abort of another pass.
     Aborted,
     /// Its pass aborted the board for this cause; for lack of memory there is evidence that memory was refused.
@@ -53,7 +53,7 @@ pub(crate) fn finding_of<G: Allocator, A: Allocator + Copy, S: PathSet<A>>(
     match end {
         End::Closed => match read_off(alloc, table) {
             Ok(summary) => Finding::Closed(summary),
-            Err(error) => Finding::Unread(error),
+            Err(evidence) => Finding::Unread(evidence),
         },
         End::Aborted => Finding::Aborted,
         End::Failed(cause) => Finding::Failed(cause, out_of_memory),

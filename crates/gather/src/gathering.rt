@@ -87,7 +87,7 @@ fn summaries_in<A: Allocator + Copy>(
     for finding in findings {
         match finding {
             Finding::Closed(summary) => summaries.push(summary)?,
-            Finding::Unread(error) => return Err(error),
+            Finding::Unread(_) => return Err(AllocError),
             Finding::Aborted | Finding::Failed(..) => {}
         }
     }
