@@ -21,7 +21,7 @@ use crate::sequential::sequential;
 use flow_graph::Graphs;
 use gather::{Answer, CrewBoard, CrewSet, Report};
 use orders::Order;
-use path_sets::SlotEdges;
+use path_sets::DiagramEdges;
 use procedure_worker::{Gate, Open};
 use refusals::{MEMORY_LINE, Refusal, line, status};
 use round_rewrite::Rounds;
@@ -214,7 +214,7 @@ where
         → IsPastLimit text.now order }
     ensures status { result.status ≤ 3 }
 {
-    answer_with::<R, LockPerBox<Due, Graphs<R::A>, R::A>, SlotEdges<R::A>, Open>(
+    answer_with::<R, LockPerBox<Due, Graphs<R::A>, R::A>, DiagramEdges<R::A>, Open>(
         rt,
         rt.alloc(),
         rt.alloc(),

@@ -1,6 +1,6 @@
 //! The boards and the sets that workers may work with, and those that a crew of threads may.
 use flow_graph::Graphs;
-use path_sets::{DiagramEdges, OrderedEdges, PathSet, SlotEdges};
+use path_sets::{DiagramEdges, OrderedEdges, PathSet};
 use std::alloc::Allocator;
 use summaries::Due;
 use switchboard::{Board, LockPerBox, OneLock};
@@ -31,10 +31,6 @@ impl<A: Allocator + Copy> WorkSet for DiagramEdges<A> {
     type Heap = A;
 }
 
-impl<A: Allocator + Copy> WorkSet for SlotEdges<A> {
-    type Heap = A;
-}
-
 /// A board that threads may share, and whose passes may go to them.
 pub trait CrewBoard: WorkBoard<Heap: Send + Sync>
     + Board<Due, Graphs<Self::Heap>, Self::Heap, Pass: Send + Drop>
@@ -51,5 +47,3 @@ pub trait CrewSet: WorkSet<Heap: Send + Sync> + Send {}
 impl<A: Allocator + Copy + Send + Sync> CrewSet for OrderedEdges<A> {}
 
 impl<A: Allocator + Copy + Send + Sync> CrewSet for DiagramEdges<A> {}
-
-impl<A: Allocator + Copy + Send + Sync> CrewSet for SlotEdges<A> {}

@@ -16,7 +16,7 @@ use crate::kinds::{CrewBoard, CrewSet};
 use checked::Checked;
 use flow_graph::{Graphs, graphs};
 use jobs::{Always, Hire};
-use path_sets::{Halves, SlotEdges};
+use path_sets::{DiagramEdges, Halves};
 use post_ledger::Ledger;
 use procedure_worker::{Context, Gate};
 use round_rewrite::{RewriteFault, Rounds, rewrite};
@@ -206,7 +206,7 @@ where
     ensures none { IfErr result
         (IsNoReport (checked_tree program.now) (count_of rounds) (most_of limit)) }
 {
-    check_rounds_with::<R, LockPerBox<Due, Graphs<A>, A>, SlotEdges<A>, K, N>(
+    check_rounds_with::<R, LockPerBox<Due, Graphs<A>, A>, DiagramEdges<A>, K, N>(
         rt, alloc, alloc, program, rounds, limit, gate,
     )
 }

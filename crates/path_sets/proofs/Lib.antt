@@ -31,5 +31,3 @@ pub mod CoverLemmas
 pub mod GatheredKeyLemmas
 pub mod GatherLemmas
 pub mod BatchLemmas
-pub mod SlotLemmas
-pub mod SlotSetLemmas

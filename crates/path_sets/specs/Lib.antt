@@ -16,6 +16,4 @@ pub mod Members
 pub mod GatheredKeys
 pub mod Batches
 pub mod Contents
-pub mod Slots
-pub mod SlotSets
 pub mod Suffixes

@@ -13,7 +13,6 @@ mod laws;
 mod ordered;
 mod path_set;
 mod points;
-mod slots;
 
 pub use diagrams::diagram_edges::DiagramEdges;
 pub use edge_limit::{EdgeLimit, MOST_EDGES};
@@ -24,5 +23,3 @@ pub use ordered::ordered_edges::OrderedEdges;
 pub use path_set::PathSet;
 pub use points::halves::Halves;
 pub use points::mask::add_point;
-pub use slots::slot_edges::SlotEdges;
-pub use slots::slots::home_of;

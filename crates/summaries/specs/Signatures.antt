@@ -1,7 +1,6 @@
 -- Sets of 64 bits that tell which of many exits may be among some.
-use Rattle.std.specs.Prelude.{◌≡◌, ◌+◌, ◌/◌, ◌%◌, ◌^◌, ℕ, if◌then◌else◌, true}
+use Rattle.std.specs.Prelude.{◌≡◌, ◌+◌, ◌*◌, ◌/◌, ◌%◌, ◌^◌, ℕ, if◌then◌else◌, true}
 use Rattle.path_sets.specs.Masks.{bit_of}
-use Rattle.path_sets.specs.Slots.{home_in}
 use Rattle.flow_graph.specs.declared.exit.Exit.{Exit}
 use Rattle.summaries.specs.declared.signature.Signature.{Signature}
 
@@ -9,9 +8,9 @@ use Rattle.summaries.specs.declared.signature.Signature.{Signature}
 abbrev pub folded : Exit → ℕ
 folded left = ((left.globals % 2 ^ 64 + left.globals / 2 ^ 64) % 2 ^ 64 + (if left.result then 1 else 0)) % 2 ^ 64
 
--- which of the 64 bits an exit has
+-- which of the 64 bits an exit has: the highest six bits of 64 of a product, whose factor is 2 ^ 64 divided by the golden ratio
 abbrev pub bit_for : Exit → ℕ
-bit_for left = home_in (folded left) 64
+bit_for left = folded left * 11400714819323198485 % 2 ^ 64 / 2 ^ 58
 
 -- the exit may be among those that were added: its bit is 1
 abbrev pub MayHave : Signature → Exit → Type 0
