@@ -1,6 +1,6 @@
 -- What is in a list with one more item, and how such lists are put together.
 use Rattle.std.proofs.Common.{◌≡◌, ◌+◌, if◌then◌else◌, Bool, true, false, List, [], ◌∷◌, ◌++◌, ◌⊎◌, map, length}
-use Rattle.std.proofs.Common.{ℕ, ◌<◌, ◌^◌, Fits, w64, inl, inr, refl, sym, ap, subst, arith}
+use Rattle.std.proofs.Common.{ℕ, ◌<◌, ◌^◌, Fits, w64, inl, inr, refl, sym, ap, subst, arith, Result, Ok, Err, OnErr}
 use Rattle.language.specs.Lists.{Member, NoneTwice}
 use Rattle.path_sets.specs.Inserts.{Inserts, here, there}
 
@@ -69,3 +69,8 @@ count_fits count old new is same few =
     let e = ap length same in record {
       fits = omega (arith, is, e, few);
     }
+
+-- what holds before holds after an error
+pub at_error : {T E P : Type 0} (r : Result T E) → P → OnErr r P
+at_error (Ok _) p = tt
+at_error (Err _) p = p

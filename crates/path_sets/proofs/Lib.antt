@@ -5,7 +5,7 @@ pub mod MaskLemmas
 pub mod MaskKeyLemmas
 pub mod EdgesLemmas
 pub mod PointLemmas
-pub mod ShardLemmas
+pub mod OrderLemmas
 pub mod WalkLemmas
 pub mod GrowthLemmas
 pub mod NodeLemmas

@@ -5,7 +5,7 @@ pub mod Inserts
 pub mod Keys
 pub mod Masks
 pub mod Edges
-pub mod Shards
+pub mod EdgeOrders
 pub mod Walks
 pub mod Halves
 pub mod Quads

@@ -10,7 +10,7 @@ mod diagrams;
 mod edge_limit;
 mod kept_nodes;
 mod laws;
-mod ordered;
+mod ordered_edges;
 mod path_set;
 mod points;
 
@@ -19,7 +19,7 @@ pub use edge_limit::{EdgeLimit, MOST_EDGES};
 pub use laws::{
     equal_sets_have_one_number, members_have_one_count, the_least_valuations_make_a_chain,
 };
-pub use ordered::ordered_edges::OrderedEdges;
+pub use ordered_edges::OrderedEdges;
 pub use path_set::PathSet;
 pub use points::halves::Halves;
 pub use points::mask::add_point;

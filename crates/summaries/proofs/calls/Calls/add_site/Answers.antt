@@ -1,6 +1,6 @@
 use Rattle.std.proofs.Common.{◌≡◌, ◌≤◌, ◌++◌, ◌∷◌, [], List, Option, Some, length, sym, ap, ◌∙◌, subst, arith, rules}
 use Rattle.flow_graph.specs.declared.exit.Exit.{Exit}
-use Rattle.path_sets.proofs.ShardLemmas.{at_error}
+use Rattle.path_sets.proofs.InsertsLemmas.{at_error}
 use Rattle.indexmap.specs.IndexMap.{get}
 use Rattle.indexmap.specs.Entry.{entry_value}
 use Rattle.summaries.specs.declared.calls.KnownCall.{KnownCall}

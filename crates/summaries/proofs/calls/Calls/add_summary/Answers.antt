@@ -1,6 +1,6 @@
 use Rattle.std.proofs.Common.{◌≡◌, ◌≤◌, ◌++◌, ◌∷◌, [], length, length-append, refl, sym, ap, ◌∙◌, subst, arith, rules}
 use Rattle.std.specs.Map.{lookup}
-use Rattle.path_sets.proofs.ShardLemmas.{at_error}
+use Rattle.path_sets.proofs.InsertsLemmas.{at_error}
 use Rattle.indexmap.specs.Entry.{entry_value}
 use Rattle.summaries.specs.declared.calls.KnownCall.{KnownCall}
 use Rattle.summaries.specs.Under.{values_in}

@@ -1,5 +1,5 @@
 use Rattle.std.proofs.Common.{◌≡◌, [], ◌∷◌, ◌++◌, sym, ap, ◌∙◌, rules}
-use Rattle.path_sets.proofs.ShardLemmas.{at_error}
+use Rattle.path_sets.proofs.InsertsLemmas.{at_error}
 use Rattle.indexmap.specs.Entry.{entry_value}
 use Rattle.summaries.specs.Under.{values_in, values_if_any, under}
 use Rattle.summaries.proofs.GroupLemmas.{same_after, added_after, others_after}

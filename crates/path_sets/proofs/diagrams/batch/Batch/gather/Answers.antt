@@ -9,7 +9,7 @@ use Rattle.path_sets.proofs.GatherLemmas.{gathers_more, keys_first, keys_more, k
 use Rattle.path_sets.proofs.GatherLemmas.{len_first, len_more, no_longer, one_more_not_same, put_at}
 use Rattle.std.proofs.lemmas.Bool.{OnTrue_from}
 use Rattle.std.proofs.lemmas.Result.{IfOk-from_err}
-use Rattle.path_sets.proofs.ShardLemmas.{at_error}
+use Rattle.path_sets.proofs.InsertsLemmas.{at_error}
 use Rattle.path_sets.proofs.diagrams.batch.Batch.gather.Given as given
 use Rattle.path_sets.proofs.diagrams.batch.Batch.gather.Goals as goal
 use Rattle.path_sets.proofs.diagrams.batch.Batch.gather.Goals.{After-add_point, After-from_residual, After-insert}

@@ -17,7 +17,7 @@ use Rattle.path_sets.proofs.EdgesLemmas.{Groups}
 use Rattle.path_sets.proofs.CoverLemmas.{longer, members_kept, members_put, members_same, was_known, was_new}
 use Rattle.path_sets.proofs.GatheredKeyLemmas.{mask_key_is}
 use Rattle.path_sets.proofs.MembersLemmas.{Fits, all_none_twice}
-use Rattle.path_sets.proofs.ShardLemmas.{at_error}
+use Rattle.path_sets.proofs.InsertsLemmas.{at_error}
 use Rattle.path_sets.proofs.diagrams.diagram_edges.DiagramEdges.insert_elsewhere.Given as given
 use Rattle.path_sets.proofs.diagrams.diagram_edges.DiagramEdges.insert_elsewhere.Goals as goal
 use Rattle.path_sets.proofs.diagrams.diagram_edges.DiagramEdges.insert_elsewhere.Goals.{After-gather, In_ok-added}
