@@ -11,7 +11,7 @@
 //! | `check`, `parts` | what the check of scopes says about a text (rewritings.rt) |
 //! | `rewrite`, `holds`, `fits`, `widths`, `rounds` | what a text is rewritten to (rewritings.rt) |
 //! | a number | the answer to a question on the flow graphs of a text that is rewritten for so many rounds (graphs.rt) |
-//! | `set`, `many`, `refused`, `nodes` | what sets of path edges return (sets.rt) |
+//! | `set`, `many`, `nodes` | what sets of path edges return (sets.rt) |
 //! | `limit`, `summaries`, `table` | what a table owes after some messages, and what it all comes to (tables.rt) |
 //! | `one`, `lock` | what a board returns after an abort (boards.rt) |
 #![tactic(auto)]
@@ -44,7 +44,7 @@ fn answer<R: Wait>(rt: &R, alloc: Global, out: &mut String, line: &str) -> Resul
         "check" | "parts" | "rewrite" | "holds" | "fits" | "widths" | "rounds" => {
             rewritings::answer(alloc, out, sweep, word, rest)
         }
-        "set" | "many" | "refused" | "nodes" => sets::answer(alloc, out, sweep, word, rest),
+        "set" | "many" | "nodes" => sets::answer(alloc, out, sweep, word, rest),
         "limit" | "summaries" | "table" => tables::answer(alloc, out, sweep, word, rest),
         "one" | "lock" => boards::answer(rt, alloc, out, line),
         _ => graphs::answer(alloc, out, sweep, case),

@@ -3,11 +3,10 @@
 //! | Line | What is printed under it |
 //! |---|---|
 //! | `set STEPS` | what each step on an empty set returns |
-//! | `many N WIDTH POINTS` | whether all kinds of sets answer alike to N triples in no order, of WIDTH bits (below 128), POINTS points and 8 entries |
+//! | `many N WIDTH POINTS` | whether both kinds of sets answer alike to N triples in no order, of WIDTH bits (below 128), POINTS points and 8 entries |
 //! | `many N WIDTH POINTS TURN` | the same, if eight other entries follow after TURN triples each |
-//! | `refused STEPS / STEPS` | what each step behind the `/` on a set of slots returns if the first allocation there is refused, and no other |
 //! | `nodes STEPS` | what each step on an empty set of diagrams returns |
-//! | `each allocation: many KIND N WIDTH` | whether a set (`ordered`, `diagrams` or `slots`) takes N triples of WIDTH bits all the same if each allocation is refused in turn |
+//! | `each allocation: many KIND N WIDTH` | whether a set (`ordered` or `diagrams`) takes N triples of WIDTH bits all the same if each allocation is refused in turn |
 //! | `each allocation: set KIND N` | whether a set of N triples is as it was at each refused allocation, and takes none twice |
 //! | `each allocation: nodes 5.2 STEPS` | the result of `@5.2` after the other steps if each of its allocations is refused in turn |
 //!
@@ -25,7 +24,6 @@
 mod many;
 mod nodes;
 mod refused_nodes;
-mod refused_steps;
 mod sets;
 
 use crate::sweeps::write_swept;
@@ -33,7 +31,6 @@ use cases::{Sweep, first_word};
 use many::{agree, takes_each};
 use nodes::counts;
 use refused_nodes::refused_counts;
-use refused_steps::refused_steps;
 use sets::{Kind, keeps_each, steps};
 use std::alloc::{AllocError, Global};
 
@@ -57,7 +54,6 @@ fn plain(alloc: Global, out: &mut String, head: &str, text: &str) -> Result<(), 
         "set" => steps(alloc, out, text),
         "many" => agree(alloc, out, text),
         "nodes" => counts(alloc, out, text),
-        "refused" => refused_steps(alloc, out, text),
         _ => Ok(()),
     }
 }

@@ -1,10 +1,10 @@
-//! Many path edges in all kinds of sets: so many that sets of diagrams put what they gather into the
+//! Many path edges in both kinds of sets: so many that sets of diagrams put what they gather into the
 //! diagrams.
 
 use crate::sets::sets::{Kind, contains, insert};
 use cases::{Outcome, Sweep, Swept, first_word};
 use language::Word;
-use path_sets::{DiagramEdges, OrderedEdges, PathSet, SlotEdges};
+use path_sets::{DiagramEdges, OrderedEdges, PathSet};
 use scarce::Scarce;
 use std::alloc::{AllocError, Allocator, Global};
 
@@ -90,7 +90,7 @@ fn fill_alike<A: Allocator, B: Allocator, S: PathSet<A>, T: PathSet<B>>(
     Ok(alike && have_alike(&one, &other, shape, shape.count.saturating_mul(2)))
 }
 
-/// Writes whether all kinds of sets answer alike.
+/// Writes whether both kinds of sets answer alike.
 pub fn agree(alloc: Global, out: &mut String, numbers: &str) -> Result<(), AllocError> {
     let (count, rest) = first_word(numbers);
     let (width, rest) = first_word(rest);
@@ -101,15 +101,8 @@ pub fn agree(alloc: Global, out: &mut String, numbers: &str) -> Result<(), Alloc
         points,
         turn: first_word(rest).0,
     };
-    let diagrams = fill_alike::<_, _, DiagramEdges<_>, OrderedEdges<_>>(alloc, alloc, shape)?;
-    let slots = fill_alike::<_, _, SlotEdges<_>, OrderedEdges<_>>(alloc, alloc, shape)?;
-    let text = match (diagrams, slots) {
-        (true, true) => "agree",
-        (false, true) => "diagrams differ",
-        (true, false) => "slots differ",
-        (false, false) => "both differ",
-    };
-    write!(out, "{text}")
+    let alike = fill_alike::<_, _, DiagramEdges<_>, OrderedEdges<_>>(alloc, alloc, shape)?;
+    write!(out, "{}", if alike { "agree" } else { "differ" })
 }
 
 /// A set that takes so many edges, whichever of its allocations is refused.
@@ -129,7 +122,6 @@ pub fn takes_each(alloc: Global, sweep: Sweep, kind: Kind, numbers: &str) -> Swe
             Kind::Diagrams => {
                 fill_alike::<_, _, DiagramEdges<_>, OrderedEdges<_>>(scarce, alloc, shape)
             }
-            Kind::Slots => fill_alike::<_, _, SlotEdges<_>, OrderedEdges<_>>(scarce, alloc, shape),
         };
         match alike {
             Ok(true) => Outcome::Whole,

@@ -3,7 +3,7 @@
 use crate::sets::nodes::filling;
 use cases::{Outcome, Sweep, Swept, first};
 use language::Word;
-use path_sets::{DiagramEdges, OrderedEdges, PathSet, SlotEdges};
+use path_sets::{DiagramEdges, OrderedEdges, PathSet};
 use scarce::Scarce;
 use std::alloc::{AllocError, Allocator, Global};
 
@@ -12,7 +12,6 @@ use std::alloc::{AllocError, Allocator, Global};
 pub enum Kind {
     Ordered,
     Diagrams,
-    Slots,
 }
 
 impl Kind {
@@ -21,7 +20,6 @@ impl Kind {
         match name {
             "ordered" => Some(Kind::Ordered),
             "diagrams" => Some(Kind::Diagrams),
-            "slots" => Some(Kind::Slots),
             _ => None,
         }
     }
@@ -64,17 +62,13 @@ pub fn contains<A: Allocator, S: PathSet<A>>(set: &S, edge: (Word, usize, Word))
     set.contains(edge.0, edge.1, edge.2)
 }
 
-/// Writes what each step on an empty ordered set returns, and on one of diagrams and one of slots where that differs.
+/// Writes what each step on an empty ordered set returns, and on one of diagrams where that differs.
 pub fn steps(alloc: Global, out: &mut String, words: &str) -> Result<(), AllocError> {
     let ordered = steps_of::<OrderedEdges<_>>(alloc, words)?;
     let diagrams = steps_of::<DiagramEdges<_>>(alloc, words)?;
-    let slots = steps_of::<SlotEdges<_>>(alloc, words)?;
     out.push_str(ordered.as_str())?;
     if diagrams.as_str() != ordered.as_str() {
         write!(out, "diagrams: {}", diagrams.as_str())?;
-    }
-    if slots.as_str() != ordered.as_str() {
-        write!(out, "slots: {}", slots.as_str())?;
     }
     Ok(())
 }
@@ -173,6 +167,5 @@ pub fn keeps_each(alloc: Global, sweep: Sweep, kind: Kind, different: u64) -> Sw
     sweep.of(alloc, |scarce: &Scarce<Global>| match kind {
         Kind::Ordered => outcome::<OrderedEdges<_>>(scarce, different),
         Kind::Diagrams => outcome::<DiagramEdges<_>>(scarce, different),
-        Kind::Slots => outcome::<SlotEdges<_>>(scarce, different),
     })
 }

@@ -9,6 +9,9 @@ use language::Word;
 use std::hash::{Hash, Hasher};
 use std::marker::Model;
 
+/// 2^64 divided by the golden ratio, by which the high half of a valuation is multiplied before it is hashed with the low one.
+const SPREAD: u64 = 0x9E37_79B9_7F4A_7C15;
+
 /// Half of a valuation: 64 bits in two words of 32, which need not be aligned to 8 bytes.
 #[derive(Clone, Copy)]
 struct Half {
@@ -118,11 +121,15 @@ impl Eq for Halves {
 }
 
 impl Hash for Halves {
-    ghost hash_input = { fed.u128 };
+    ghost use Rattle.std.specs.Prelude.{◌+◌, ◌*◌, ◌/◌, ◌%◌, ◌^◌};
+
+    ghost hash_input = { λ n. fed.u64 ((n % 2 ^ 64 + n / 2 ^ 64 * 11400714819323198485 % 2 ^ 64) % 2 ^ 64) };
 
     ghost respects_eq = { Prim.search (hashing, rules) };
 
+    // Both halves in one number of 64 bits, since a hasher takes one in a few steps.
     fn hash<H: Hasher>(&self, state: &mut H) {
-        self.word().hash(state);
+        let high = self.high.bits().wrapping_mul(SPREAD);
+        self.low.bits().wrapping_add(high).hash(state);
     }
 }
