@@ -28,15 +28,6 @@ pub one_longer : {A : Type 0} (x : A) (xs ys : List A) → Inserts x xs ys → l
 one_longer x xs ys (here us) = omega arith
 one_longer x xs ys (there y us vs i) = let e = one_longer x us vs i in omega (arith, e)
 
--- nothing occurs twice if x is new
-pub still_none_twice : {A : Type 0} (x : A) (xs ys : List A) → Inserts x xs ys →
-    (Member x xs → ⊥) → NoneTwice xs → NoneTwice ys
-still_none_twice x xs ys (here _) new n = (new, n)
-still_none_twice x xs ys (there y us vs i) new (y_once, n) = (
-  λ m. elim (is_new_or_old x y us vs i m) [ inl e ↦ new (inl (sym e)) | inr old ↦ y_once old ],
-  still_none_twice x us vs i (λ m. new (inr m)) n,
-)
-
 -- the same after other items
 pub behind : {A : Type 0} (x : A) (zs xs ys : List A) → Inserts x xs ys → Inserts x (zs ++ xs) (zs ++ ys)
 behind x [] xs ys i = i

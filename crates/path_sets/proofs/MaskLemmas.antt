@@ -130,17 +130,6 @@ marked m w b true was is = (sym was, ap (bit_or m) is ∙ stays_in m b (sym was)
 marked m w b false was is =
     subst (λ x. AddsPoint b m (bit_or m x) true) (sym is) (sym was, put_in_is m b (sym was), others_are m b)
 
--- a mask has a bit if it stays the same when the bit is put in
-pub has_if_same : (m b : ℕ) → bit_of m b ≡ nat_eq (bit_or m (2 ^ b)) m
-has_if_same m b = go (bit_of m b) refl
-  where
-    go : (v : Bool) → bit_of m b ≡ v → v ≡ nat_eq (bit_or m (2 ^ b)) m
-    go true set = sym (ap (λ k. nat_eq k m) (stays_in m b set) ∙ eq-eqb m m refl)
-    go false clear = elim (cases_eq (bit_or m (2 ^ b)) m) [
-      | inl same ↦ absurd (true≢false (sym (put_in_is m b clear) ∙ ap (λ k. bit_of k b) same ∙ clear))
-      | inr other ↦ sym (ne_eqb (bit_or m (2 ^ b)) m other)
-    ]
-
 -- the mask of one bit lists that alone
 pub first_bit : (w b : ℕ) → b < 64 → w ≡ 2 ^ b → Inserts b [] (bits_below w 64)
 first_bit w b small is =

@@ -60,29 +60,3 @@ pub(crate) fn find<K: Eq + Hash, V, A: Allocator + Copy>(
     }
     index_of(map, key)
 }
-
-/// The index of a key if it has a value, else some other index; the key at the index `last` is tried first.
-pub(crate) fn seek<K: Eq + Hash, V, A: Allocator + Copy>(
-    map: &ByKey<K, V, A>,
-    last: usize,
-    key: &K,
-) -> usize
-    requires { IsExact K.eq }
-{
-    find(map, last, key).unwrap_or(last)
-}
-
-/// Inserts the value of a key that has none.
-pub(crate) fn insert_new<K: Eq + Hash + Copy, V: Copy, A: Allocator + Copy>(
-    map: &mut ByKey<K, V, A>,
-    key: K,
-    value: V,
-) -> Result<(), AllocError>
-    requires { lookup (K.eq key) map.old.entries ≡ None }
-    ensures ok { OnOk result (map.new.entries ≡ map.old.entries ++ (key, value) ∷ []) }
-    ensures err { OnErr result (map.new.entries ≡ map.old.entries) }
-    ensures unique { IsUnique K.eq map.new }
-{
-    map.insert(key, value)?;
-    Ok(())
-}
