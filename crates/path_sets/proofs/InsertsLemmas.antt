@@ -1,7 +1,7 @@
 -- What is in a list with one more item, and how such lists are put together.
 use Rattle.std.proofs.Common.{◌≡◌, ◌+◌, if◌then◌else◌, Bool, true, false, List, [], ◌∷◌, ◌++◌, ◌⊎◌, map, length}
 use Rattle.std.proofs.Common.{ℕ, ◌<◌, ◌^◌, Fits, w64, inl, inr, refl, sym, ap, subst, arith, Result, Ok, Err, OnErr}
-use Rattle.language.specs.Lists.{Member, NoneTwice}
+use Rattle.language.specs.Lists.{Member}
 use Rattle.path_sets.specs.Inserts.{Inserts, here, there}
 
 -- what is in the longer list is x, or was there

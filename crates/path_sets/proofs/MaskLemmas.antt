@@ -1,9 +1,9 @@
 -- The bits of a mask, and one more of them.
 use Rattle.std.proofs.Common.{bit_or, ◌≡◌, ◌≢◌, ℕ, zero, suc, ◌<◌, ◌*◌, ◌^◌, ◌%◌, ◌≤◌}
-use Rattle.std.proofs.Common.{nat_eq, nat_lt, Bool, true, false, not}
+use Rattle.std.proofs.Common.{nat_lt, Bool, true, false, not}
 use Rattle.std.proofs.Common.{cond, max, ◌==◌, [], ◌∷◌, inl, inr, refl, sym, ap, ap₂, ◌∙◌, subst, true≢false, arith}
 use Rattle.std.specs.Int.{bit_at}
-use Rattle.std.proofs.lemmas.Bool.{cases_eq, eq-eqb, ltb-true, ltb-false, ne_eqb}
+use Rattle.std.proofs.lemmas.Bool.{cases_eq, ltb-true, ltb-false}
 use Rattle.std.proofs.lemmas.Nat.Bits.{bit_at-lt, bit_at-zero, bit_at_or, bit_at-pow_same, bit_at-pow_other, same_from_bits}
 use Rattle.std.proofs.Math.Pow.{pow_mono}
 use Rattle.language.specs.Lists.{Member}

@@ -16,4 +16,5 @@ pub mod Members
 pub mod GatheredKeys
 pub mod Batches
 pub mod Contents
+pub mod Rooms
 pub mod Suffixes

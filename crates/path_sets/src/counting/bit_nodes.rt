@@ -13,10 +13,10 @@ use crate::kept_nodes::{KeptNodes, index_of};
 use indexmap::IndexSet;
 use std::alloc::{AllocError, Allocator};
 
-/// The number of the empty set.
-pub(crate) const NONE: u32 = 0;
+/// The number of the set of no valuations.
+pub(crate) const EMPTY: u32 = 0;
 /// The number of the set of all valuations.
-pub(crate) const ALL: u32 = 1;
+pub(crate) const FULL: u32 = 1;
 /// How many nodes there may be: their numbers, from 2 on, are below 2^32.
 pub(crate) const MOST: usize = 4_294_967_293;
 

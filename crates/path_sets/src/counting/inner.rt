@@ -6,7 +6,7 @@ ghost use Rattle.path_sets.specs.Walks.{IsNumber};
 ghost use Rattle.path_sets.specs.Diagrams.{accepts};
 ghost use Rattle.path_sets.specs.Suffixes.{HasNodes};
 
-use crate::counting::bit_nodes::{ALL, BitNodes};
+use crate::counting::bit_nodes::{FULL, BitNodes};
 use std::alloc::{AllocError, Allocator};
 
 /// How many inner nodes the diagram of a number's set has: the nodes that are reached from the number.
@@ -23,7 +23,7 @@ pub(crate) fn inner_nodes<A: Allocator + Copy>(
     reached[number as usize] = true;
     let mut count = 0;
     let mut at = number;
-    while at > ALL {
+    while at > FULL {
         if reached[at as usize] {
             let node = nodes.kept[(at - 2) as usize];
             reached[node.low as usize] = true;

@@ -8,7 +8,7 @@ ghost use Rattle.path_sets.specs.Quads.{levels, points_of};
 ghost use Rattle.path_sets.specs.Diagrams.{accepts, KeepsNodes};
 ghost use Rattle.path_sets.specs.OneBitDiagrams.{AreSolved, Solves};
 
-use crate::counting::bit_nodes::{ALL, BitNodes, NONE};
+use crate::counting::bit_nodes::{FULL, BitNodes, EMPTY};
 use crate::diagrams::quad::LEVELS;
 use crate::diagrams::quads::Quads;
 use crate::points::mask::has_point;
@@ -46,10 +46,10 @@ fn at_point<A: Allocator + Copy>(
     ensures answers { IfOk result (Solves quads.now.kept.keys bit nodes.new.kept.keys subproblem) }
 {
     if subproblem.level == LEVELS {
-        return Ok(if subproblem.zero { ALL } else { NONE });
+        return Ok(if subproblem.zero { FULL } else { EMPTY });
     }
-    if subproblem.number <= ALL && !subproblem.zero {
-        return Ok(NONE);
+    if subproblem.number <= FULL && !subproblem.zero {
+        return Ok(EMPTY);
     }
     if let Some(number) = memo.get(&subproblem) {
         return Ok(*number);

@@ -17,13 +17,13 @@ use language::Word;
 use std::alloc::{AllocError, Allocator};
 
 /// How many masks may wait for each that has gone into the diagrams.
-const SHARE: usize = 64;
+const WAITING_PER_MERGED: usize = 64;
 
 /// The least limit on the number of masks that wait.
-const LEAST: usize = 16_384;
+const MIN_WAITING: usize = 16_384;
 
 /// The greatest limit on the number of masks that wait.
-const MOST: usize = 1_048_576;
+const MAX_WAITING: usize = 1_048_576;
 
 /// The number that means no batch.
 const NO_BATCH: usize = usize::MAX;
@@ -69,7 +69,7 @@ impl<A: Allocator + Copy> Batches<A> {
             oldest: 0,
             waiting: 0,
             gone: 0,
-            most: LEAST,
+            most: MIN_WAITING,
         }
     }
 
@@ -227,7 +227,7 @@ impl<A: Allocator + Copy> Batches<A> {
         let gone = self.batches[at].masks.len();
         self.waiting = self.waiting.saturating_sub(gone);
         self.gone = self.gone.saturating_add(gone);
-        self.most = self.gone.saturating_mul(SHARE).max(LEAST).min(MOST);
+        self.most = self.gone.saturating_mul(WAITING_PER_MERGED).max(MIN_WAITING).min(MAX_WAITING);
         if at + 1 < self.batches.len() {
             self.oldest = at + 1;
         }

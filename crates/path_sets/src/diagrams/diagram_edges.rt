@@ -1,6 +1,6 @@
 //! A set of path edges that keeps a decision diagram for each entry and block of points.
 
-ghost use Rattle.std.specs.Prelude.{◌≡◌, ◌<◌, ◌↔◌, ◌^◌, ℕ, None, Some, slice_get, length};
+ghost use Rattle.std.specs.Prelude.{◌≡◌, ◌<◌, ◌↔◌, ◌^◌, ℕ, [], None, Some, slice_get, length};
 ghost use Rattle.std.specs.Prelude.{IfOk, IfSome, IsTrue, OnErr, OnOk};
 ghost use Rattle.language.specs.Lists.{Member, NoneTwice, NoneTwice-prop};
 ghost use Rattle.language.specs.Words.{word_bits};
@@ -8,7 +8,9 @@ ghost use Rattle.path_sets.specs.declared.diagrams.diagram_edges.LastDiagram.{La
 ghost use Rattle.path_sets.specs.Inserts.{HasAlso, IsLongerIf, IsNewIf};
 ghost use Rattle.path_sets.specs.Suffixes.{HasNodes};
 ghost use Rattle.path_sets.specs.Triples.{triple};
+ghost use Rattle.path_sets.specs.Batches.{gathered_at};
 ghost use Rattle.path_sets.specs.Contents.{BatchesFit, diagrams_in, IsKeyAt, IsLastOf, IsPlaced, whole};
+ghost use Rattle.path_sets.specs.Rooms.{HasMadeRoom};
 
 use crate::diagrams::batches::Batches;
 use crate::diagrams::diagrams::Diagrams;
@@ -62,8 +64,9 @@ impl<A: Allocator + Copy> DiagramEdges<A> {
     /// Puts the masks of a batch into the diagrams. If memory is refused, all of them stay gathered.
     fn merge(&mut self, at: usize) -> Result<(), AllocError>
         requires { at < length self.old.gathered.batches.items }
-        ensures { whole self.new.merged self.new.gathered.batches.items
+        ensures members { whole self.new.merged self.new.gathered.batches.items
             ≡ whole self.old.merged self.old.gathered.batches.items }
+        ensures gone { OnOk result (gathered_at self.new.gathered.batches.items at ≡ []) }
     {
         self.last = None;
         put_all(&mut self.merged, &self.gathered.batches[at].masks)?;
@@ -74,8 +77,9 @@ impl<A: Allocator + Copy> DiagramEdges<A> {
     /// Puts the oldest of the masks that are gathered into the diagrams, if there are many. If memory is refused, all
     /// of them stay gathered.
     fn make_room(&mut self) -> Result<(), AllocError>
-        ensures { whole self.new.merged self.new.gathered.batches.items
+        ensures members { whole self.new.merged self.new.gathered.batches.items
             ≡ whole self.old.merged self.old.gathered.batches.items }
+        ensures room { OnOk result (HasMadeRoom self.old.gathered self.new.gathered) }
     {
         match self.gathered.full() {
             Some(at) => self.merge(at),
@@ -89,6 +93,7 @@ impl<A: Allocator + Copy> DiagramEdges<A> {
         ensures members { whole self.new.merged self.new.gathered.batches.items
             ≡ whole self.old.merged self.old.gathered.batches.items }
         ensures last { self.new.last ≡ None }
+        ensures gathered { self.new.gathered ≡ self.old.gathered }
     {
         self.last = None;
         self.merged.settle(diagram)
@@ -113,6 +118,7 @@ impl<A: Allocator + Copy> DiagramEdges<A> {
         ensures last { OnOk result (IsLastOf entry block self.new.last) }
         ensures members { whole self.new.merged self.new.gathered.batches.items
             ≡ whole self.old.merged self.old.gathered.batches.items }
+        ensures room { OnOk result (HasMadeRoom self.old.gathered self.new.gathered) }
     {
         self.make_room()?;
         let diagram = self.settle(DiagramKey {
@@ -136,6 +142,7 @@ impl<A: Allocator + Copy> DiagramEdges<A> {
         ensures last { OnOk result (IsLastOf entry block self.new.last) }
         ensures members { whole self.new.merged self.new.gathered.batches.items
             ≡ whole self.old.merged self.old.gathered.batches.items }
+        ensures room { OnOk result (HasMadeRoom self.old.gathered self.new.gathered) }
     {
         if self.gathered.are_many() || !self.is_last(entry, block) {
             return self.look_up(entry, block);

@@ -8,10 +8,10 @@ use std::alloc::{AllocError, Allocator};
 
 /// How many masks a batch has before diagrams without a batch go to the next one. So many stay in a processor's cache,
 /// and with the masks that its own diagrams still get, a batch mostly has room for no more than 4,096.
-const MANY: usize = 3_840;
+const BATCH_MAX: usize = 3_840;
 
 /// How many masks each batch but the first has room for from its start, so that it does not grow step by step.
-const ROOM: usize = 4_096;
+const BATCH_ROOM: usize = 4_096;
 
 /// The number of the batch that diagrams without one go to; a new batch is made if the last one has many masks.
 pub(crate) fn batch_with_room<A: Allocator + Copy>(
@@ -22,11 +22,11 @@ pub(crate) fn batch_with_room<A: Allocator + Copy>(
     ensures keep { KeepMasks batches.old.items batches.new.items }
 {
     if let Some(batch) = batches.as_slice().last() {
-        if batch.masks.len() < MANY {
+        if batch.masks.len() < BATCH_MAX {
             return Ok(batches.len() - 1);
         }
     }
-    let room = if batches.is_empty() { 0 } else { ROOM };
+    let room = if batches.is_empty() { 0 } else { BATCH_ROOM };
     let batch = Batch::with_capacity(alloc, room)?;
     batches.push(batch)?;
     Ok(batches.len() - 1)

@@ -5,7 +5,7 @@ ghost use Rattle.path_sets.specs.Walks.{IsNumber, StandOnce};
 ghost use Rattle.path_sets.specs.Quads.{AreInside, KeepQuads, points_of, QuadsAreReduced};
 ghost use Rattle.path_sets.specs.Quads.{QuadsGoDown, sees};
 
-use crate::counting::bit_nodes::{ALL, MOST, NONE};
+use crate::counting::bit_nodes::{FULL, MOST, EMPTY};
 use crate::diagrams::quad::{NOTHING, Quad, child};
 use crate::kept_nodes::{KeptNodes, index_of};
 use indexmap::IndexSet;
@@ -37,7 +37,7 @@ impl<A: Allocator + Copy> Quads<A> {
     {
         let mut at = number;
         let mut rest = values;
-        while at > ALL {
+        while at > FULL {
             let quad = self.kept[(at - 2) as usize];
             if rest == 0 {
                 return quad.points;
@@ -55,7 +55,7 @@ impl<A: Allocator + Copy> Quads<A> {
         ensures same { (v : ℕ)
             → sees self.now.kept.keys result v ≡ points_of self.now.kept.keys number v }
     {
-        if number > ALL {
+        if number > FULL {
             self.kept[(number - 2) as usize]
         } else {
             NOTHING
@@ -71,7 +71,7 @@ impl<A: Allocator + Copy> Quads<A> {
             (λ n. (v : ℕ) → points_of self.new.kept.keys n v ≡ sees self.old.kept.keys quad v) }
     {
         if quad == NOTHING {
-            return Ok(NONE);
+            return Ok(EMPTY);
         }
         if self.kept.len() >= MOST {
             return Err(AllocError);

@@ -20,7 +20,7 @@ at_point-returns-else-subproblem-clause-answers g t c =
 pub at_point-returns-then-not-subproblem-clause-answers : goal.at_point-returns-then-not-subproblem-clause-answers
 at_point-returns-then-not-subproblem-clause-answers g t c =
     none_answers c.args.quads.now.kept.keys c.args.bit c.args.nodes.now.kept.keys c.args.subproblem c.requires.level
-    c.if-subproblem-le-ALL.true c.if-not-subproblem.true
+    c.if-subproblem-le-FULL.true c.if-not-subproblem.true
 
 pub at_point-returns-in-Some-clause-answers : goal.at_point-returns-in-Some-clause-answers
 at_point-returns-in-Some-clause-answers g t c = c.requires.memo c.args.subproblem c.in-Some.number.now (sym c.in-Some.ensures.value)

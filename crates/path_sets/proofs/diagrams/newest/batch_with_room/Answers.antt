@@ -13,8 +13,8 @@ returns-clause-keep g c =
           ap (masks_in diagrams) c.in_ok-push.ensures.items ∙ one_more_masks diagrams old c.in_ok-batch.batch c.in_ok-batch.ensures;
     }
 
-pub returns-then-len-lt-MANY-clause-keep : goal.returns-then-len-lt-MANY-clause-keep
-returns-then-len-lt-MANY-clause-keep g c = record { gathered = λ k. refl; masks = λ diagrams. refl }
+pub returns-then-len-lt-BATCH_MAX-clause-keep : goal.returns-then-len-lt-BATCH_MAX-clause-keep
+returns-then-len-lt-BATCH_MAX-clause-keep g c = record { gathered = λ k. refl; masks = λ diagrams. refl }
 
 pub returns-in_err-batch-clause-keep : goal.returns-in_err-batch-clause-keep
 returns-in_err-batch-clause-keep g c = record { gathered = λ k. refl; masks = λ diagrams. refl }

@@ -94,9 +94,9 @@ invariant_of-self-in-Break-1 g c =
       once = all_none_twice m.nodes.kept.keys m.roots.entries (masks_in (keys m.roots) s.gathered.batches.items);
     }
 
-pub returns-in_err-put_all : goal.returns-in_err-put_all
-returns-in_err-put_all g c =
-    let at = goal.at.returns-in_err-put_all g c in
+pub returns-in_err-put_all-clause-members : goal.returns-in_err-put_all-clause-members
+returns-in_err-put_all-clause-members g c =
+    let at = goal.at.returns-in_err-put_all-clause-members g c in
     still g at.After-put_all (own g at.After-index)
 
 pub invariant_of-self-2 : goal.invariant_of-self-2
@@ -123,10 +123,10 @@ invariant_of-self-2 g c =
       once = all_none_twice ns rs (masks_in (keys m.roots) cs);
     }
 
-pub returns : goal.returns
-returns g c =
+pub returns-clause-members : goal.returns-clause-members
+returns-clause-members g c =
     let s = c.args.self.now in
-    let at = goal.at.returns g c in
+    let at = goal.at.returns-clause-members g c in
     let p = at.After-put_all in
     let is = own g at.After-index in
     cleared g at.After-clear (takes g p is)
