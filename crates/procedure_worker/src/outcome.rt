@@ -20,7 +20,7 @@ pub enum End {
 /// is in the histories of the board.
 #[derive(Drop)]
 pub struct Outcome<'g, G: Allocator, A: Allocator, S: PathSet<A>> {
-    /// What `work` returns has one. Only in definitions does an outcome stand for a lane without a thread, and has none.
+    /// What `work` returns has one. In definitions an outcome may also stand for a lane without a thread; it has none.
     pub table: Option<Table<'g, G, A, S>>,
     /// How the worker ended.
     pub end: End,
