@@ -13,10 +13,12 @@
 //! | a number | the answer to a question on the flow graphs of a text that is rewritten for so many rounds (graphs.rt) |
 //! | `set`, `many`, `nodes` | what sets of path edges return (sets.rt) |
 //! | `limit`, `summaries`, `table` | what a table owes after some messages, and what it all comes to (tables.rt) |
+//! | `sweep` | what a sweep says of runs that leak, answer wrongly, or are well (faulty.rt) |
 //! | `one`, `lock` | what a board returns after an abort (boards.rt) |
 #![tactic(auto)]
 
 mod boards;
+mod faulty;
 mod graphs;
 mod rewritings;
 mod sequential;
@@ -46,6 +48,7 @@ fn answer<R: Wait>(rt: &R, alloc: Global, out: &mut String, line: &str) -> Resul
         }
         "set" | "many" | "nodes" => sets::answer(alloc, out, sweep, word, rest),
         "limit" | "summaries" | "table" => tables::answer(alloc, out, sweep, word, rest),
+        "sweep" => faulty::answer(alloc, out, sweep, rest),
         "one" | "lock" => boards::answer(rt, alloc, out, line),
         _ => graphs::answer(alloc, out, sweep, case),
     }
