@@ -6,7 +6,7 @@ ghost use Rattle.path_sets.specs.Walks.{IsNumber};
 ghost use Rattle.path_sets.specs.Diagrams.{accepts};
 ghost use Rattle.path_sets.specs.Suffixes.{HasNodes};
 
-use crate::counting::bit_nodes::{FULL, BitNodes};
+use crate::counting::bit_nodes::{BitNodes, FULL};
 use std::alloc::{AllocError, Allocator};
 
 /// How many inner nodes the diagram of a number's set has: the nodes that are reached from the number.

@@ -8,7 +8,7 @@ ghost use Rattle.path_sets.specs.Quads.{levels, points_of};
 ghost use Rattle.path_sets.specs.Diagrams.{accepts, KeepsNodes};
 ghost use Rattle.path_sets.specs.OneBitDiagrams.{AreSolved, Solves};
 
-use crate::counting::bit_nodes::{FULL, BitNodes, EMPTY};
+use crate::counting::bit_nodes::{BitNodes, EMPTY, FULL};
 use crate::diagrams::quad::LEVELS;
 use crate::diagrams::quads::Quads;
 use crate::points::mask::has_point;

@@ -227,7 +227,11 @@ impl<A: Allocator + Copy> Batches<A> {
         let gone = self.batches[at].masks.len();
         self.waiting = self.waiting.saturating_sub(gone);
         self.gone = self.gone.saturating_add(gone);
-        self.most = self.gone.saturating_mul(WAITING_PER_MERGED).max(MIN_WAITING).min(MAX_WAITING);
+        self.most = self
+            .gone
+            .saturating_mul(WAITING_PER_MERGED)
+            .max(MIN_WAITING)
+            .min(MAX_WAITING);
         if at + 1 < self.batches.len() {
             self.oldest = at + 1;
         }

@@ -5,7 +5,7 @@ ghost use Rattle.path_sets.specs.Walks.{IsNumber, StandOnce};
 ghost use Rattle.path_sets.specs.Quads.{AreInside, KeepQuads, points_of, QuadsAreReduced};
 ghost use Rattle.path_sets.specs.Quads.{QuadsGoDown, sees};
 
-use crate::counting::bit_nodes::{FULL, MOST, EMPTY};
+use crate::counting::bit_nodes::{EMPTY, FULL, MOST};
 use crate::diagrams::quad::{NOTHING, Quad, child};
 use crate::kept_nodes::{KeptNodes, index_of};
 use indexmap::IndexSet;
