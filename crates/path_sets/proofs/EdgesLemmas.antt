@@ -107,11 +107,3 @@ absent (g ∷ gs) p h = by (mask_key_eq p g.0) refl h (absent gs p)
         AllByRecursion (λ k. mask_key_eq p k ≡ false) (keys_of (g ∷ gs))
     by true e h rest = absurd (true≢false (ap is_some h))
     by false e h rest = (e, rest h)
-
--- the first edge of a key comes last
-pub put_last : (gs : Groups) (p : MaskKey) (w b : ℕ) → Inserts b [] (bits_below w 64) →
-    Inserts (edge_at p b) (mask_edges gs) (mask_edges (gs ++ (p, w) ∷ []))
-put_last [] p w b one =
-    before (edge_at p b) [] (edges_in p w) [] (mapped (edge_at p) b [] (bits_below w 64) one)
-put_last (g ∷ gs) p w b one =
-    behind (edge_at p b) (edges_in g.0 g.1) (mask_edges gs) (mask_edges (gs ++ (p, w) ∷ [])) (put_last gs p w b one)

@@ -1,10 +1,10 @@
 -- The bits of a mask, and one more of them.
 use Rattle.std.proofs.Common.{bit_or, ◌≡◌, ◌≢◌, ℕ, zero, suc, ◌<◌, ◌*◌, ◌^◌, ◌%◌, ◌≤◌}
 use Rattle.std.proofs.Common.{nat_lt, Bool, true, false, not}
-use Rattle.std.proofs.Common.{cond, max, ◌==◌, [], ◌∷◌, inl, inr, refl, sym, ap, ap₂, ◌∙◌, subst, true≢false, arith}
+use Rattle.std.proofs.Common.{cond, max, ◌==◌, ◌∷◌, inl, inr, refl, sym, ap, ap₂, ◌∙◌, subst, true≢false, arith}
 use Rattle.std.specs.Int.{bit_at}
 use Rattle.std.proofs.lemmas.Bool.{cases_eq, ltb-true, ltb-false}
-use Rattle.std.proofs.lemmas.Nat.Bits.{bit_at-lt, bit_at-zero, bit_at_or, bit_at-pow_same, bit_at-pow_other, same_from_bits}
+use Rattle.std.proofs.lemmas.Nat.Bits.{bit_at-lt, bit_at_or, bit_at-pow_same, bit_at-pow_other, same_from_bits}
 use Rattle.std.proofs.Math.Pow.{pow_mono}
 use Rattle.language.specs.Lists.{Member}
 use Rattle.path_sets.specs.Inserts.{Inserts, here, there}
@@ -78,11 +78,6 @@ put_bit m w b (suc n) lt clear set others = go (nat_lt b n) refl (λ less. put_b
         subst (λ u. Put u (bit_of w n)) (sym (ap (bit_of m) (sym is) ∙ clear))
         (subst (Put false) (sym (ap (bit_of w) (sym is) ∙ set)) (top is))
 
--- an empty mask has no bits
-pub no_bits : (n : ℕ) → bits_below 0 n ≡ []
-no_bits zero = refl
-no_bits (suc n) = (λ j. cond (bit_at-zero n j == 1) (n ∷ bits_below 0 n) (bits_below 0 n)) ∙ no_bits n
-
 -- one bit alone
 pub one_bit : (b : ℕ) → b < 64 → 1 * 2 ^ b % 2 ^ 64 ≡ 2 ^ b
 one_bit b h = let most : 2 ^ b ≤ 2 ^ 63 = pow_mono (let z : b ≤ 63 = omega (arith, h) in z) in omega (arith, most)
@@ -129,11 +124,3 @@ pub marked : (m w b : ℕ) (known : Bool) → known ≡ bit_of m b → w ≡ 2 ^
 marked m w b true was is = (sym was, ap (bit_or m) is ∙ stays_in m b (sym was))
 marked m w b false was is =
     subst (λ x. AddsPoint b m (bit_or m x) true) (sym is) (sym was, put_in_is m b (sym was), others_are m b)
-
--- the mask of one bit lists that alone
-pub first_bit : (w b : ℕ) → b < 64 → w ≡ 2 ^ b → Inserts b [] (bits_below w 64)
-first_bit w b small is =
-    subst (λ xs. Inserts b xs (bits_below w 64)) (no_bits 64)
-    (put_bit 0 w b 64 small (ap (λ x. x == 1) (bit_at-zero b))
-    (ap (λ k. bit_of k b) is ∙ ap (λ x. x == 1) (bit_at-pow_same b))
-    (λ i ne. ap (λ k. bit_of k i) is ∙ ap (λ x. x == 1) (bit_at-pow_other b i ne ∙ sym (bit_at-zero i))))
