@@ -8,7 +8,7 @@ use Rattle.summaries.specs.declared.signature.Signature.{Signature}
 abbrev pub folded : Exit → ℕ
 folded left = ((left.globals % 2 ^ 64 + left.globals / 2 ^ 64) % 2 ^ 64 + (if left.result then 1 else 0)) % 2 ^ 64
 
--- which of the 64 bits an exit has: the highest six bits of 64 of a product, whose factor is 2 ^ 64 divided by the golden ratio
+-- which of the 64 bits an exit has: the highest six of the 64 bits of a product by 2 ^ 64 divided by the golden ratio
 abbrev pub bit_for : Exit → ℕ
 bit_for left = folded left * 11400714819323198485 % 2 ^ 64 / 2 ^ 58
 

@@ -9,7 +9,7 @@ use language::Word;
 use std::hash::{Hash, Hasher};
 use std::marker::Model;
 
-/// 2^64 divided by the golden ratio, by which the high half of a valuation is multiplied before it is hashed with the low one.
+/// 2^64 divided by the golden ratio: the factor of the high half of a valuation where it is hashed with the low one.
 const SPREAD: u64 = 0x9E37_79B9_7F4A_7C15;
 
 /// Half of a valuation: 64 bits in two words of 32, which need not be aligned to 8 bytes.
