@@ -60,7 +60,7 @@ member_place x (y ∷ ys) (inl e) = (0, ap Some (sym e))
 member_place x (y ∷ ys) (inr h) = let (i, is) = member_place x ys h in (suc i, is)
 
 -- each rest is at its point, the exit first
-rest_placed : (b r : Code) → IsRestOf (numbered 1 b) r → slice_get (done ∷ rests (numbered 1 b) done) (point_at r) ≡ Some r
+pub rest_placed : (b r : Code) → IsRestOf (numbered 1 b) r → slice_get (done ∷ rests (numbered 1 b) done) (point_at r) ≡ Some r
 rest_placed b r (inl e) = subst (λ z. slice_get (done ∷ rests (numbered 1 b) done) (point_at z) ≡ Some z) (sym e) refl
 rest_placed b r (inr h) =
     let (i, is) = member_place r (rests (numbered 1 b) done) h in
@@ -275,10 +275,9 @@ drawn_flows {N} {A} gs gs' fs fs' ls ls' ps ps' b b' old new eg ef el ep eb star
           all,
     ))))))
 
--- each graph is drawn from the procedure with its number
-abbrev pub AllDrawn : {N A : Type 0} → tree.Program N → List (Proc N) → List (Graph A) → Type 0
-AllDrawn {N} {A} t ps graphs = (q : ℕ) (graph : Graph A) → slice_get graphs q ≡ Some graph
-    → (proc : Proc N) × (slice_get ps q ≡ Some proc) × IsGraphOf t proc graph
+-- each of these is made of the procedure with its number
+abbrev pub AllMade : {P X : Type 0} → (P → X → Type 0) → List P → List X → Type 0
+AllMade {P} {X} Makes ps xs = (q : ℕ) (x : X) → slice_get xs q ≡ Some x → (proc : P) × (slice_get ps q ≡ Some proc) × Makes proc x
 
 at_end : {X : Type 0} (xs : List X) (x y : X) (q : ℕ) → slice_get (xs ++ (x ∷ [])) q ≡ Some y
     → (slice_get xs q ≡ Some y) ⊎ ((q ≡ length xs) × (x ≡ y))
@@ -288,13 +287,12 @@ at_end (z ∷ xs) x y zero e = inl e
 at_end (z ∷ xs) x y (suc q) e =
     elim (at_end xs x y q e) [ inl h ↦ inl h | inr h ↦ inr (ap suc h.0, h.1) ]
 
-pub drawn_more : {N A : Type 0} (t : tree.Program N) (ps : List (Proc N)) (old new : List (Graph A)) (i : ℕ) (proc : Proc N)
-    (graph : Graph A) → AllDrawn t ps old → length old ≡ i → slice_get ps i ≡ Some proc →
-    IsGraphOf t proc graph → new ≡ old ++ (graph ∷ []) → AllDrawn t ps new
-drawn_more t ps old new i proc graph all count is draws e q found h =
-    elim (at_end old graph found q (sym (ap (λ l. slice_get l q) e) ∙ h)) [
+pub made_more : {P X : Type 0} (Makes : P → X → Type 0) (ps : List P) (old new : List X) (i : ℕ) (proc : P) (x : X)
+    → AllMade Makes ps old → length old ≡ i → slice_get ps i ≡ Some proc → Makes proc x → new ≡ old ++ (x ∷ []) → AllMade Makes ps new
+made_more Makes ps old new i proc x all count is makes e q found h =
+    elim (at_end old x found q (sym (ap (λ l. slice_get l q) e) ∙ h)) [
       | inl there ↦ all q found there
-      | inr (at_q, same) ↦ (proc, ap (slice_get ps) (at_q ∙ count) ∙ is, subst (IsGraphOf t proc) same draws)
+      | inr (at_q, same) ↦ (proc, ap (slice_get ps) (at_q ∙ count) ∙ is, subst (Makes proc) same makes)
     ]
 
 -- in a narrow program there is room for each procedure's valuations

@@ -18,6 +18,7 @@ pub mod FlowLemmas
 pub mod LoweringLemmas
 pub mod Statements
 pub mod GraphLemmas
+pub mod AssertLemmas
 pub mod StepLemmas
 pub mod DueLemmas
 pub mod ReachLemmas

@@ -12,6 +12,7 @@ pub mod Joining
 pub mod Joint
 pub mod Calls
 pub mod Flows
+pub mod Asserted
 pub mod Assigning
 pub mod Lowering
 pub mod Returns

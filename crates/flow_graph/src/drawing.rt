@@ -1,9 +1,12 @@
 //! The flow graphs of a sequential program.
 
-ghost use Rattle.std.specs.Prelude.{◌≡◌, length, IfOk, codes};
+ghost use Rattle.std.specs.Prelude.{◌≡◌, ◌≤◌, length, IfOk, codes};
 ghost use Rattle.language.specs.Resolve.{number_of};
 ghost use Rattle.language.specs.Sequential.{sequential_of};
+ghost use Rattle.resolved.specs.Narrow.{AllNarrow};
 ghost use Rattle.resolved.specs.Programs.{sequential_tree};
+ghost use Rattle.resolved.specs.Resolves.{Resolves};
+ghost use Rattle.trees.specs.Trees.{tree_of};
 ghost use Rattle.flow_graph.specs.Drawing.{names_in, drawn_routine, IsGraphOf, ScopeHasRoom};
 ghost use Rattle.flow_graph.specs.Drawn.{bad_of, graphs_of};
 ghost use Rattle.flow_graph.specs.Graphs.{AreDrawnFrom};
@@ -67,6 +70,28 @@ fn graph<N: Allocator, A: Allocator + Clone>(
     })
 }
 
+/// The flow graphs of the procedures of a program whose names all resolve, of at most 32 procedures with at most 128
+/// places each, by number. Returns an error if memory is refused.
+pub fn draw<N: Allocator, A: Allocator + Clone>(
+    alloc: &A,
+    program: &Program<N>,
+) -> Result<Graphs<A>, AllocError>
+    requires resolves { Resolves (tree_of program.now) }
+    requires narrow { AllNarrow (tree_of program.now) }
+    requires few { length program.now.procs.items ≤ 32 }
+    ensures graphs { IfOk result
+        (λ gs. AreDrawnFrom (sequential_of (tree_of program.now)) (graphs_of gs)) }
+    ensures bad { IfOk result
+        (λ gs. bad_of gs ≡ number_of (codes "bad__") (tree_of program.now).globals) }
+{
+    let mut graphs = Vec::new(alloc.clone()?);
+    for proc in &program.procs {
+        put(graph(alloc, program, proc), &mut graphs)?;
+    }
+    let bad = number_of_name(&program.globals, "bad__");
+    Ok(Graphs { graphs, bad })
+}
+
 /// The flow graphs of the procedures of a sequential program, by number. Returns an error if memory is refused.
 pub fn graphs<N: Allocator, A: Allocator + Clone>(
     alloc: &A,
@@ -77,11 +102,5 @@ pub fn graphs<N: Allocator, A: Allocator + Clone>(
     ensures bad { IfOk result
         (λ gs. bad_of gs ≡ number_of (codes "bad__") (sequential_tree sequential.now).globals) }
 {
-    let program = sequential.program();
-    let mut graphs = Vec::new(alloc.clone()?);
-    for proc in &program.procs {
-        put(graph(alloc, program, proc), &mut graphs)?;
-    }
-    let bad = number_of_name(&program.globals, "bad__");
-    Ok(Graphs { graphs, bad })
+    draw(alloc, sequential.program())
 }

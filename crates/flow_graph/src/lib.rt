@@ -1,6 +1,7 @@
 //! Flow graphs: the steps inside one call of a sequential program.
 #![tactic(auto)]
 
+mod asserts;
 mod assignment;
 mod bit;
 mod call;
@@ -26,9 +27,10 @@ mod sizes;
 mod table;
 mod windows;
 
+pub use asserts::{Asserts, find_asserts};
 pub use assignment::Assignment;
 pub use call::Call;
-pub use drawing::graphs;
+pub use drawing::{draw, graphs};
 pub use exit::Exit;
 pub use flow::Flow;
 pub use graph::{Graph, Graphs};
