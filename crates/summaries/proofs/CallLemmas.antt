@@ -36,7 +36,8 @@ use Rattle.summaries.specs.Found.{IsPlaced}
 use Rattle.summaries.specs.Found.{IsIndexed}
 use Rattle.summaries.specs.Found.{IsOwed, IsGrounded}
 use Rattle.summaries.specs.Grows.{EntersAt, Grows, AddsTo, OfSome, IsBehind, triple_of}
-use Rattle.summaries.proofs.AddLemmas.{same_call, added_or, added_keeps, added_is}
+use Rattle.groups.proofs.AddedLemmas.{added_or, added_keeps, added_is}
+use Rattle.summaries.proofs.AddLemmas.{same_call}
 use Rattle.summaries.proofs.Dues.{due_told}
 use Rattle.summaries.proofs.StepLemmas.{Step, taken_as}
 use Rattle.path_sets.proofs.KeyLemmas.{is_found}

@@ -15,15 +15,16 @@ use Rattle.summaries.specs.declared.edge.PathEdge.{PathEdge}
 use Rattle.summaries.specs.declared.found.Found.{Found}
 use Rattle.summaries.specs.declared.outbox.Outbox.{Outbox}
 use Rattle.summaries.specs.declared.outbox.Outgoing.{Outgoing}
-use Rattle.summaries.specs.declared.groups.Groups.{Groups}
-use Rattle.summaries.specs.Under.{under}
+use Rattle.groups.specs.declared.groups.Groups.{Groups}
+use Rattle.groups.specs.Under.{under}
 use Rattle.summaries.specs.Mails.{AddressedMail, mail, summary_due}
 use Rattle.summaries.specs.Dues.{caller_of, due_of}
 use Rattle.summaries.specs.Found.{pair, calls_in, pairs_in, mail_of, mails_in, TookMessage, HasExit, IsOwed, IsPlaced, IsIndexed}
 use Rattle.summaries.specs.Found.{IsGrounded}
 use Rattle.summaries.specs.Grows.{Grows, AddsTo, IsToldOf, IsSummaryTold}
 use Rattle.summaries.specs.Tables.{TookAlso}
-use Rattle.summaries.proofs.AddLemmas.{added_or, added_keeps, added_is, added_once}
+use Rattle.groups.proofs.AddedLemmas.{added_or, added_keeps, added_is}
+use Rattle.summaries.proofs.AddLemmas.{added_once}
 use Rattle.summaries.proofs.Dues.{who, who_is, due_told, same_entry, apart}
 use Rattle.summaries.proofs.StepLemmas.{Step, grown_to, grown_reached, grown_step}
 use Rattle.summaries.proofs.PlaceLemmas.{adds_mapped}

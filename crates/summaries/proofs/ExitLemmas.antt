@@ -15,7 +15,7 @@ use Rattle.summaries.specs.declared.outbox.Outgoing.{Outgoing}
 use Rattle.summaries.specs.declared.exits.Exits.{Exits}
 use Rattle.summaries.specs.declared.found.Found.{Found}
 use Rattle.summaries.specs.declared.pair.Pair.{Pair}
-use Rattle.summaries.specs.Under.{under}
+use Rattle.groups.specs.Under.{under}
 use Rattle.summaries.specs.Exits.{IsPairAdded}
 use Rattle.summaries.specs.Mails.{mail, summary_due}
 use Rattle.summaries.specs.Dues.{due_of}

@@ -12,7 +12,6 @@ pub mod LinkLemmas
 pub mod FindingLemmas
 pub mod HashLemmas
 pub mod PairLemmas
-pub mod GroupLemmas
 pub mod StepLemmas
 pub mod ChainLemmas
 pub mod CallLemmas

@@ -6,7 +6,7 @@ use Rattle.std.specs.List.Sorted.{IsPermutation, IsSortedBy, IsSorted}
 use Rattle.std.specs.Bool.{beq}
 use Rattle.std.specs.Ordering.{is_lt, nat_cmp, bool_cmp, ordering_then}
 use Rattle.std.specs.Map.{keys_of, lookup}
-use Rattle.summaries.specs.declared.values.Values.{Values}
+use Rattle.groups.specs.declared.values.Values.{Values}
 use Rattle.std.proofs.lemmas.List.Sorted.{IsPermutation-sym}
 use Rattle.std.proofs.lemmas.Map.Keys.{IsDistinct-head, IsDistinct-tail, IsDistinct-cons, ge_from_not_lt}
 use Rattle.std.proofs.lemmas.Map.Views.{exact_unsigned_eq}
@@ -14,7 +14,7 @@ use Rattle.std.proofs.lemmas.Bool.Decides.{nat_tests}
 use Rattle.language.specs.Lists.{Member}
 use Rattle.summaries.specs.declared.pair.Pair.{Pair}
 use Rattle.summaries.specs.Tabulated.{IsAscending}
-use Rattle.summaries.specs.Under.{values_if_any}
+use Rattle.groups.specs.Under.{values_if_any}
 use Rattle.path_sets.proofs.PlaceLemmas.{reordered}
 use Rattle.path_sets.proofs.FilterLemmas.{kept_is, is_kept}
 

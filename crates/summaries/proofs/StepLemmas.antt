@@ -19,9 +19,9 @@ use Rattle.summaries.specs.declared.pair.Pair.{Pair}
 use Rattle.summaries.specs.declared.found.Found.{Found}
 use Rattle.summaries.specs.declared.outbox.Outbox.{Outbox}
 use Rattle.summaries.specs.declared.outbox.Outgoing.{Outgoing}
-use Rattle.summaries.specs.declared.groups.Groups.{Groups}
+use Rattle.groups.specs.declared.groups.Groups.{Groups}
 use Rattle.summaries.specs.declared.due.Caller as rust
-use Rattle.summaries.specs.Under.{under}
+use Rattle.groups.specs.Under.{under}
 use Rattle.summaries.specs.Mails.{AddressedMail, mail}
 use Rattle.summaries.specs.Dues.{caller_of, due_of}
 use Rattle.summaries.specs.Calls.{summaries_of}

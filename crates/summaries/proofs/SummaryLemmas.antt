@@ -22,7 +22,8 @@ use Rattle.summaries.specs.Dues.{caller_of, due_of}
 use Rattle.summaries.specs.Found.{call, path_edge, calls_in, mails_in, answers_in, TookMessage, IsIndexed, IsGrounded}
 use Rattle.summaries.specs.Grows.{Grows, OfSome, IsBehind}
 use Rattle.summaries.specs.Tables.{TookAlso}
-use Rattle.summaries.proofs.AddLemmas.{same_call, added_or, added_keeps, added_is}
+use Rattle.groups.proofs.AddedLemmas.{added_or, added_keeps, added_is}
+use Rattle.summaries.proofs.AddLemmas.{same_call}
 use Rattle.summaries.proofs.CallLemmas.{asked_indexed, mails_before}
 use Rattle.summaries.proofs.Dues.{same_summary, apart}
 use Rattle.summaries.proofs.StepLemmas.{Step, all_reached}

@@ -10,7 +10,7 @@ use Rattle.flow_graph.specs.Graphs.{AreDrawnFrom}
 use Rattle.flow_graph.specs.Numbers.{NumberedMessage, numbered_entry, numbered_summary, IsNumberOf}
 use Rattle.summaries.specs.declared.found.Found.{Found}
 use Rattle.summaries.specs.declared.table.Table.{Table}
-use Rattle.summaries.specs.Under.{under}
+use Rattle.groups.specs.Under.{under}
 use Rattle.summaries.specs.Mails.{AddressedMail}
 use Rattle.summaries.specs.Dues.{caller_of}
 use Rattle.summaries.specs.Found.{call, TookMessage}

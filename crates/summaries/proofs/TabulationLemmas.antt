@@ -19,7 +19,7 @@ use Rattle.path_sets.proofs.PlaceLemmas.{get_map, got_map, item_there, some_memb
 use Rattle.summaries.specs.declared.due.Caller as callers
 use Rattle.summaries.specs.declared.due.Caller.TheVariants.{Starter, Proc}
 use Rattle.summaries.specs.declared.table.Table.{Table}
-use Rattle.summaries.specs.Under.{under}
+use Rattle.groups.specs.Under.{under}
 use Rattle.summaries.specs.Mails.{mail}
 use Rattle.summaries.specs.Dues.{caller_of, due_of}
 use Rattle.summaries.specs.Found.{pair, HasExit, TookMessage}

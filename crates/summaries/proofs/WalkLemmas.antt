@@ -21,7 +21,7 @@ use Rattle.summaries.specs.Links.{last_links}
 use Rattle.summaries.specs.Readings.{IsPairOf, AddsPairsOf}
 use Rattle.path_sets.proofs.PlaceLemmas.{index_of, at_index, get_map, got_map}
 use Rattle.summaries.proofs.Eaches.{each_left, each_last, each_or_last}
-use Rattle.summaries.proofs.GroupLemmas.{key_at}
+use Rattle.groups.proofs.GroupLemmas.{key_at}
 use Rattle.summaries.proofs.LinkLemmas.{length_keys}
 use Rattle.summaries.proofs.PairLemmas.{got_pair, leads_to}
 use Rattle.summaries.proofs.SortedLemmas.{same_members}

@@ -3,7 +3,7 @@ use Rattle.std.specs.Prelude.{◌&&◌, ℕ, Bool, List, [], Option, None, Some,
 use Rattle.summaries.specs.declared.edge.PathEdge.{PathEdge}
 use Rattle.summaries.specs.declared.edge.CallKey.{CallKey}
 use Rattle.summaries.specs.declared.calls.KnownCall.{KnownCall}
-use Rattle.summaries.specs.Under.{values_in}
+use Rattle.groups.specs.Under.{values_in}
 
 -- whether two calls are the same
 abbrev pub call_eq : CallKey → CallKey → Bool

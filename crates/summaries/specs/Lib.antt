@@ -1,4 +1,3 @@
-pub mod Under
 pub mod Mails
 pub mod Dues
 pub mod Fitting

@@ -12,10 +12,10 @@ use Rattle.summaries.specs.declared.due.Caller.TheVariants.{Starter}
 use Rattle.summaries.specs.declared.due.Due.TheVariants.{Entry}
 use Rattle.summaries.specs.declared.exits.Exits.{Exits}
 use Rattle.summaries.specs.declared.found.Found.{Found}
-use Rattle.summaries.specs.declared.groups.Groups.{Groups}
+use Rattle.groups.specs.declared.groups.Groups.{Groups}
 use Rattle.summaries.specs.declared.pair.Pair.{Pair}
 use Rattle.summaries.specs.declared.table.Table.{Table}
-use Rattle.summaries.specs.Under.{under}
+use Rattle.groups.specs.Under.{under}
 use Rattle.summaries.specs.Mails.{AddressedMail, mail}
 use Rattle.summaries.specs.Dues.{due_of}
 use Rattle.summaries.specs.Exits.{pair_at}

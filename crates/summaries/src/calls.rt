@@ -7,13 +7,13 @@ ghost use Rattle.indexmap.specs.IndexSet.{insert_key};
 ghost use Rattle.summaries.specs.declared.edge.CallKey.{CallKey};
 ghost use Rattle.summaries.specs.Chains.{chain_of};
 ghost use Rattle.summaries.specs.KnownCalls.{call_eq, chain_if_any};
-ghost use Rattle.summaries.specs.Under.{IsKeyAt, OthersStay};
+ghost use Rattle.groups.specs.Under.{IsKeyAt, OthersStay};
 
 use crate::chains::Chains;
 use crate::kept_call::KeptCall;
 use crate::kept_edge::KeptEdge;
 use crate::kept_exit::KeptExit;
-use crate::values::Values;
+use groups::Values;
 use indexmap::IndexMap;
 use indexmap::map::Entry;
 use std::alloc::{AllocError, Allocator};

@@ -48,7 +48,7 @@ impl<A: Allocator + Copy> Exits<A> {
     ghost use Rattle.std.specs.Prelude.{IfNone};
     ghost use Rattle.indexmap.specs.IndexMap.{keys};
     ghost use Rattle.summaries.specs.declared.pair.Pair.{Pair};
-    ghost use Rattle.summaries.specs.Under.{IsKeyAt};
+    ghost use Rattle.groups.specs.Under.{IsKeyAt};
     ghost use Rattle.summaries.specs.Exits.{pair, pair_at, count_of, LeadsTo, AllPairsStay};
     ghost use Rattle.summaries.specs.Exits.{IsPairAdded};
     ghost use Rattle.summaries.specs.Found.{left};

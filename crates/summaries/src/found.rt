@@ -6,7 +6,7 @@ use crate::calls::Calls;
 use crate::due::{Caller, Due};
 use crate::edge::PathEdge;
 use crate::exits::Exits;
-use crate::groups::Groups;
+use groups::Groups;
 use crate::kept_edge::KeptEdge;
 use crate::outbox::{Outbox, Outgoing};
 use indexmap::IndexSet;

@@ -4,7 +4,7 @@ ghost use Rattle.std.specs.Prelude.{◌≡◌, ◌↔◌, ◌++◌, ℕ, map, So
 ghost use Rattle.language.specs.Lists.{Member};
 ghost use Rattle.summaries.specs.declared.due.Caller.{Caller};
 ghost use Rattle.summaries.specs.declared.pair.Pair.{Pair};
-ghost use Rattle.summaries.specs.Under.{under};
+ghost use Rattle.groups.specs.Under.{under};
 ghost use Rattle.summaries.specs.Links.{last_links};
 ghost use Rattle.summaries.specs.Exits.{pair, pair_at, count_of, LeadsTo};
 ghost use Rattle.summaries.specs.Readings.{AddsPairsOf};
@@ -14,7 +14,7 @@ ghost use Rattle.summaries.specs.Together.{AreReadOff, IsReadOff, IsSummaryOf};
 use crate::due;
 use crate::exits::Exits;
 use crate::found::Found;
-use crate::groups::Groups;
+use groups::Groups;
 use crate::long_list::append;
 use crate::pair::Pair;
 use crate::summaries::Summary;

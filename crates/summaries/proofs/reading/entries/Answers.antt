@@ -8,11 +8,11 @@ use Rattle.std.proofs.lemmas.Map.Keys.{IsDistinct-IsPermutation}
 use Rattle.std.proofs.lemmas.Option.{get_or_from_slice_get}
 use Rattle.indexmap.specs.IndexMap.{keys}
 use Rattle.language.specs.Lists.{Member}
-use Rattle.summaries.specs.Under.{under, values_if_any}
+use Rattle.groups.specs.Under.{under, values_if_any}
 use Rattle.summaries.proofs.SortedLemmas.{has_any, numbers_ascend, nat_eq_flips, same_members, member_filter}
 use Rattle.summaries.proofs.SortedLemmas.{distinct_filter}
 use Rattle.summaries.proofs.SortedLemmas.{keys_with_values}
-use Rattle.summaries.proofs.GroupLemmas.{key_at}
+use Rattle.groups.proofs.GroupLemmas.{key_at}
 use Rattle.summaries.proofs.LinkLemmas.{length_keys}
 use Rattle.summaries.proofs.reading.entries.Given.{Over}
 use Rattle.summaries.proofs.reading.entries.Goals as goal

@@ -2,7 +2,7 @@
 use Rattle.std.proofs.Common.{◌≡◌, nat_eq, take}
 use Rattle.std.specs.List.{filter}
 use Rattle.indexmap.specs.IndexMap.{keys}
-use Rattle.summaries.specs.Under.{under}
+use Rattle.groups.specs.Under.{under}
 use Rattle.summaries.proofs.SortedLemmas.{has_any}
 use Rattle.summaries.proofs.reading.entries.Given as goal
 

@@ -9,7 +9,7 @@ use Rattle.summaries.specs.Chains.{chain_of}
 use Rattle.summaries.specs.KnownCalls.{call_eq, sites_if_any, chain_if_any}
 use Rattle.summaries.specs.contracts.edge.CallKeyEq.TheImpl.Laws.{laws-law}
 use Rattle.summaries.proofs.ChainLemmas.{within_after}
-use Rattle.summaries.proofs.GroupLemmas.{added_after, all_after, if_empty, keys_after, others_after, place_after}
+use Rattle.groups.proofs.GroupLemmas.{added_after, all_after, if_empty, keys_after, others_after, place_after}
 use Rattle.summaries.proofs.calls.Calls.add_site.Given.{Over}
 use Rattle.summaries.proofs.calls.Calls.add_site.Goals as goal
 use Rattle.summaries.proofs.calls.Calls.add_site.Goals.{After-add}

@@ -3,13 +3,13 @@ use Rattle.std.specs.Map.{lookup}
 use Rattle.path_sets.proofs.InsertsLemmas.{at_error}
 use Rattle.indexmap.specs.Entry.{entry_value}
 use Rattle.summaries.specs.declared.calls.KnownCall.{KnownCall}
-use Rattle.summaries.specs.Under.{values_in}
+use Rattle.groups.specs.Under.{values_in}
 use Rattle.summaries.specs.Chains.{chain_of, link}
 use Rattle.summaries.specs.Calls.{sites_of}
 use Rattle.summaries.specs.KnownCalls.{call_eq, chain_if_any, sites_if_any}
 use Rattle.summaries.specs.contracts.edge.CallKeyEq.TheImpl.Laws.{laws-law}
 use Rattle.summaries.proofs.ChainLemmas.{chain_added, chain_older, within_after}
-use Rattle.summaries.proofs.GroupLemmas.{added_after, all_after, keys_after, lookup_after, of_unwrapped, others_after, place_after}
+use Rattle.groups.proofs.GroupLemmas.{added_after, all_after, keys_after, lookup_after, of_unwrapped, others_after, place_after}
 use Rattle.summaries.proofs.calls.Calls.add_summary.Given.{Over}
 use Rattle.summaries.proofs.calls.Calls.add_summary.Goals as goal
 use Rattle.summaries.proofs.calls.Calls.add_summary.Goals.{After-or_insert-known}

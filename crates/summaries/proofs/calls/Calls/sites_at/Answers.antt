@@ -3,7 +3,7 @@ use Rattle.std.proofs.lemmas.Option.{same_Some}
 use Rattle.summaries.specs.Calls.{sites_of}
 use Rattle.summaries.specs.KnownCalls.{sites_if_any}
 use Rattle.summaries.proofs.AddLemmas.{same_call}
-use Rattle.summaries.proofs.GroupLemmas.{key_at, no_key}
+use Rattle.groups.proofs.GroupLemmas.{key_at, no_key}
 use Rattle.summaries.proofs.calls.Calls.sites_at.Goals as goal
 
 pub returns-in-Some : goal.returns-in-Some

@@ -11,9 +11,9 @@ use Rattle.summaries.specs.declared.known_entry.KnownEntry.{KnownEntry}
 use Rattle.summaries.specs.Hashes.{is_one_of, AreReal, HasAllOf, IsLookedUp}
 use Rattle.summaries.specs.Links.{owners, IsLink, AreLinked}
 use Rattle.summaries.specs.Signatures.{MayHave}
-use Rattle.summaries.specs.Under.{IsKeyAt}
+use Rattle.groups.specs.Under.{IsKeyAt}
 use Rattle.summaries.proofs.FindingLemmas.{is_member, one_of, not_new, is_new_only, looked_first}
-use Rattle.summaries.proofs.GroupLemmas.{no_key}
+use Rattle.groups.proofs.GroupLemmas.{no_key}
 use Rattle.summaries.proofs.HashLemmas.{all_still, seen_after, hashed_after, counted_after, seen_before}
 use Rattle.summaries.proofs.LinkLemmas.{owners_with, keys_with, keys_written, links_after, links_same, on_true, on_false}
 use Rattle.summaries.proofs.PairLemmas.{pair_known, new_apart, new_free, new_there, new_others}

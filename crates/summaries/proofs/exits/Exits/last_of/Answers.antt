@@ -2,7 +2,7 @@
 use Rattle.std.proofs.Common.{nat_eq, sym, arith}
 use Rattle.std.proofs.lemmas.Map.Views.{exact_unsigned_eq}
 use Rattle.summaries.specs.Exits.{count_of}
-use Rattle.summaries.proofs.GroupLemmas.{key_at}
+use Rattle.groups.proofs.GroupLemmas.{key_at}
 use Rattle.summaries.proofs.LinkLemmas.{found_at}
 use Rattle.summaries.proofs.PairLemmas.{leads_to, none_of}
 use Rattle.summaries.proofs.exits.Exits.last_of.Goals as goal

@@ -6,7 +6,7 @@ use Rattle.indexmap.specs.IndexMap.{keys}
 use Rattle.flow_graph.specs.declared.exit.Exit.{Exit}
 use Rattle.summaries.specs.Exits.{pair}
 use Rattle.summaries.specs.Found.{left}
-use Rattle.summaries.proofs.GroupLemmas.{key_at, no_key}
+use Rattle.groups.proofs.GroupLemmas.{key_at, no_key}
 use Rattle.summaries.proofs.PairLemmas.{got_pair, read_pair}
 use Rattle.summaries.proofs.exits.Exits.pair.Goals as goal
 

@@ -2,7 +2,7 @@ use Rattle.std.proofs.Common.{◌≡◌, nat_eq, Err, inl, inr, refl, sym, ap, �
 use Rattle.language.specs.Lists.{Member}
 use Rattle.path_sets.specs.Triples.{triple}
 use Rattle.summaries.specs.Found.{TookDue}
-use Rattle.summaries.specs.Under.{under}
+use Rattle.groups.specs.Under.{under}
 use Rattle.summaries.specs.Grows.{Grows}
 use Rattle.summaries.proofs.EntryLemmas.{entered_also, enter_only, enter_step, start_reached, none_told, exits_placed, exits_told}
 use Rattle.summaries.proofs.FrontierLemmas.{ok_err, fault_of}

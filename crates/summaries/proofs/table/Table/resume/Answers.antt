@@ -6,7 +6,7 @@ use Rattle.language.specs.Lists.{Member}
 use Rattle.path_sets.specs.Triples.{Triple}
 use Rattle.summaries.specs.declared.edge.CallKey.{CallKey}
 use Rattle.summaries.specs.declared.found.Found.{Found}
-use Rattle.summaries.specs.Under.{IsKeyAt}
+use Rattle.groups.specs.Under.{IsKeyAt}
 use Rattle.summaries.specs.Calls.{call_eq, sites_of, summaries_of}
 use Rattle.summaries.specs.Grows.{Grows, OfSome, IsBehind}
 use Rattle.summaries.proofs.CallLemmas.{stands_there}

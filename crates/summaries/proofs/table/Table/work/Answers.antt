@@ -4,7 +4,7 @@ use Rattle.language.specs.Lists.{Member}
 use Rattle.flow_graph.specs.Numbers.{GraphReaches}
 use Rattle.flow_graph.specs.Returns.{left_by}
 use Rattle.flow_graph.specs.declared.flow.Flow.TheVariants.{Call}
-use Rattle.summaries.specs.Under.{under}
+use Rattle.groups.specs.Under.{under}
 use Rattle.summaries.specs.Found.{pair, TookMessage, HasExit}
 use Rattle.summaries.specs.Grows.{triple_of, IsFoundBy}
 use Rattle.summaries.specs.declared.edge.PathEdge.{PathEdge}

@@ -2,7 +2,7 @@
 
 ghost use Rattle.std.specs.Prelude.{◌≡◌, [], ◌∷◌, ◌++◌, OnOk, OnErr};
 ghost use Rattle.std.specs.Mem.{FitsInMemory};
-ghost use Rattle.summaries.specs.Under.{values_in};
+ghost use Rattle.groups.specs.Under.{values_in};
 
 use crate::short_list::append;
 use std::alloc::{AllocError, Allocator};
@@ -10,28 +10,28 @@ use std::slice;
 
 /// Some values, in the order of adding. A single value takes no further memory.
 #[derive(Drop)]
-pub(crate) enum Values<V: Drop, A: Allocator> {
+pub enum Values<V: Drop, A: Allocator> {
     One(V),
     Many(Vec<V, A>),
 }
 
 impl<V: Copy, A: Allocator> Values<V, A> {
     /// One value.
-    pub(crate) fn one(value: V) -> Self
+    pub fn one(value: V) -> Self
         ensures { values_in result ≡ value ∷ [] }
     {
         Values::One(value)
     }
 
     /// No value, which takes no further memory either.
-    pub(crate) fn none(alloc: A) -> Self
+    pub fn none(alloc: A) -> Self
         ensures { values_in result ≡ [] }
     {
         Values::Many(Vec::new(alloc))
     }
 
     /// The values.
-    pub(crate) fn as_slice(&self) -> &[V]
+    pub fn as_slice(&self) -> &[V]
         requires { FitsInMemory V.row }
         ensures { result.now ≡ values_in self.now }
     {
@@ -42,7 +42,7 @@ impl<V: Copy, A: Allocator> Values<V, A> {
     }
 
     /// Adds a value. If memory is refused, nothing changes.
-    pub(crate) fn add(&mut self, alloc: A, value: V) -> Result<(), AllocError>
+    pub fn add(&mut self, alloc: A, value: V) -> Result<(), AllocError>
         ensures ok { OnOk result (values_in self.new ≡ values_in self.old ++ value ∷ []) }
         ensures err { OnErr result (values_in self.new ≡ values_in self.old) }
     {

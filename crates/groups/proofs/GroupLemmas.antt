@@ -1,6 +1,7 @@
 -- What is found by keys after a value of a map was written.
 use Rattle.std.proofs.Common.{◌≡◌, ℕ, Bool, true, false, cond, List, [], ◌∷◌, Option, None, Some, slice_get, unwrap_or}
 use Rattle.std.proofs.Common.{zero, suc, length, not, refl, sym, ap, ◌∙◌, arith, true≢false}
+use Rattle.std.specs.Prelude.{Result, Ok, Err, OnErr}
 use Rattle.std.specs.Bool.{◌==◌, OnFalse}
 use Rattle.std.specs.Cmp.{IsEquivalence}
 use Rattle.std.specs.List.{position_or_len}
@@ -104,3 +105,8 @@ pub entry_at : {K X : Type 0} (es : List (K × X)) (i : ℕ) (k : K) (v : X) →
 entry_at [] i k v key value = absurd (none-some k key)
 entry_at (e ∷ es) zero k v key value = λ j. Some (same_Some e.0 k key j, same_Some e.1 v value j)
 entry_at (e ∷ es) (suc i) k v key value = entry_at es i k v key value
+
+-- what holds, holds at an error
+pub at_error : {T E P : Type 0} (r : Result T E) → P → OnErr r P
+at_error (Ok _) p = tt
+at_error (Err _) p = p

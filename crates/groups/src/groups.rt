@@ -2,7 +2,7 @@
 
 ghost use Rattle.std.specs.Prelude.{◌≡◌, [], ◌∷◌, ◌++◌, OnOk, OnErr};
 ghost use Rattle.std.specs.Mem.{FitsInMemory};
-ghost use Rattle.summaries.specs.Under.{AllStay, OthersStay, under};
+ghost use Rattle.groups.specs.Under.{AllStay, OthersStay, under};
 
 use crate::values::Values;
 use indexmap::IndexMap;
@@ -12,13 +12,13 @@ use std::hash::{BuildHasherDefault, FoldHasher, Hash};
 
 /// For each key the values that were added to it, in the order of adding. Keys keep the order in which they came.
 #[derive(Drop)]
-pub(crate) struct Groups<K: Eq + Hash + Drop, V: Drop, A: Allocator> {
-    pub(crate) by_key: IndexMap<K, Values<V, A>, BuildHasherDefault<FoldHasher>, A>,
+pub struct Groups<K: Eq + Hash + Drop, V: Drop, A: Allocator> {
+    pub by_key: IndexMap<K, Values<V, A>, BuildHasherDefault<FoldHasher>, A>,
 }
 
 impl<K: Eq + Hash + Copy, V: Copy, A: Allocator + Copy> Groups<K, V, A> {
     /// No values, which take no memory yet.
-    pub(crate) fn new(alloc: A) -> Self
+    pub fn new(alloc: A) -> Self
         ensures { (k : K) → under K.eq result.by_key k ≡ [] }
     {
         Groups {
@@ -28,7 +28,7 @@ impl<K: Eq + Hash + Copy, V: Copy, A: Allocator + Copy> Groups<K, V, A> {
 
     /// Adds a value to those of a key. If memory is refused, each key has the values that it had.
     #[inline(always)]
-    pub(crate) fn add(&mut self, key: K, value: V) -> Result<(), AllocError>
+    pub fn add(&mut self, key: K, value: V) -> Result<(), AllocError>
         ensures added { OnOk result
             (under K.eq self.new.by_key key ≡ under K.eq self.old.by_key key ++ value ∷ []) }
         ensures others { OnOk result
@@ -52,7 +52,7 @@ impl<K: Eq + Hash + Copy, V: Copy, A: Allocator + Copy> Groups<K, V, A> {
     }
 
     /// The values of a key.
-    pub(crate) fn of(&self, key: K) -> &[V]
+    pub fn of(&self, key: K) -> &[V]
         requires { FitsInMemory V.row }
         ensures { result.now ≡ under K.eq self.now.by_key key }
     {
@@ -64,7 +64,7 @@ impl<K: Eq + Hash + Copy, V: Copy, A: Allocator + Copy> Groups<K, V, A> {
 
     /// The values of a key. The key at the index `last` is tried first, and `last` becomes the index of this one.
     #[inline(always)]
-    pub(crate) fn of_near(&self, key: K, last: &mut usize) -> &[V]
+    pub fn of_near(&self, key: K, last: &mut usize) -> &[V]
         requires { FitsInMemory V.row }
         ensures { result.now ≡ under K.eq self.now.by_key key }
     {

@@ -1,8 +1,8 @@
 -- What is found by a key.
 use Rattle.std.specs.Prelude.{◌≡◌, ℕ, Bool, true, false, List, [], ◌∷◌, Option, None, Some, slice_get}
 use Rattle.indexmap.specs.IndexMap.{IndexMap, get}
-use Rattle.summaries.specs.declared.values.Values.{Values}
-use Rattle.summaries.specs.declared.values.Values.TheVariants.{One, Many}
+use Rattle.groups.specs.declared.values.Values.{Values}
+use Rattle.groups.specs.declared.values.Values.TheVariants.{One, Many}
 
 -- the values, in the order of adding
 abbrev pub values_in : {Value Alloc : Type 0} → Values Value Alloc → List Value

@@ -1,11 +1,10 @@
 use Rattle.std.proofs.Common.{◌≡◌, [], ◌∷◌, ◌++◌, sym, ap, ◌∙◌, rules}
-use Rattle.path_sets.proofs.InsertsLemmas.{at_error}
 use Rattle.indexmap.specs.Entry.{entry_value}
-use Rattle.summaries.specs.Under.{values_in, values_if_any, under}
-use Rattle.summaries.proofs.GroupLemmas.{same_after, added_after, others_after}
-use Rattle.summaries.proofs.groups.Groups.add.Given.{Over}
-use Rattle.summaries.proofs.groups.Groups.add.Goals as goal
-use Rattle.summaries.proofs.groups.Groups.add.Goals.{After-add}
+use Rattle.groups.specs.Under.{values_in, values_if_any, under}
+use Rattle.groups.proofs.GroupLemmas.{at_error, same_after, added_after, others_after}
+use Rattle.groups.proofs.groups.Groups.add.Given.{Over}
+use Rattle.groups.proofs.groups.Groups.add.Goals as goal
+use Rattle.groups.proofs.groups.Groups.add.Goals.{After-add}
 
 -- the values that the key has
 had : (g : Over) (c : After-add g) →

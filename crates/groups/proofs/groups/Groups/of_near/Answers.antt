@@ -1,7 +1,7 @@
 use Rattle.std.proofs.Common.{refl, sym, ap, ◌∙◌}
 use Rattle.std.specs.Map.{lookup}
-use Rattle.summaries.specs.Under.{values_if_any}
-use Rattle.summaries.proofs.groups.Groups.of_near.Goals as goal
+use Rattle.groups.specs.Under.{values_if_any}
+use Rattle.groups.proofs.groups.Groups.of_near.Goals as goal
 
 pub returns-then-eq : goal.returns-then-eq
 returns-then-eq g c =
