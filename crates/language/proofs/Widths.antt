@@ -38,7 +38,7 @@ abbrev pub SameWidths : Valuation → Valuation → Type 0
 SameWidths v w = (length v.globals ≡ length w.globals) × (length v.places ≡ length w.places)
 
 -- a flow changes no widths
-flow_widths : (p : Program) (q : ℕ) (v v' : Valuation) (r r' : Code) → Flow p q v r v' r' → SameWidths v v'
+pub flow_widths : (p : Program) (q : ℕ) (v v' : Valuation) (r r' : Code) → Flow p q v r v' r' → SameWidths v v'
 flow_widths p q v v' done r' h = absurd (no_flow_from_exit p q v v' r' h)
 flow_widths p q v v' (one m skip t) r' h = same_wide _ _ h
 flow_widths p q v v' (one m (assign xs rs) t) r' (vs, values, h) =
@@ -129,12 +129,12 @@ due_message p fit q (summary s a b) (asking, pair) =
     let whole = asked_valuation p fit q s a asking in
     (whole, sym (steps_breadth p n (alone p s a) (state b.globals (frame s l done ∷ [])) run) ∙ whole.0)
 
-same_valuation : (p : Program) (q : ℕ) (v w : Valuation) → SameWidths v w → IsValuationOf p q v → IsValuationOf p q w
+pub same_valuation : (p : Program) (q : ℕ) (v w : Valuation) → SameWidths v w → IsValuationOf p q v → IsValuationOf p q w
 same_valuation p q v w (globals, places) (g, l) =
     (sym globals ∙ g, subst (λ n. AtRoutine (slice_get p.routines q) (λ z. n ≡ frame_size z)) places l)
 
 -- a caller continues with its own places, and with as many globals as its call has left
-resumed_widths : (x : Option Place) (v : Valuation) (b : Exit) →
+pub resumed_widths : (x : Option Place) (v : Valuation) (b : Exit) →
     SameWidths (record { globals = b.globals; places = v.places }) (resumed_with x v b)
 resumed_widths None v b = (refl, refl)
 resumed_widths (Some x) v b =

@@ -1,0 +1,12 @@
+pub mod RunLemmas
+pub mod TurnLemmas
+pub mod FailLemmas
+pub mod SaturatedLemmas
+pub mod NodeLemmas
+pub mod PartLemmas
+pub mod TupleLemmas
+pub mod ProgramLemmas
+pub mod UnsafeLemmas
+pub mod SimulationLemmas
+pub mod NumberedLemmas
+pub mod MarkLemmas

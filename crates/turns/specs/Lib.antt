@@ -1,0 +1,11 @@
+pub mod Machines
+pub mod Stacks
+pub mod Turn
+pub mod Saturated
+pub mod Parts
+pub mod Between
+pub mod Tuples
+pub mod Programs
+pub mod Simulations
+pub mod Numbered
+pub mod Marks
