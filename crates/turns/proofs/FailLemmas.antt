@@ -6,7 +6,8 @@ use Rattle.turns.specs.Turn.{Item, head, caller, gone, Found, starts, is_gone, m
 use Rattle.turns.specs.Turn.{returns, comes_out, goes, LiesBelow, SomeHeadFails, SomeStackFails}
 use Rattle.turns.proofs.TurnLemmas.{found_ends}
 
-module _ {Name Globals Frame : Type 0} (m : Machine Globals Frame) (nodes : Nodes Name Frame) (g0 : Globals) (start : Name) (full : NoneVacant nodes) where
+module _ {Name Globals Frame : Type 0} (m : Machine Globals Frame) (nodes : Nodes Name Frame) (g0 : Globals) (start : Name)
+    (full : NoneVacant nodes) where
   abbrev Is : Item Name Globals Frame → Type 0
   Is item = Found m nodes g0 start item
 

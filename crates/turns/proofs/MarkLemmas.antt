@@ -263,7 +263,8 @@ module _ (p : Program) where
 
   between_on : (r : ℕ) (g : List Bool) (had left : List (List Frame)) → Between (threads_of p) r g had left
       → Between (threads_of (bare_program p)) r g (bare_stacks had) (bare_stacks left)
-  between_on _ _ _ _ begins = subst (λ z. Between (threads_of (bare_program p)) zero (zeros p.globals) [] z) (bare_starts p.routines p.threads) begins
+  between_on _ _ _ _ begins =
+      subst (λ z. Between (threads_of (bare_program p)) zero (zeros p.globals) [] z) (bare_starts p.routines p.threads) begins
   between_on _ _ _ _ (takes_turn r g h had stack stack' left at run) =
       subst (λ z. Between (threads_of (bare_program p)) r h z (bare_stacks left)) (sym (bare_append had (stack' ∷ [])))
       (takes_turn r g h (bare_stacks had) (map bare_frame stack) (map bare_frame stack') (bare_stacks left)
@@ -303,7 +304,8 @@ module _ (p : Program) where
       bare_in : (u : State) → map bare_frame (stack_in u) ≡ stack_in (bare_state u)
       bare_in (state a b) = refl
 
-  between_back : (r : ℕ) (g : List Bool) (had' left' : List (List Frame)) → Between (threads_of (bare_program p)) r g had' left' → Comes r g had' left'
+  between_back : (r : ℕ) (g : List Bool) (had' left' : List (List Frame)) → Between (threads_of (bare_program p)) r g had' left'
+      → Comes r g had' left'
   between_back _ _ _ _ begins = ([], map (starting_stack p.routines) p.threads, begins, refl, sym (bare_starts p.routines p.threads))
   between_back _ _ _ _ (takes_turn r g h had' stack stack' left' at run) =
       comes_on r g h had' stack stack' left' (between_back r g had' (stack ∷ left') at) (runs_back (bare_program p) g h stack stack' run)

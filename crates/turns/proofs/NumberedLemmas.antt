@@ -73,7 +73,8 @@ module _ {A : Type 0} (p : Program) (graphs : List (Graph A)) (fit : ArgumentsFi
 
   -- the numbers of a frame on top of a stack
   abbrev LikeOnTop : Frame → NumberedFrame → Type 0
-  LikeOnTop f k = (c : ℕ) × (l : List Bool) × (r : Code) × IsRestOf (body c) r × IsWide c l × (f ≡ frame c l r) × (k ≡ placed c (point_at r) (own l))
+  LikeOnTop f k = (c : ℕ) × (l : List Bool) × (r : Code) × IsRestOf (body c) r × IsWide c l × (f ≡ frame c l r)
+      × (k ≡ placed c (point_at r) (own l))
 
   -- the numbers of a frame below another: its rest begins with a call
   abbrev LikeBelow : Frame → NumberedFrame → Type 0
@@ -123,7 +124,8 @@ module _ {A : Type 0} (p : Program) (graphs : List (Graph A)) (fit : ArgumentsFi
         omega (arith, low, whole)
 
     -- the flow at the point of a rest is the one with the steps from there
-    steps_at : (r : Code) (flow : flow.Flow A) → IsRestOf (body c) r → slice_get (flows_of graph) (point_at r) ≡ Some flow → HasSteps p c r flow
+    steps_at : (r : Code) (flow : flow.Flow A) → IsRestOf (body c) r → slice_get (flows_of graph) (point_at r) ≡ Some flow
+        → HasSteps p c r flow
     steps_at r flow rest here =
         let (flow', here', steps) = flow_at p c graph is r rest in
         subst (HasSteps p c r) (same_Some flow' flow (sym here' ∙ here)) steps
@@ -139,7 +141,8 @@ module _ {A : Type 0} (p : Program) (graphs : List (Graph A)) (fit : ArgumentsFi
   wide_after c g h l l' r r' wide_g wide flow =
       same_valuation p c (valued g l) (valued h l') (flow_widths p c (valued g l) (valued h l') r r' flow) (wide_g, wide)
 
-  rest_after : (c : ℕ) (v v' : Valuation) (l : List Bool) (r r' : Code) → IsWide c l → IsRestOf (body c) r → Flow p c v r v' r' → IsRestOf (body c) r'
+  rest_after : (c : ℕ) (v v' : Valuation) (l : List Bool) (r r' : Code) → IsWide c l → IsRestOf (body c) r → Flow p c v r v' r'
+      → IsRestOf (body c) r'
   rest_after c v v' l r r' wide rest flow =
       let (routine, is, has) = routine_found (slice_get p.routines c) (λ z. length l ≡ frame_size z) wide in
       let same : body c ≡ routine.body = ap body_of is in
@@ -151,7 +154,8 @@ module _ {A : Type 0} (p : Program) (graphs : List (Graph A)) (fit : ArgumentsFi
       let (graph, here, is) = graph_there c (λ z. length l ≡ frame_size z) wide in
       let (flow, at, steps) = flow_at p c graph is r rest in
       let after = wide_after c g h l l' r r' wide_g wide step in
-      let (choice, (most, next)) = (steps.leads (valued g l) (point_at r') (code (valued h l')) (wide_g, wide)).1 (valued h l', r', step, refl, refl) in (
+      let (choice, (most, next)) =
+      (steps.leads (valued g l) (point_at r') (code (valued h l')) (wide_g, wide)).1 (valued h l', r', step, refl, refl) in (
         coded h,
         placed c (point_at r') (own l'),
         (
@@ -197,7 +201,8 @@ module _ {A : Type 0} (p : Program) (graphs : List (Graph A)) (fit : ArgumentsFi
           rest_after c (valued g l) v l r r' wide rest step,
           after.1,
           refl,
-          same_k ∙ (λ i. placed c (same_point i) (places_in graph (same_values i))) ∙ ap (λ n. placed c (point_at r') n) (places_out c graph is v after.0),
+          same_k ∙ (λ i. placed c (same_point i) (places_in graph (same_values i)))
+              ∙ ap (λ n. placed c (point_at r') n) (places_out c graph is v after.0),
         ),
       )
 
@@ -214,7 +219,8 @@ module _ {A : Type 0} (p : Program) (graphs : List (Graph A)) (fit : ArgumentsFi
       subst (λ o. AtRoutine o (λ z. e ≡ record { globals = h; places = fresh (frame_size z) (values_of h l es) })) (sym is) refl in (
         e,
         subst (λ o. AtCall o (λ callee es'.
-            (callee ≡ n) × AtRoutine (slice_get p.routines n) (λ z. e ≡ record { globals = h; places = fresh (frame_size z) (values_of h l es') })))
+            (callee ≡ n)
+            × AtRoutine (slice_get p.routines n) (λ z. e ≡ record { globals = h; places = fresh (frame_size z) (values_of h l es') })))
             (sym at) (refl, entered),
       )
 
@@ -344,11 +350,13 @@ module _ {A : Type 0} (p : Program) (graphs : List (Graph A)) (fit : ArgumentsFi
       let (graph, here, is) = graph_there c (λ z. length l ≡ frame_size z) wide in
       let (flow, at, steps) = flow_at p c graph is r rest in
       let zero : length (zeros p.globals) ≡ p.globals = length_zeros p.globals in
-      let entered = (steps.enters (valued (zeros p.globals) l) n (code a) (point_at (after_first r)) (zero, wide)).1 (a, asks, refl, refl) in
+      let entered =
+      (steps.enters (valued (zeros p.globals) l) n (code a) (point_at (after_first r)) (zero, wide)).1 (a, asks, refl, refl) in
       let exit : ExitValues = left_of d g k in
       let whole : state (resumed l r exit).globals (frame c (resumed l r exit).places (after_first r) ∷ []) ≡ state h (f ∷ []) =
       sym (given_caller c (valued (zeros p.globals) l) (target_of r) (after_first r) [] exit) ∙ given in
-      let number = resumed_number c graph flow g l k r d n (code a) (point_at (after_first r)) mine wide_g wide wide_k is_mine steps entered in
+      let number =
+      resumed_number c graph flow g l k r d n (code a) (point_at (after_first r)) mine wide_g wide wide_k is_mine steps entered in
       let after = wide_resumed c l r exit wide_g wide in
       let same_h : (resumed l r exit).globals ≡ h = ap globals_of_state whole in
       let same_f : frame c (resumed l r exit).places (after_first r) ≡ f = ap (top_of_state f) whole in (
@@ -448,7 +456,8 @@ module _ {A : Type 0} (p : Program) (graphs : List (Graph A)) (fit : ArgumentsFi
             (subst (Both []) (sym (ap (first_frame graphs t) (slice_get_past graphs t short))) (tt, tt))
       ]
 
-  starts_like : (ts : List ℕ) → AreAlike Alike (map (starting_stack p.routines) ts) (map (λ t. first_frame graphs t (slice_get graphs t)) ts)
+  starts_like : (ts : List ℕ)
+      → AreAlike Alike (map (starting_stack p.routines) ts) (map (λ t. first_frame graphs t (slice_get graphs t)) ts)
       × AreAlike AlikeBack (map (λ t. first_frame graphs t (slice_get graphs t)) ts) (map (starting_stack p.routines) ts)
   starts_like [] = (tt, tt)
   starts_like (t ∷ ts) =
@@ -484,7 +493,9 @@ module _ {A : Type 0} (p : Program) (graphs : List (Graph A)) (fit : ArgumentsFi
         let (callee, a, asks, same_e, same_w) = subst (λ z. program.CallsFrom p g z e w) same_f is in
         subst (λ z. CallsLike (CallsFrom graphs n k) z w) (sym same_e)
         (subst (λ z. CallsLike (CallsFrom graphs n k) (frame callee a.places (body callee)) z) (sym same_w)
-        (subst (λ z. CallsLike (CallsFrom graphs n z) (frame callee a.places (body callee)) (caller_frame c l (target_of r) (after_first r))) (sym same_k)
+        (subst
+        (λ z. CallsLike (CallsFrom graphs n z) (frame callee a.places (body callee)) (caller_frame c l (target_of r) (after_first r)))
+        (sym same_k)
         (subst (λ z. CallsLike (CallsFrom graphs z (placed c (point_at r) (own l))) (frame callee a.places (body callee))
         (caller_frame c l (target_of r) (after_first r))) (sym same_g)
         (call_there c g l r callee a wide_g rest wide asks))))
@@ -501,7 +512,16 @@ module _ {A : Type 0} (p : Program) (graphs : List (Graph A)) (fit : ArgumentsFi
 
     returns_there : (g : List Bool) (n : ℕ) (f : Frame) (k : NumberedFrame) (w : Frame) (u : NumberedFrame) (h : List Bool) (f' : Frame)
         → LikeGlobals g n → LikeOnTop f k → LikeBelow w u → program.ReturnsTo p g f w h f' → After (ReturnsTo graphs n k u) h f'
-    returns_there g n f k w u h f' (wide_g, same_g) (d, m, t, rest_t, wide_m, same_f, same_k) (c, l, r, rest, wide, (callee, a, asks), same_w, same_u) is =
+    returns_there g n f k w u h f' (wide_g, same_g) (d, m, t, rest_t, wide_m, same_f, same_k) (
+      c,
+      l,
+      r,
+      rest,
+      wide,
+      (callee, a, asks),
+      same_w,
+      same_u,
+    ) is =
         let (finished, given) = subst (λ z. program.ReturnsTo p g z w h f') same_f is in
         let at_exit : placed d (point_at t) (own m) ≡ placed d 0 (own m) = ap (λ z. placed d (point_at z) (own m)) finished in
         let back = subst (λ z. given_back (result_of (slice_get p.routines d) m) g (z ∷ []) ≡ state h (f' ∷ [])) same_w given in
@@ -512,12 +532,22 @@ module _ {A : Type 0} (p : Program) (graphs : List (Graph A)) (fit : ArgumentsFi
 
     returns_back : (n : ℕ) (g : List Bool) (k : NumberedFrame) (f : Frame) (u : NumberedFrame) (w : Frame) (h : ℕ) (k' : NumberedFrame)
         → LikeGlobals g n → LikeOnTop f k → LikeBelow w u → ReturnsTo graphs n k u h k' → Before (program.ReturnsTo p g f w) h k'
-    returns_back n g k f u w h k' (wide_g, same_g) (d, m, t, rest_t, wide_m, same_f, same_k) (c, l, r, rest, wide, (callee, a, asks), same_w, same_u) is =
+    returns_back n g k f u w h k' (wide_g, same_g) (d, m, t, rest_t, wide_m, same_f, same_k) (
+      c,
+      l,
+      r,
+      rest,
+      wide,
+      (callee, a, asks),
+      same_w,
+      same_u,
+    ) is =
         subst (λ z. Before (program.ReturnsTo p g z w) h k') (sym same_f)
         (subst (λ z. Before (program.ReturnsTo p g (frame d m t) z) h k') (sym same_w)
         (return_back d g m t c l r callee a h k' wide_g rest_t wide_m rest wide asks
         (subst (λ z. ReturnsTo graphs z (placed d (point_at t) (own m)) (placed c (point_at r) (own l)) h k') same_g
-        (subst (λ z. ReturnsTo graphs n z (placed c (point_at r) (own l)) h k') same_k (subst (λ z. ReturnsTo graphs n k z h k') same_u is)))))
+        (subst (λ z. ReturnsTo graphs n z (placed c (point_at r) (own l)) h k') same_k
+        (subst (λ z. ReturnsTo graphs n k z h k') same_u is)))))
 
     ends_there : (f : Frame) (k : NumberedFrame) → LikeOnTop f k → IsFinished f → k.point ≡ 0
     ends_there f k (c, l, r, rest, wide, same_f, same_k) is =
@@ -576,7 +606,8 @@ module _ {A : Type 0} (p : Program) (graphs : List (Graph A)) (fit : ArgumentsFi
     none_coded : coded (zeros p.globals) ≡ 0
     none_coded =
         let whole : own [] ≡ 0 = zeros_code p.globals [] ∙ (let none : 0 * 2 ^ p.globals ≡ 0 = omega arith in none) in
-        let sum : coded (zeros p.globals) + own [] ≡ code (valued (zeros p.globals) []) = summed (zeros p.globals) [] (length_zeros p.globals) in
+        let sum : coded (zeros p.globals) + own [] ≡ code (valued (zeros p.globals) []) =
+        summed (zeros p.globals) [] (length_zeros p.globals) in
         omega (arith, whole, sum)
 
     -- by numbers a turn fails if and only if one of the program does

@@ -3,7 +3,8 @@ use Rattle.std.proofs.Common.{◌≡◌, ℕ, zero, suc, Bool, List, [], ◌∷�
 use Rattle.language.specs.Tree.{one, call, call_for, done}
 use Rattle.language.specs.Rest.{Code, target_of}
 use Rattle.language.specs.Step as language
-use Rattle.language.specs.Step.{Program, Routine, Frame, frame, waiting, State, state, AtRoutine, body_of, result_of, given_back, AfterSteps}
+use Rattle.language.specs.Step.{Program, Routine, Frame, frame, waiting, State, state, AtRoutine, body_of, result_of, given_back}
+use Rattle.language.specs.Step.{AfterSteps}
 use Rattle.language.specs.Sequential as calls
 use Rattle.language.specs.Sequential.{Valuation}
 use Rattle.language.specs.Flow.{after_first, caller_frame}
@@ -56,7 +57,8 @@ module _ (p : Program) where
             (machine.calls g (frame c l r) _ _ fs (n, a, asks, refl, refl)))
       ]
 
-  moves_back : (g h : List Bool) (f f' : Frame) (fs : List Frame) → Moves p g f h f' → language.Step p (state g (f ∷ fs)) (state h (f' ∷ fs))
+  moves_back : (g h : List Bool) (f f' : Frame) (fs : List Frame) → Moves p g f h f'
+      → language.Step p (state g (f ∷ fs)) (state h (f' ∷ fs))
   moves_back g h (waiting c l x r) f' fs is = absurd is
   moves_back g h (frame c l r) f' fs (l', r', flow, e) =
       subst (λ z. language.Step p (state g (frame c l r ∷ fs)) (state h (z ∷ fs))) (sym e)
@@ -69,7 +71,8 @@ module _ (p : Program) where
       let step : language.Step p (state g (frame c l r ∷ fs)) (state a.globals (opened n a c l r fs)) =
       entering p c (valued g l) r fs n a asks in
       subst (λ z. language.Step p (state g (frame c l r ∷ fs)) (state g (e ∷ z ∷ fs))) (sym same_w)
-      (subst (λ z. language.Step p (state g (frame c l r ∷ fs)) (state g (z ∷ caller_frame c l (target_of r) (after_first r) ∷ fs))) (sym same_e)
+      (subst (λ z. language.Step p (state g (frame c l r ∷ fs)) (state g (z ∷ caller_frame c l (target_of r) (after_first r) ∷ fs)))
+      (sym same_e)
       (subst (λ z. language.Step p (state g (frame c l r ∷ fs)) (state z (opened n a c l r fs))) (called_globals p g l r n a asks) step))
 
   -- what is given back to a frame is the same over more frames
@@ -83,7 +86,8 @@ module _ (p : Program) where
   returns_back g h (waiting c l x r) w f' fs is = absurd is
   returns_back g h (frame c l r) w f' fs (finished, e) =
       subst (λ z. language.Step p (state g (frame c l z ∷ w ∷ fs)) (state h (f' ∷ fs))) (sym finished)
-      (subst (λ s. language.Step p (state g (frame c l done ∷ w ∷ fs)) s) (given_over _ g h w f' fs e) (returning p c (valued g l) (w ∷ fs)))
+      (subst (λ s. language.Step p (state g (frame c l done ∷ w ∷ fs)) s) (given_over _ g h w f' fs e)
+      (returning p c (valued g l) (w ∷ fs)))
 
   ends_back : (g : List Bool) (f : Frame) → IsFinished f → language.Step p (state g (f ∷ [])) (state g [])
   ends_back g (waiting c l x r) is = absurd is

@@ -30,7 +30,8 @@ module _ {Name Globals Frame : Type 0} (m : Machine Globals Frame) (nodes : Node
   ends_step g h stack stack' (s, is, run) step = (s, is, one_more g0 s g stack h stack' run step)
 
   -- a run to a call, the call, the run inside it, and the return
-  through : (x : Globals) (s : List Frame) (g : Globals) (f e w : Frame) (i : Globals) (f' : Frame) (h : Globals) (k : Frame) (fs : List Frame)
+  through : (x : Globals) (s : List Frame) (g : Globals) (f e w : Frame) (i : Globals) (f' : Frame) (h : Globals) (k : Frame)
+      (fs : List Frame)
       → Runs m x s g (f ∷ fs) → m.Calls g f e w → Runs m g (e ∷ []) i (f' ∷ []) → m.Returns i f' w h k → Runs m x s h (k ∷ fs)
   through x s g f e w i f' h k fs run is inside back =
       let here : Runs m x s g (e ∷ w ∷ fs) = one_more x s g (f ∷ fs) g (e ∷ w ∷ fs) run (machine.calls g f e w fs is) in
@@ -62,7 +63,8 @@ module _ {Name Globals Frame : Type 0} (m : Machine Globals Frame) (nodes : Node
   found_true _ (goes g f q found bare is) = ends_step g g (f ∷ []) [] (found_true _ found [] bare) (machine.ends g f is)
 
   -- a turn can end with each stack over a head that is found
-  over_below : (fs : List Frame) (b : Below Name Globals Frame) (g : Globals) (f : Frame) → LeadsTo b g f → LiesBelow nodes Is b fs → Ends g (f ∷ fs)
+  over_below : (fs : List Frame) (b : Below Name Globals Frame) (g : Globals) (f : Frame) → LeadsTo b g f → LiesBelow nodes Is b fs
+      → Ends g (f ∷ fs)
   over_below fs (old q) g f leads lies = leads fs lies
   over_below [] (call h e) g f leads lies = absurd lies
   over_below (w ∷ fs) (call h e) g f leads (b, waits, lies) =

@@ -47,11 +47,13 @@ module _ (p : Program) where
   round_on : (r : ℕ) (g h : List Bool) (had stacks mid : Stacks) → Between (threads_of p) r g had stacks → Round p g stacks h mid
       → Between (threads_of p) r h (had ++ mid) []
   round_on r g h had [] mid at (e, none) =
-      subst (λ z. Between (threads_of p) r h z []) (sym (all_over had) ∙ ap (λ z. had ++ z) (sym none)) (subst (λ z. Between (threads_of p) r z had []) (sym e) at)
+      subst (λ z. Between (threads_of p) r h z []) (sym (all_over had) ∙ ap (λ z. had ++ z) (sym none))
+      (subst (λ z. Between (threads_of p) r z had []) (sym e) at)
   round_on r g h had (stack ∷ stacks) [] at f = absurd f
   round_on r g h had (stack ∷ stacks) (stack' ∷ mid) at (g', run, more) =
       subst (λ z. Between (threads_of p) r h z []) (next_over had stack' mid)
-      (round_on r g' h (had ++ stack' ∷ []) stacks mid (takes_turn r g g' had stack stack' stacks at (runs_there p g g' stack stack' run)) more)
+      (round_on r g' h (had ++ stack' ∷ []) stacks mid
+      (takes_turn r g g' had stack stack' stacks at (runs_there p g g' stack stack' run)) more)
 
   rounds_on : (n r : ℕ) (g h : List Bool) (stacks stacks' : Stacks) → Between (threads_of p) r g [] stacks → Rounds p n g stacks h stacks'
       → Between (threads_of p) (n + r) h [] stacks'
@@ -77,7 +79,8 @@ module _ (p : Program) where
   there : (k : ℕ) → Unsafe p k → FailsBelow (threads_of p) k
   there k (r, small, g, stacks, run, bad) =
       let none : r + zero ≡ r = omega arith in
-      let at : Between (threads_of p) r g [] stacks = subst (λ z. Between (threads_of p) z g [] stacks) none (rounds_on r zero _ g _ stacks begins run) in
+      let at : Between (threads_of p) r g [] stacks =
+      subst (λ z. Between (threads_of p) z g [] stacks) none (rounds_on r zero _ g _ stacks begins run) in
       let (h, had, stack, left, at', fails) = fails_on r g [] stacks at bad in
       (r, small, h, had, stack, left, at', fails)
 
@@ -101,7 +104,8 @@ module _ (p : Program) where
 
   -- the rounds before, and the turns of the next round
   abbrev Split : ℕ → List Bool → Stacks → Stacks → Type 0
-  Split r g had left = (g1 : List Bool) × (before : Stacks) × Rounds p r (zeros p.globals) starting g1 (before ++ left) × Round p g1 before g had
+  Split r g had left = (g1 : List Bool) × (before : Stacks) × Rounds p r (zeros p.globals) starting g1 (before ++ left)
+      × Round p g1 before g had
 
   split : (r : ℕ) (g : List Bool) (had left : Stacks) → Between (threads_of p) r g had left → Split r g had left
   split _ _ _ _ begins = (zeros p.globals, [], (refl, refl), (refl, refl))
@@ -120,7 +124,8 @@ module _ (p : Program) where
         (refl, refl),
       )
 
-  fails_in : (g g' : List Bool) (before had : Stacks) (stack : List Frame) (left : Stacks) → Round p g before g' had → TurnFails (machine_of p) g' stack
+  fails_in : (g g' : List Bool) (before had : Stacks) (stack : List Frame) (left : Stacks) → Round p g before g' had
+      → TurnFails (machine_of p) g' stack
       → FailsInRound p g (before ++ stack ∷ left)
   fails_in g g' [] had stack left (e, none) bad = inl (turn_back g stack (subst (λ z. TurnFails (machine_of p) z stack) e bad))
   fails_in g g' (first ∷ before) [] stack left f bad = absurd f

@@ -1,9 +1,9 @@
 -- Pushdown systems: one thread's globals and its stack of frames (after Bouajjani, Esparza and Maler 1997).
 use Rattle.std.specs.Prelude.{List, [], ◌∷◌}
 
--- A pushdown system, over globals and frames. Its parts say what the top frame does with the globals: it moves inside its
--- call; it calls, and leaves a frame below the first one of the call; it is finished, and the frame below it continues; it
--- is finished, and nothing is below; it fails.
+-- A pushdown system, over globals and frames. Its parts say what the top frame does with the globals: it moves inside
+-- its call; it calls, and leaves a frame below the first one of the call; it is finished, and the frame below it
+-- continues; it is finished, and nothing is below; it fails.
 pub record Machine (Globals Frame : Type 0) : Type 1 where
   pub Moves : Globals → Frame → Globals → Frame → Type 0
   pub Calls : Globals → Frame → Frame → Frame → Type 0
@@ -33,4 +33,5 @@ FailsOnTop machine g (f ∷ fs) = machine.Fails g f
 
 -- a turn from these globals and this stack comes to a top frame that fails
 abbrev pub TurnFails : {Globals Frame : Type 0} → Machine Globals Frame → Globals → List Frame → Type 0
-TurnFails {Globals} {Frame} machine g stack = (h : Globals) × (stack' : List Frame) × Runs machine g stack h stack' × FailsOnTop machine h stack'
+TurnFails {Globals} {Frame} machine g stack = (h : Globals) × (stack' : List Frame) × Runs machine g stack h stack'
+    × FailsOnTop machine h stack'

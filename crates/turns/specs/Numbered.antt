@@ -30,7 +30,8 @@ valuation_at g f = (g + f.places) % 2 ^ word_bits
 
 -- the globals and a frame of each procedure have as many values together as a number has bits, or fewer
 abbrev pub AreNarrow : Program → Type 0
-AreNarrow program = (q : ℕ) (routine : Routine) → slice_get program.routines q ≡ Some routine → program.globals + frame_size routine ≤ word_bits
+AreNarrow program = (q : ℕ) (routine : Routine) → slice_get program.routines q ≡ Some routine
+    → program.globals + frame_size routine ≤ word_bits
 
 module _ {Alloc : Type 0} where
   -- the globals of a valuation

@@ -23,7 +23,8 @@ pub data Together {Name Globals Frame : Type 0} (machine : Machine Globals Frame
       → machine.Returns i f w h f' → Together machine (head i f (call g e)) (caller g e w b) (head h f' b)
 
 -- the first items of a turn: the heads of its node, and the empty stack if it is in the node
-pub data First {Name Globals Frame : Type 0} (nodes : Nodes Name Frame) (globals : Globals) (start : Name) : Item Name Globals Frame → Type 0 where
+pub data First {Name Globals Frame : Type 0} (nodes : Nodes Name Frame) (globals : Globals) (start : Name) : Item Name Globals Frame
+    → Type 0 where
   starts : (f : Frame) (q : Name) → nodes.Has start f q → First nodes globals start (head globals f (old q))
   is_gone : nodes.Bare start → First nodes globals start (gone globals)
 

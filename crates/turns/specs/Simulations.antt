@@ -2,9 +2,10 @@
 use Rattle.std.specs.Prelude.{List, [], ◌∷◌}
 use Rattle.turns.specs.Machines.{Machine}
 
--- The second system does, with globals and frames that are like those of the first, whatever the first does: `Like` says which
--- globals are alike, `LikeOnTop` which frames on top of a stack, `LikeBelow` which frames below another.
-pub record Simulates {G F G' F' : Type 0} (first : Machine G F) (second : Machine G' F') (Like : G → G' → Type 0) (LikeOnTop : F → F' → Type 0)
+-- The second system does, with globals and frames that are like those of the first, whatever the first does: `Like`
+-- says which globals are alike, `LikeOnTop` which frames on top of a stack, `LikeBelow` which frames below another.
+pub record Simulates {G F G' F' : Type 0} (first : Machine G F) (second : Machine G' F') (Like : G → G' → Type 0)
+    (LikeOnTop : F → F' → Type 0)
     (LikeBelow : F → F' → Type 0) : Type 0 where
   pub moves : (g : G) (g' : G') (f : F) (f' : F') (h : G) (k : F) → Like g g' → LikeOnTop f f' → first.Moves g f h k
       → (h' : G') × (k' : F') × second.Moves g' f' h' k' × Like h h' × LikeOnTop k k'

@@ -1,5 +1,5 @@
--- Sets of stacks, as nodes: a stack is in a node if the node has a head with its top frame, over a node that has what lies
--- below (after the automata of Bouajjani, Esparza and Maler 1997).
+-- Sets of stacks, as nodes: a stack is in a node if the node has a head with its top frame, over a node that has what
+-- lies below (after the automata of Bouajjani, Esparza and Maler 1997).
 use Rattle.std.specs.Prelude.{List, [], ◌∷◌}
 
 -- Some nodes: which have the empty stack, and which heads each has, a frame over a node.
@@ -12,8 +12,8 @@ abbrev pub InNode : {Name Frame : Type 0} → Nodes Name Frame → Name → List
 InNode nodes name [] = nodes.Bare name
 InNode {Name} nodes name (top ∷ below) = (next : Name) × nodes.Has name top next × InNode nodes next below
 
--- The relation is a simulation: whatever the one node has, the other has too, over a node to which the relation leads on.
--- The two may be nodes of one kind, or of two.
+-- The relation is a simulation: whatever the one node has, the other has too, over a node to which the relation leads
+-- on. The two may be nodes of one kind, or of two.
 abbrev pub IsSimulation : {A B Frame : Type 0} → Nodes A Frame → Nodes B Frame → (A → B → Type 0) → Type 0
 IsSimulation {A} {B} {Frame} one other Under = (q : A) (r : B) → Under q r →
     (one.Bare q → other.Bare r)

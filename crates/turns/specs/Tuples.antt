@@ -12,8 +12,8 @@ AreIn nodes [] (stack ∷ stacks) = ⊥
 AreIn nodes (q ∷ qs) [] = ⊥
 AreIn nodes (q ∷ qs) (stack ∷ stacks) = InNode nodes q stack × AreIn nodes qs stacks
 
--- which tuples are met after a number of rounds: the globals, the nodes of the threads that have had their turn of the next
--- round, and those of the others
+-- which tuples are met after a number of rounds: the globals, the nodes of the threads that have had their turn of the
+-- next round, and those of the others
 abbrev pub Meeting : Type 0 → Type 0 → Type 1
 Meeting Name Globals = ℕ → Globals → List Name → List Name → Type 0
 
@@ -22,8 +22,8 @@ module _ {Name Globals Frame : Type 0} (threads : Threads Globals Frame) (nodes 
   abbrev pub Covered : ℕ → Globals → List (List Frame) → List (List Frame) → Type 0
   Covered r g had left = (qs : List Name) × (rs : List Name) × Met r g qs rs × AreIn nodes qs had × AreIn nodes rs left
 
-  -- The start is covered, and so is what each turn of a tuple that is met below round k can end with; and nothing is lost
-  -- between rounds.
+  -- The start is covered, and so is what each turn of a tuple that is met below round k can end with; and nothing is
+  -- lost between rounds.
   pub record IsClosedBelow (k : ℕ) : Type 0 where
     pub begins : Covered zero threads.globals [] threads.stacks
     pub turns : (r : ℕ) (g h : Globals) (qs : List Name) (q : Name) (rs : List Name) (had : List (List Frame)) (stack stack' : List Frame)
@@ -49,8 +49,8 @@ module _ {Name Globals Frame : Type 0} (threads : Threads Globals Frame) (nodes 
       × (left : List (List Frame)) × (r < k) × Met r g qs (q ∷ rs) × AreIn nodes qs had × InNode nodes q stack × AreIn nodes rs left
       × TurnFails threads.machine g stack
 
--- a tuple with the number of rounds after which it is met: its globals, and the nodes of the threads that have had their
--- turn of the next round, and those of the others
+-- a tuple with the number of rounds after which it is met: its globals, and the nodes of the threads that have had
+-- their turn of the next round, and those of the others
 pub record MetTuple (Name Globals : Type 0) : Type 0 where
   pub rounds : ℕ
   pub globals : Globals

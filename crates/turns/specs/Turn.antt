@@ -9,16 +9,17 @@ pub data Below (Name Globals Frame : Type 0) : Type 0 where
   old : Name → Below Name Globals Frame
   call : Globals → Frame → Below Name Globals Frame
 
--- what a turn finds: a head with these globals; a frame that waits below a call, which is named by its globals and its first
--- frame; or that the stack is empty with these globals
+-- what a turn finds: a head with these globals; a frame that waits below a call, which is named by its globals and its
+-- first frame; or that the stack is empty with these globals
 pub data Item (Name Globals Frame : Type 0) : Type 0 where
   head : Globals → Frame → Below Name Globals Frame → Item Name Globals Frame
   caller : Globals → Frame → Frame → Below Name Globals Frame → Item Name Globals Frame
   gone : Globals → Item Name Globals Frame
 
--- What a turn from these globals and this node finds: the least set that has the node's heads and is closed under the steps
--- of the top frames.
-pub data Found {Name Globals Frame : Type 0} (machine : Machine Globals Frame) (nodes : Nodes Name Frame) (globals : Globals) (start : Name) :
+-- What a turn from these globals and this node finds: the least set that has the node's heads and is closed under the
+-- steps of the top frames.
+pub data Found {Name Globals Frame : Type 0} (machine : Machine Globals Frame) (nodes : Nodes Name Frame) (globals : Globals)
+    (start : Name) :
     Item Name Globals Frame → Type 0 where
   starts : (f : Frame) (q : Name) → nodes.Has start f q → Found machine nodes globals start (head globals f (old q))
   is_gone : nodes.Bare start → Found machine nodes globals start (gone globals)
