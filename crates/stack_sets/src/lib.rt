@@ -4,8 +4,10 @@
 #![tactic(auto)]
 
 mod laws;
+mod no_turn;
 mod node;
 mod stack_sets;
+mod turn;
 
 pub use laws::{
     a_failing_turn_of_a_tuple_that_is_reached_is_unsafe,
@@ -14,5 +16,7 @@ pub use laws::{
     closed_tuples_of_which_none_fails_are_safe, saturated_items_are_all_that_a_turn_finds,
     settled_tuples_of_which_none_fails_are_safe_for_any_rounds,
 };
+pub use no_turn::NoTurn;
 pub use node::{Head, Node};
 pub use stack_sets::{BOTTOM, StackSets};
+pub use turn::{Ending, TakesTurns, Turn};

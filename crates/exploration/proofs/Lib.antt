@@ -1,0 +1,14 @@
+pub mod BetweenLemmas
+pub mod HeldLemmas
+pub mod NodeLemmas
+pub mod TurnLemmas
+pub mod TupleLemmas
+pub mod GrowLemmas
+pub mod ExpandLemmas
+pub mod ComeLemmas
+pub mod SearchLemmas
+pub mod PassLemmas
+pub mod StartLemmas
+pub mod ThreadLemmas
+pub mod LawLemmas
+pub mod ReportLemmas

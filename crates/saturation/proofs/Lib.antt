@@ -1,0 +1,10 @@
+pub mod ItemLemmas
+pub mod StepLemmas
+pub mod FollowLemmas
+pub mod MoveLemmas
+pub mod CallLemmas
+pub mod OutLemmas
+pub mod NextLemmas
+pub mod TopLemmas
+pub mod SaturationLemmas
+pub mod StartLemmas
