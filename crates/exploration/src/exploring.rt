@@ -82,8 +82,8 @@ fn explore_threads<T: TakesTurns<A>, G: Allocator, A: Allocator + Copy>(
 }
 
 /// Whether some run of a program fails an assert, in the rounds asked for: a search over rounds of turns, which `T`
-/// makes. It waits for nobody. No answer comes if a procedure has more than 128 places, if an allocation is refused, or if more would be
-/// found and met than the limit.
+/// makes. It waits for nobody. No answer comes if a procedure has more than 128 places, if an allocation is refused, or
+/// if more would be found and met than the limit.
 pub fn explore<T: TakesTurns<A>, N: Allocator, A: Allocator + Copy>(
     alloc: A,
     program: &Checked<N>,
