@@ -60,12 +60,15 @@ module _ {A : Type 0} (old new : Calls A) (caller : Caller)
   pub lists_caller : ListsAlso (Waits caller) old new
   lists_caller done listed = record { callers = callers; finished = finished }
     where
-      callers : (entry : Entry) (resting : Resting) → Member resting (callers_of new entry) ↔ Member (caller_item entry resting) (done ++ Waits caller ∷ [])
+      callers : (entry : Entry) (resting : Resting)
+          → Member resting (callers_of new entry) ↔ Member (caller_item entry resting) (done ++ Waits caller ∷ [])
       callers entry resting = (
-        λ m. elim (added_or entry_eq same_entry (callers_of old) (callers_of new) caller.entry (resting_at caller) added others entry resting m) [
-          | inl was ↦ member_left (caller_item entry resting) done (Waits caller ∷ []) ((listed.callers entry resting).0 was)
-          | inr (key, value) ↦ at_last (caller_item entry resting) (Waits caller) done (λ i. caller_item (sym key i) (sym value i))
-        ],
+        λ m.
+            elim (added_or entry_eq same_entry (callers_of old) (callers_of new) caller.entry
+            (resting_at caller) added others entry resting m) [
+              | inl was ↦ member_left (caller_item entry resting) done (Waits caller ∷ []) ((listed.callers entry resting).0 was)
+              | inr (key, value) ↦ at_last (caller_item entry resting) (Waits caller) done (λ i. caller_item (sym key i) (sym value i))
+            ],
         λ m. elim (last_item (caller_item entry resting) (Waits caller) done m) [
           | inl was ↦
               added_keeps entry_eq same_entry (callers_of old) (callers_of new) caller.entry (resting_at caller) added others entry resting
@@ -83,8 +86,13 @@ module _ {A : Type 0} (old new : Calls A) (caller : Caller)
         λ m.
             let (was, exit) = (listed.finished entry one).0 (subst (Member one) (same entry) m) in
             (member_left (finished_item entry one) done (Waits caller ∷ []) was, exit),
-        λ (m, exit). subst (Member one) (sym (same entry)) ((listed.finished entry one).1
-            (elim (last_item (finished_item entry one) (Waits caller) done m) [ inl was ↦ was | inr is ↦ absurd (no_finished entry one caller is) ], exit)),
+        λ (m, exit). subst (Member one) (sym (same entry)) ((listed.finished entry one).1 (
+          elim (last_item (finished_item entry one) (Waits caller) done m) [
+            | inl was ↦ was
+            | inr is ↦ absurd (no_finished entry one caller is)
+          ],
+          exit,
+        )),
       )
 
 -- ---- a finished frame is added
@@ -103,11 +111,17 @@ module _ {A : Type 0} (old new : Calls A) (top : Top) (call : Entry) (over : top
   pub lists_finished : ListsAlso (Head top) old new
   lists_finished done listed = record { callers = callers; finished = finished }
     where
-      callers : (entry : Entry) (resting : Resting) → Member resting (callers_of new entry) ↔ Member (caller_item entry resting) (done ++ Head top ∷ [])
+      callers : (entry : Entry) (resting : Resting)
+          → Member resting (callers_of new entry) ↔ Member (caller_item entry resting) (done ++ Head top ∷ [])
       callers entry resting = (
-        λ m. member_left (caller_item entry resting) done (Head top ∷ []) ((listed.callers entry resting).0 (subst (Member resting) (same entry) m)),
+        λ m.
+            member_left (caller_item entry resting) done (Head top ∷ [])
+            ((listed.callers entry resting).0 (subst (Member resting) (same entry) m)),
         λ m. subst (Member resting) (sym (same entry)) ((listed.callers entry resting).1
-            (elim (last_item (caller_item entry resting) (Head top) done m) [ inl was ↦ was | inr is ↦ absurd (no_caller entry resting top is) ])),
+            (elim (last_item (caller_item entry resting) (Head top) done m) [
+              | inl was ↦ was
+              | inr is ↦ absurd (no_caller entry resting top is)
+            ])),
       )
 
       finished : (entry : Entry) (one : Finished) → Member one (finished_of new entry)
@@ -119,7 +133,12 @@ module _ {A : Type 0} (old new : Calls A) (top : Top) (call : Entry) (over : top
               (member_left (finished_item entry one) done (Head top ∷ []) earlier, at_exit)
           | inr (key, value) ↦ (
             at_last (finished_item entry one) (Head top) done
-                (ap Head (λ i. record { globals = (sym value i).globals; frame = (sym value i).frame; below = (ap Call (sym key) ∙ sym over) i })),
+                (ap Head
+                (λ i. record {
+                  globals = (sym value i).globals;
+                  frame = (sym value i).frame;
+                  below = (ap Call (sym key) ∙ sym over) i;
+                })),
             subst (λ (z : Finished). z.frame.point ≡ 0) value exit,
           )
         ],
@@ -146,7 +165,10 @@ module _ {A : Type 0} (calls : Calls A) where
     callers = λ entry resting. (
       λ m. member_left (caller_item entry resting) done (Head top ∷ []) ((listed.callers entry resting).0 m),
       λ m. (listed.callers entry resting).1
-          (elim (last_item (caller_item entry resting) (Head top) done m) [ inl was ↦ was | inr is ↦ absurd (no_caller entry resting top is) ]),
+          (elim (last_item (caller_item entry resting) (Head top) done m) [
+            | inl was ↦ was
+            | inr is ↦ absurd (no_caller entry resting top is)
+          ]),
     );
     finished = λ entry one. (
       λ m.
@@ -169,7 +191,10 @@ module _ {A : Type 0} (calls : Calls A) where
     callers = λ entry resting. (
       λ m. member_left (caller_item entry resting) done (Gone globals ∷ []) ((listed.callers entry resting).0 m),
       λ m. (listed.callers entry resting).1
-          (elim (last_item (caller_item entry resting) (Gone globals) done m) [ inl was ↦ was | inr is ↦ absurd (true≢false (ap is_caller is)) ]),
+          (elim (last_item (caller_item entry resting) (Gone globals) done m) [
+            | inl was ↦ was
+            | inr is ↦ absurd (true≢false (ap is_caller is))
+          ]),
     );
     finished = λ entry one. (
       λ m.

@@ -1,5 +1,6 @@
 -- Lists of items that go on.
-use Rattle.std.proofs.Common.{◌≡◌, ◌⊎◌, ◌++◌, ◌+◌, ℕ, zero, suc, List, [], ◌∷◌, Some, slice_get, get_or, take, length, ◌<◌, inl, inr, sym, ap, ◌∙◌, subst, ◌≤◌, arith}
+use Rattle.std.proofs.Common.{◌≡◌, ◌⊎◌, ◌++◌, ◌+◌, ℕ, zero, suc, List, [], ◌∷◌, Some, slice_get, get_or, take, length, ◌<◌, inl, inr, sym}
+use Rattle.std.proofs.Common.{ap, ◌∙◌, subst, ◌≤◌, arith}
 use Rattle.std.specs.Prelude.{Result, Ok, Err, OnOk}
 use Rattle.std.proofs.lemmas.List.{append-nil, append_assoc, take_all}
 use Rattle.std.proofs.lemmas.Option.{same_Some, none-some, slice_get-get_or}
@@ -33,7 +34,8 @@ pub have_more : (W P : Found → Type 0) (xs ys : List Item) → Extends P xs ys
 have_more W P xs ys extends have x w = among_more P xs ys extends x (have x w)
 
 -- one of the first i + 1 is one of the first i, or the one at i
-pub taken : {A : Type 0} (xs : List A) (i : ℕ) (x y : A) → slice_get xs i ≡ Some x → Member y (take (suc i) xs) → Member y (take i xs) ⊎ (y ≡ x)
+pub taken : {A : Type 0} (xs : List A) (i : ℕ) (x y : A) → slice_get xs i ≡ Some x → Member y (take (suc i) xs)
+    → Member y (take i xs) ⊎ (y ≡ x)
 taken [] i x y at m = absurd m
 taken (z ∷ xs) zero x y at (inl same) = inr (same ∙ same_Some z x at)
 taken (z ∷ xs) zero x y at (inr m) = absurd m
@@ -73,7 +75,8 @@ pub each_done : {Part : Type 0} (W : Part → Found → Type 0) (parts : List Pa
 each_done W parts i ys past have x (part, m, is) = have x (part, subst (Member part) (sym (take_all i parts past)) m, is)
 
 -- the same for the part at a place of a list, of which something else is a function
-module _ {Part Seen : Type 0} (W : Part → Found → Type 0) (V : Seen → Found → Type 0) (see : Part → Seen) (as_seen : (part : Part) → W part ≡ V (see part))
+module _ {Part Seen : Type 0} (W : Part → Found → Type 0) (V : Seen → Found → Type 0) (see : Part → Seen)
+    (as_seen : (part : Part) → W part ≡ V (see part))
     (parts : List Part) (i : ℕ) (d : Part) (within : i < length parts) (seen : Seen) (is : seen ≡ see (get_or parts i d)) where
   abbrev part : Part
   part = get_or parts i d

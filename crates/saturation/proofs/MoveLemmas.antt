@@ -1,5 +1,6 @@
 -- The choices of a flow, and the moves of a top frame.
-use Rattle.std.proofs.Common.{◌≡◌, ◌↔◌, ◌≤◌, ◌<◌, ◌+◌, ℕ, Bool, false, true≢false, Some, None, List, slice_get, inl, inr, refl, sym, ap, ◌∙◌, subst, arith}
+use Rattle.std.proofs.Common.{◌≡◌, ◌↔◌, ◌≤◌, ◌<◌, ◌+◌, ℕ, Bool, false, true≢false, Some, None, List, slice_get, inl, inr, refl, sym, ap}
+use Rattle.std.proofs.Common.{◌∙◌, subst, arith}
 use Rattle.std.specs.Bool.{IsTrue}
 use Rattle.std.proofs.lemmas.Bool.{cases_lt}
 use Rattle.std.proofs.Math.Nat.{eq-or-lt_of_le}
@@ -44,12 +45,15 @@ module _ {A : Type 0} (graphs : List (Graph A)) (fails : Failures) (top : Top) (
           after,
           next',
           same ∙ (λ i. head (same_h i) (same_k i) top.below)
-              ∙ (λ i. head (globals_in ((sym same_graphs.0) i) after) (placed top.frame.procedure point (places_in ((sym same_graphs.0) i) after)) top.below),
+              ∙ (λ i.
+              head (globals_in ((sym same_graphs.0) i) after)
+              (placed top.frame.procedure point (places_in ((sym same_graphs.0) i) after)) top.below),
         ),
       )
 
 -- where there is no flow there is no move
-pub no_move : {A : Type 0} (graphs : List (Graph A)) (fails : Failures) (top : Top) (graph : Graph A) → slice_get graphs top.frame.procedure ≡ Some graph
+pub no_move : {A : Type 0} (graphs : List (Graph A)) (fails : Failures) (top : Top) (graph : Graph A)
+    → slice_get graphs top.frame.procedure ≡ Some graph
     → slice_get (flows_of graph) top.frame.point ≡ None → (x : Found) → IsMove (numbered_machine graphs fails) top x → ⊥
 no_move graphs fails top graph here none x (h, k, (graph', flow', here', at', more), same) =
     let same_graph : graph ≡ graph' = same_Some graph graph' (sym here ∙ here') in

@@ -64,11 +64,13 @@ module _ {A : Type 0} (graphs : List (Graph A)) (fails : Failures) (nodes : Node
       → IsOut (numbered_machine graphs fails) nodes top number x → Leads x
   out_next number over exit x (inl (w, r, has, (h, k, is, same))) =
       subst Leads (sym same)
-      (subst (λ b. Next (numbered_machine graphs fails) nodes (turn.head top.globals top.frame (below_of b)) (turn.head h k (turn.old r))) (sym over)
+      (subst (λ b. Next (numbered_machine graphs fails) nodes (turn.head top.globals top.frame (below_of b)) (turn.head h k (turn.old r)))
+      (sym over)
       (comes_out top.globals top.frame number w r h k has is))
   out_next number over exit x (inr (bare, same)) =
       subst Leads (sym same)
-      (subst (λ b. Next (numbered_machine graphs fails) nodes (turn.head top.globals top.frame (below_of b)) (turn.gone top.globals)) (sym over)
+      (subst (λ b. Next (numbered_machine graphs fails) nodes (turn.head top.globals top.frame (below_of b)) (turn.gone top.globals))
+      (sym over)
       (goes top.globals top.frame number bare exit))
 
   -- the one, the other, or the third
@@ -85,7 +87,8 @@ module _ {A : Type 0} (graphs : List (Graph A)) (fails : Failures) (nodes : Node
       inl (
         h,
         k,
-        subst (λ z. (numbered_machine graphs fails).Moves z top.frame h k) same_g (subst (λ z. (numbered_machine graphs fails).Moves g z h k) same_f is),
+        subst (λ z. (numbered_machine graphs fails).Moves z top.frame h k) same_g
+            (subst (λ z. (numbered_machine graphs fails).Moves g z h k) same_f is),
         ap (turn.head h k) same_b,
       )
   next_is _ _ (enters g f e w b is) same =
@@ -94,7 +97,8 @@ module _ {A : Type 0} (graphs : List (Graph A)) (fails : Failures) (nodes : Node
       inr (inl (
         e,
         w,
-        subst (λ z. (numbered_machine graphs fails).Calls z top.frame e w) same_g (subst (λ z. (numbered_machine graphs fails).Calls g z e w) same_f is),
+        subst (λ z. (numbered_machine graphs fails).Calls z top.frame e w) same_g
+            (subst (λ z. (numbered_machine graphs fails).Calls g z e w) same_f is),
         inl (ap (λ z. turn.head z e (turn.call z e)) same_g),
       ))
   next_is _ _ (stays g f e w b is) same =
@@ -104,7 +108,8 @@ module _ {A : Type 0} (graphs : List (Graph A)) (fails : Failures) (nodes : Node
       inr (inl (
         e,
         w,
-        subst (λ z. (numbered_machine graphs fails).Calls z top.frame e w) same_g (subst (λ z. (numbered_machine graphs fails).Calls g z e w) same_f is),
+        subst (λ z. (numbered_machine graphs fails).Calls z top.frame e w) same_g
+            (subst (λ z. (numbered_machine graphs fails).Calls g z e w) same_f is),
         inr (λ i. turn.caller (same_g i) e w (same_b i)),
       ))
   next_is _ _ (comes_out g f q w r h k has is) same =

@@ -1,5 +1,6 @@
 -- Items that are worked on one after another: what they lead to is there, and all of them are found.
-use Rattle.std.proofs.Common.{◌≡◌, ◌↔◌, ◌⊎◌, ◌++◌, ◌≤◌, ◌+◌, ℕ, zero, suc, Bool, true, false, true≢false, Some, List, [], ◌∷◌, take, length, slice_get}
+use Rattle.std.proofs.Common.{◌≡◌, ◌↔◌, ◌⊎◌, ◌++◌, ◌≤◌, ◌+◌, ℕ, zero, suc, Bool, true, false, true≢false, Some, List, [], ◌∷◌, take, length}
+use Rattle.std.proofs.Common.{slice_get}
 use Rattle.std.proofs.Common.{inl, inr, refl, sym, ap, ◌∙◌, subst, arith}
 use Rattle.std.proofs.lemmas.Option.{same_Some, none-some}
 use Rattle.language.specs.Lists.{Member}
@@ -73,7 +74,8 @@ as_finished (Gone globals) i g f e same = absurd (true≢false (sym (ap is_top s
 
 -- the caller of a call, as it is kept
 as_caller : (item : Item) (g : ℕ) (e w : NumberedFrame) (b : turn.Below ℕ ℕ NumberedFrame) → item_of item ≡ turn.caller g e w b
-    → (resting : Resting) × (item ≡ caller_item (record { globals = g; frame = e }) resting) × (resting.frame ≡ w) × (below_of resting.below ≡ b)
+    → (resting : Resting) × (item ≡ caller_item (record { globals = g; frame = e }) resting) × (resting.frame ≡ w)
+    × (below_of resting.below ≡ b)
 as_caller (Head top) g e w b same = absurd (true≢false (sym (ap is_waiting same)))
 as_caller (Gone globals) g e w b same = absurd (true≢false (sym (ap is_waiting same)))
 as_caller (Waits caller) g e w b same =
@@ -105,7 +107,8 @@ module _ {A : Type 0} (graphs : List (Graph A)) (fails : Failures) (nodes : Node
 
     module _ (P : Found → Type 0) (closed : IsClosedFor machine nodes done all) (listed : AreListed calls done) (grows : Extends P all more)
         (follow : HaveAll (Follows machine nodes calls item) more) (passes : IsFailing machine item → ⊥) where
-      pairs : (entry : Entry) (one : Finished) (resting : Resting) → Member (finished_item entry one) done ⊎ (finished_item entry one ≡ item)
+      pairs : (entry : Entry) (one : Finished) (resting : Resting)
+          → Member (finished_item entry one) done ⊎ (finished_item entry one ≡ item)
           → Member (caller_item entry resting) done ⊎ (caller_item entry resting ≡ item) → HaveAll (IsReturn machine one resting) more
       pairs entry one resting (inl m) (inl n) x is =
           have_more (IsReturn machine one resting) P all more grows (closed.together entry one resting m n) x is
@@ -146,7 +149,8 @@ module _ {A : Type 0} (graphs : List (Graph A)) (fails : Failures) (nodes : Node
       together _ _ _ (one, m, same) (other, n, same') (returns g e i f w b h k is) =
           let finished = as_finished one i g f e same in
           let (resting, caller, same_w, same_b) = as_caller other g e w b same' in
-          closed.together (record { globals = g; frame = e }) (record { globals = i; frame = f }) resting (subst (λ z. Member z items) finished m)
+          closed.together (record { globals = g; frame = e }) (record { globals = i; frame = f }) resting (subst
+          (λ z. Member z items) finished m)
           (subst (λ z. Member z items) caller n) (turn.head h k b)
           (h, k, subst (λ z. machine.Returns i f z h k) (sym same_w) is, ap (turn.head h k) (sym same_b))
 
@@ -187,7 +191,8 @@ none_closed m nodes items = record {
   passes = λ item none bad. none;
 }
 
-pub none_listed : {A : Type 0} (calls : Calls A) → ((entry : Entry) → callers_of calls entry ≡ []) → ((entry : Entry) → finished_of calls entry ≡ [])
+pub none_listed : {A : Type 0} (calls : Calls A) → ((entry : Entry) → callers_of calls entry ≡ [])
+    → ((entry : Entry) → finished_of calls entry ≡ [])
     → AreListed calls []
 none_listed calls callers finished = record {
   callers = λ entry resting. (λ m. subst (Member resting) (callers entry) m, λ none. absurd none);

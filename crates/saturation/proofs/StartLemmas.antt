@@ -28,7 +28,11 @@ module _ {A : Type 0} (nodes : List (Node A)) (globals number : ℕ) (node : Nod
 
   starts_head : (x : Found) → Starts x → IsHead x ⊎ ((node.bare ≡ true) × (x ≡ turn.gone globals))
   starts_head _ (starts f q has) =
-      inl (record { frame = f; below = q }, subst (λ o. AtNode o (λ n. Member (record { frame = f; below = q }) n.heads.items)) at has, refl)
+      inl (
+        record { frame = f; below = q },
+        subst (λ o. AtNode o (λ n. Member (record { frame = f; below = q }) n.heads.items)) at has,
+        refl,
+      )
   starts_head _ (is_gone bare) = inr (subst (λ o. AtNode o (λ n. n.bare ≡ true)) at bare, refl)
 
   pub all_start : (ys zs : List Item) → HaveAll IsHead ys → Extends (λ x. x ≡ turn.gone globals) ys zs

@@ -14,7 +14,8 @@ use Rattle.turns.specs.declared.numbered_frame.NumberedFrame.{NumberedFrame}
 module _ {A : Type 0} (graphs : List (Graph A)) where
   -- the flow at the point of a frame is determined
   pub same_flow : (f : NumberedFrame) (graph graph' : Graph A) (flow flow' : Flow A) → slice_get graphs f.procedure ≡ Some graph
-      → slice_get (flows_of graph) f.point ≡ Some flow → slice_get graphs f.procedure ≡ Some graph' → slice_get (flows_of graph') f.point ≡ Some flow'
+      → slice_get (flows_of graph) f.point ≡ Some flow → slice_get graphs f.procedure ≡ Some graph'
+      → slice_get (flows_of graph') f.point ≡ Some flow'
       → (graph ≡ graph') × (flow ≡ flow')
   same_flow f graph graph' flow flow' here at here' at' =
       let same : graph ≡ graph' = same_Some graph graph' (sym here ∙ here') in
@@ -65,7 +66,9 @@ module _ {A : Type 0} (graphs : List (Graph A)) where
         let same_back : back_of c ≡ back = ap (λ (z : ℕ × ℕ × ℕ). z.2) parts in
         let same_values : values ≡ resumed_by flow' w.places (left_by own' (valuation_at g f)) =
         (λ i. resumed_by (same_graphs.1 i) w.places (left_by (same_own i) (valuation_at g f))) in
-        ap Some ((λ i. (globals_in (same_graphs.0 i) (same_values i), placed w.procedure (same_back i) (places_in (same_graphs.0 i) (same_values i))))
+        ap Some
+        ((λ i.
+        (globals_in (same_graphs.0 i) (same_values i), placed w.procedure (same_back i) (places_in (same_graphs.0 i) (same_values i))))
         ∙ (λ i. (sym same_h i, sym same_k i)))
 
     after_returned : (h : ℕ) (k : NumberedFrame) → Some after ≡ Some (h, k) → ReturnsTo graphs g f w h k

@@ -29,7 +29,8 @@ module _ {A B : Type 0} (graphs : List (Graph A)) (fails : Failures) (nodes : No
   abbrev Following : Found → Type 0
   Following x = Follows (numbered_machine graphs fails) nodes met (Head top) x
 
-  leaves_follow : top.frame.point ≡ 0 → (b : Below) → top.below ≡ b → (x : Found) → LeavesTo (numbered_machine graphs fails) nodes met b top x
+  leaves_follow : top.frame.point ≡ 0 → (b : Below) → top.below ≡ b → (x : Found)
+      → LeavesTo (numbered_machine graphs fails) nodes met b top x
       → Following x
   leaves_follow exit (Old number) over x is = inl (out_next graphs fails nodes top number over exit x is)
   leaves_follow exit (Call entry) over x is = inr (entry, over, is)
@@ -50,7 +51,8 @@ module _ {A B : Type 0} (graphs : List (Graph A)) (fails : Failures) (nodes : No
       (extends_as Leaving Following (λ x is. leaves_follow exit top.below refl x is) zs us leaves)
 
   -- all that follows has been added
-  pub all_left : (ys zs us : List Item) → HaveAll Move ys → Extends Calling ys zs → HaveAll Calling zs → Extends Leaving zs us → HaveAll Leaving us
+  pub all_left : (ys zs us : List Item) → HaveAll Move ys → Extends Calling ys zs → HaveAll Calling zs → Extends Leaving zs us
+      → HaveAll Leaving us
       → HaveAll Following us
   all_left ys zs us moves calls called leaves left x (inr (entry, over, is)) =
       left x (subst (λ b. LeavesTo (numbered_machine graphs fails) nodes met b top x) (sym over) is)

@@ -31,7 +31,8 @@ IsAmong items x = (item : Item) × Member item items × (item_of item ≡ x)
 abbrev pub Extends : (Found → Type 0) → List Item → List Item → Type 0
 Extends P old new = (more : List Item) × (new ≡ old ++ more) × ((item : Item) → Member item more → P (item_of item))
 
--- The item was not there and is added behind the others, or it was there and they are as they were; the flag says which.
+-- The item was not there and is added behind the others, or it was there and they are as they were; the flag says
+-- which.
 abbrev pub Inserted : Item → Bool → List Item → List Item → Type 0
 Inserted item true old new = new ≡ old ++ item ∷ []
 Inserted item false old new = new ≡ old

@@ -24,10 +24,12 @@ module _ (machine : Machine ℕ NumberedFrame) (nodes : Nodes ℕ NumberedFrame)
   abbrev pub AreFound : ℕ → ℕ → List Item → Type 0
   AreFound globals node items = (item : Item) → Member item items → turn.Found machine nodes globals node (item_of item)
 
-  -- What the items that have been worked on lead to, each by itself and two together, is among all items, and none of them fails.
+  -- What the items that have been worked on lead to, each by itself and two together, is among all items, and none of
+  -- them fails.
   pub record IsClosedFor (done all : List Item) : Type 0 where
     pub next : (item : Item) → Member item done → HaveAll (Next machine nodes (item_of item)) all
-    pub together : (entry : Entry) (one : Finished) (resting : Resting) → Member (finished_item entry one) done → Member (caller_item entry resting) done
+    pub together : (entry : Entry) (one : Finished) (resting : Resting) → Member (finished_item entry one) done
+        → Member (caller_item entry resting) done
         → HaveAll (IsReturn machine one resting) all
     pub passes : (item : Item) → Member item done → IsFailing machine item → ⊥
 

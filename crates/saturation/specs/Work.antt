@@ -27,15 +27,16 @@ finished_in top = record { globals = top.globals; frame = top.frame }
 abbrev pub resting_at : Caller → Resting
 resting_at caller = record { frame = caller.frame; below = caller.below }
 
--- a return of the finished frame to a head of the node leads to this, or this is that the stack is empty, and the node has the
--- empty stack
+-- a return of the finished frame to a head of the node leads to this, or this is that the stack is empty, and the node
+-- has the empty stack
 abbrev pub IsOut : Machine ℕ NumberedFrame → Nodes ℕ NumberedFrame → Top → ℕ → Found → Type 0
 IsOut machine nodes top number x =
     ((w : NumberedFrame) × (r : ℕ) × nodes.Has number w r × IsReturn machine (finished_in top) (record { frame = w; below = Old r }) x)
     ⊎ (nodes.Bare number × (x ≡ turn.gone top.globals))
 
 module _ {Alloc : Type 0} (machine : Machine ℕ NumberedFrame) (nodes : Nodes ℕ NumberedFrame) (calls : Calls Alloc) where
-  -- this follows when the finished frame is left: over a node from before, or over a call, to the callers that were worked on
+  -- this follows when the finished frame is left: over a node from before, or over a call, to the callers that were
+  -- worked on
   abbrev pub LeavesTo : Below → Top → Found → Type 0
   LeavesTo (Old number) top x = IsOut machine nodes top number x
   LeavesTo (Call entry) top x = OfSome (IsReturn machine (finished_in top)) (callers_of calls entry) x

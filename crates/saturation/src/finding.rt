@@ -1,6 +1,7 @@
 //! All that a turn finds.
 
-ghost use Rattle.std.specs.Prelude.{◌≡◌, ◌<◌, ◌≤◌, ◌+◌, ◌↔◌, IfOk, IfSome, IsSome, None, Ok, length};
+ghost use Rattle.std.specs.Prelude.{◌≡◌, ◌<◌, ◌≤◌, ◌+◌, ◌↔◌, IfOk, IfSome, IsSome, None, Ok};
+ghost use Rattle.std.specs.Prelude.{length};
 ghost use Rattle.stack_sets.specs.Nodes.{by_number, nodes_in};
 ghost use Rattle.turns.specs.Turn.{Found as IsFound, SomeHeadFails};
 ghost use Rattle.saturation.specs.Items.{Found, IsAmong};
@@ -15,8 +16,8 @@ use language::Word;
 use stack_sets::{NoTurn, StackSets};
 use std::alloc::Allocator;
 
-/// All that a turn finds from globals and a node of stacks, each once; `None` if a head fails that it finds. Each takes one
-/// from the work that is left; if none is left for one, the error is `Limit`.
+/// All that a turn finds from globals and a node of stacks, each once; `None` if a head fails that it finds. Each takes
+/// one from the work that is left; if none is left for one, the error is `Limit`.
 pub fn find<G: Allocator, A: Allocator + Copy>(
     alloc: A,
     graphs: &Graphs<G>,
@@ -28,11 +29,14 @@ pub fn find<G: Allocator, A: Allocator + Copy>(
 ) -> Result<Option<Items<A>>, NoTurn>
     requires { node < length (nodes_in sets.now) }
     ensures all { IfOk result (λ found. IfSome found (λ items. (x : Found) → IsAmong items.keys x
-        ↔ IsFound (machine_by graphs.now asserts.now) (by_number (nodes_in sets.now)) globals node x)) }
+        ↔ IsFound (machine_by graphs.now asserts.now)
+        (by_number (nodes_in sets.now)) globals node x)) }
     ensures passes { IfOk result (λ found. IsSome found
-        → SomeHeadFails (machine_by graphs.now asserts.now) (by_number (nodes_in sets.now)) globals node → ⊥) }
+        → SomeHeadFails (machine_by graphs.now asserts.now)
+        (by_number (nodes_in sets.now)) globals node → ⊥) }
     ensures fails { result ≡ Ok None
-        → SomeHeadFails (machine_by graphs.now asserts.now) (by_number (nodes_in sets.now)) globals node }
+        → SomeHeadFails (machine_by graphs.now asserts.now)
+        (by_number (nodes_in sets.now)) globals node }
     ensures work { left.new ≤ left.old }
 {
     let mut items = IndexSet::new(alloc);

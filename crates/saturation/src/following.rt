@@ -52,9 +52,11 @@ pub(crate) fn follow_moves<G: Allocator, A: Allocator>(
     top: Top,
 ) -> Result<(), NoTurn>
     ensures all { (fails : Failures)
-        → OnOk result (HaveAll (IsMove (numbered_machine (graphs_of graphs.now) fails) top) items.new.keys) }
+        → OnOk result
+        (HaveAll (IsMove (numbered_machine (graphs_of graphs.now) fails) top) items.new.keys) }
     ensures only { (fails : Failures)
-        → Extends (IsMove (numbered_machine (graphs_of graphs.now) fails) top) items.old.keys items.new.keys }
+        → Extends
+        (IsMove (numbered_machine (graphs_of graphs.now) fails) top) items.old.keys items.new.keys }
     ensures work { left.new + length items.new.keys ≤ left.old + length items.old.keys }
 {
     let Some(graph) = graph_of(graphs, top.frame.procedure) else {
@@ -83,9 +85,11 @@ pub(crate) fn follow_call<G: Allocator, A: Allocator>(
     top: Top,
 ) -> Result<(), NoTurn>
     ensures all { (fails : Failures)
-        → OnOk result (HaveAll (IsCall (numbered_machine (graphs_of graphs.now) fails) top) items.new.keys) }
+        → OnOk result
+        (HaveAll (IsCall (numbered_machine (graphs_of graphs.now) fails) top) items.new.keys) }
     ensures only { (fails : Failures)
-        → Extends (IsCall (numbered_machine (graphs_of graphs.now) fails) top) items.old.keys items.new.keys }
+        → Extends
+        (IsCall (numbered_machine (graphs_of graphs.now) fails) top) items.old.keys items.new.keys }
     ensures work { left.new + length items.new.keys ≤ left.old + length items.old.keys }
 {
     let Some(first) = called(graphs, top.globals, top.frame) else {
@@ -118,9 +122,13 @@ fn reach_resumed<G: Allocator, A: Allocator>(
     caller: Resting,
 ) -> Result<(), NoTurn>
     ensures all { (fails : Failures)
-        → OnOk result (HaveAll (IsReturn (numbered_machine (graphs_of graphs.now) fails) finished caller) items.new.keys) }
+        → OnOk result
+        (HaveAll
+        (IsReturn (numbered_machine (graphs_of graphs.now) fails) finished caller) items.new.keys) }
     ensures only { (fails : Failures)
-        → Extends (IsReturn (numbered_machine (graphs_of graphs.now) fails) finished caller) items.old.keys items.new.keys }
+        → Extends
+        (IsReturn (numbered_machine (graphs_of graphs.now) fails) finished caller) items.old.keys
+        items.new.keys }
     ensures work { left.new + length items.new.keys ≤ left.old + length items.old.keys }
 {
     let Some((globals, frame)) = resumed(graphs, finished.globals, finished.frame, caller.frame)
@@ -158,9 +166,11 @@ pub(crate) fn come_out<G: Allocator, A: Allocator>(
     heads: &[Head],
 ) -> Result<(), NoTurn>
     ensures all { (fails : Failures) → OnOk result (HaveAll (OfSome
-        (λ one. IsReturn (numbered_machine (graphs_of graphs.now) fails) finished (resting_in one)) heads.now) items.new.keys) }
+        (λ one. IsReturn (numbered_machine (graphs_of graphs.now) fails) finished (resting_in one))
+        heads.now) items.new.keys) }
     ensures only { (fails : Failures) → Extends (OfSome
-        (λ one. IsReturn (numbered_machine (graphs_of graphs.now) fails) finished (resting_in one)) heads.now)
+        (λ one. IsReturn (numbered_machine (graphs_of graphs.now) fails) finished (resting_in one))
+        heads.now)
         items.old.keys items.new.keys }
     ensures work { left.new + length items.new.keys ≤ left.old + length items.old.keys }
 {
@@ -179,9 +189,11 @@ pub(crate) fn return_to<G: Allocator, A: Allocator>(
     callers: &[Resting],
 ) -> Result<(), NoTurn>
     ensures all { (fails : Failures) → OnOk result (HaveAll (OfSome
-        (λ caller. IsReturn (numbered_machine (graphs_of graphs.now) fails) finished caller) callers.now) items.new.keys) }
+        (λ caller. IsReturn (numbered_machine (graphs_of graphs.now) fails) finished caller)
+        callers.now) items.new.keys) }
     ensures only { (fails : Failures) → Extends (OfSome
-        (λ caller. IsReturn (numbered_machine (graphs_of graphs.now) fails) finished caller) callers.now)
+        (λ caller. IsReturn (numbered_machine (graphs_of graphs.now) fails) finished caller)
+        callers.now)
         items.old.keys items.new.keys }
     ensures work { left.new + length items.new.keys ≤ left.old + length items.old.keys }
 {
@@ -200,7 +212,8 @@ pub(crate) fn return_of<G: Allocator, A: Allocator>(
     caller: Resting,
 ) -> Result<(), NoTurn>
     ensures all { (fails : Failures) → OnOk result (HaveAll (OfSome
-        (λ one. IsReturn (numbered_machine (graphs_of graphs.now) fails) one caller) finished.now) items.new.keys) }
+        (λ one. IsReturn (numbered_machine (graphs_of graphs.now) fails) one caller) finished.now)
+        items.new.keys) }
     ensures only { (fails : Failures) → Extends (OfSome
         (λ one. IsReturn (numbered_machine (graphs_of graphs.now) fails) one caller) finished.now)
         items.old.keys items.new.keys }

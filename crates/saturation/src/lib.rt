@@ -1,5 +1,5 @@
-//! One turn of a thread, from globals and a set of stacks: what it can end with, found by saturation (post* of Bouajjani,
-//! Esparza and Maler 1997).
+//! One turn of a thread, from globals and a set of stacks: what it can end with, found by saturation (post* of
+//! Bouajjani, Esparza and Maler 1997).
 #![tactic(auto)]
 
 mod calls;

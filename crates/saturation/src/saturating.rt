@@ -1,6 +1,7 @@
 //! All that a turn finds.
 
-ghost use Rattle.std.specs.Prelude.{◌≡◌, ◌<◌, ◌≤◌, ◌+◌, ⊤, false, true, ℕ, Ok, Some, length, slice_get};
+ghost use Rattle.std.specs.Prelude.{◌≡◌, ◌<◌, ◌≤◌, ◌+◌, ⊤, false, true, ℕ, Ok, Some, length};
+ghost use Rattle.std.specs.Prelude.{slice_get};
 ghost use Rattle.saturation.specs.Items.{Extends};
 ghost use Rattle.stack_sets.specs.Nodes.{by_number, nodes_in};
 ghost use Rattle.saturation.specs.Saturation.{AreFound, IsClosed, SomeFails};
@@ -34,12 +35,17 @@ pub(crate) fn saturate<G: Allocator, A: Allocator + Copy>(
     left: &mut u64,
 ) -> Result<bool, NoTurn>
     ensures found { (globals node : ℕ)
-        → AreFound (machine_by graphs.now asserts.now) (by_number (nodes_in sets.now)) globals node items.old.keys
-        → AreFound (machine_by graphs.now asserts.now) (by_number (nodes_in sets.now)) globals node items.new.keys }
-    ensures fails { result ≡ Ok true → SomeFails (machine_by graphs.now asserts.now) items.new.keys }
+        → AreFound (machine_by graphs.now asserts.now)
+        (by_number (nodes_in sets.now)) globals node items.old.keys
+        → AreFound (machine_by graphs.now asserts.now)
+        (by_number (nodes_in sets.now)) globals node items.new.keys }
+    ensures fails { result ≡ Ok true
+        → SomeFails (machine_by graphs.now asserts.now) items.new.keys }
     ensures closed { result ≡ Ok false
-        → IsClosed (machine_by graphs.now asserts.now) (by_number (nodes_in sets.now)) items.new.keys }
-    ensures passes { result ≡ Ok false → SomeFails (machine_by graphs.now asserts.now) items.new.keys → ⊥ }
+        → IsClosed (machine_by graphs.now asserts.now)
+        (by_number (nodes_in sets.now)) items.new.keys }
+    ensures passes { result ≡ Ok false
+        → SomeFails (machine_by graphs.now asserts.now) items.new.keys → ⊥ }
     ensures stays { Extends (λ _. ⊤) items.old.keys items.new.keys }
     ensures work { left.new + length items.new.keys ≤ left.old + length items.old.keys }
 {

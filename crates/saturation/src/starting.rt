@@ -50,8 +50,10 @@ pub(crate) fn start<A: Allocator + Copy>(
     number: usize,
 ) -> Result<(), NoTurn>
     requires { number < length (nodes_in sets.now) }
-    ensures all { OnOk result (HaveAll (First (by_number (nodes_in sets.now)) globals number) items.new.keys) }
-    ensures only { Extends (First (by_number (nodes_in sets.now)) globals number) items.old.keys items.new.keys }
+    ensures all { OnOk result
+        (HaveAll (First (by_number (nodes_in sets.now)) globals number) items.new.keys) }
+    ensures only { Extends
+        (First (by_number (nodes_in sets.now)) globals number) items.old.keys items.new.keys }
     ensures work { left.new + length items.new.keys ≤ left.old + length items.old.keys }
 {
     let node = sets.node(number);

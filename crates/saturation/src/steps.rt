@@ -2,7 +2,8 @@
 
 ghost use Rattle.std.specs.Prelude.{◌≡◌, ◌↔◌, ℕ, None, Some, IfSome, IsNone, slice_get};
 ghost use Rattle.flow_graph.specs.Drawn.{graphs_of, flows_of};
-ghost use Rattle.turns.specs.Numbered.{valuation_at, globals_in, places_in, placed, CallsFrom, ReturnsTo};
+ghost use Rattle.turns.specs.Numbered.{valuation_at, globals_in, places_in, placed, CallsFrom};
+ghost use Rattle.turns.specs.Numbered.{ReturnsTo};
 ghost use Rattle.turns.specs.declared.numbered_frame.NumberedFrame.{NumberedFrame as AFrame};
 
 use flow_graph::{Flow, Graph, Graphs};
@@ -21,7 +22,8 @@ pub(crate) fn valuation(globals: Word, frame: NumberedFrame) -> Word
 /// The graph of a procedure, if there is one.
 #[inline(always)]
 pub(crate) fn graph_of<G: Allocator>(graphs: &Graphs<G>, procedure: u8) -> Option<&Graph<G>>
-    ensures some { IfSome result (λ graph. slice_get (graphs_of graphs.now) procedure ≡ Some graph.now) }
+    ensures some { IfSome result
+        (λ graph. slice_get (graphs_of graphs.now) procedure ≡ Some graph.now) }
     ensures none { IsNone result → slice_get (graphs_of graphs.now) procedure ≡ None }
 {
     if (procedure as usize) < graphs.len() {

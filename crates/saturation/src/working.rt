@@ -33,10 +33,12 @@ fn work_on_caller<G: Allocator, A: Allocator + Copy>(
     caller: Caller,
 ) -> Result<(), NoTurn>
     ensures all { OnOk result (HaveAll
-        (Follows (machine_by graphs.now asserts.now) (by_number (nodes_in sets.now)) calls.old (item.Waits caller))
+        (Follows (machine_by graphs.now asserts.now) (by_number (nodes_in sets.now)) calls.old
+        (item.Waits caller))
         items.new.keys) }
     ensures only { Extends
-        (Follows (machine_by graphs.now asserts.now) (by_number (nodes_in sets.now)) calls.old (item.Waits caller))
+        (Follows (machine_by graphs.now asserts.now) (by_number (nodes_in sets.now)) calls.old
+        (item.Waits caller))
         items.old.keys items.new.keys }
     ensures listed { OnOk result (ListsAlso (item.Waits caller) calls.old calls.new) }
     ensures work { left.new + length items.new.keys ≤ left.old + length items.old.keys }
@@ -68,10 +70,12 @@ fn leave_call<G: Allocator, A: Allocator + Copy>(
     requires over { top.below ≡ below.Call entry }
     requires exit { top.frame.point ≡ 0 }
     ensures all { OnOk result (HaveAll
-        (OfSome (IsReturn (machine_by graphs.now asserts.now) (finished_in top)) (callers_of calls.old entry))
+        (OfSome (IsReturn (machine_by graphs.now asserts.now) (finished_in top))
+        (callers_of calls.old entry))
         items.new.keys) }
     ensures only { Extends
-        (OfSome (IsReturn (machine_by graphs.now asserts.now) (finished_in top)) (callers_of calls.old entry))
+        (OfSome (IsReturn (machine_by graphs.now asserts.now) (finished_in top))
+        (callers_of calls.old entry))
         items.old.keys items.new.keys }
     ensures listed { OnOk result (ListsAlso (item.Head top) calls.old calls.new) }
     ensures work { left.new + length items.new.keys ≤ left.old + length items.old.keys }
@@ -84,8 +88,8 @@ fn leave_call<G: Allocator, A: Allocator + Copy>(
     return_to(graphs, items, left, finished, calls.callers.of(entry))
 }
 
-/// Works on a finished frame over a node from before: adds where its return to the node's heads leads, and the empty stack if it
-/// is in the node.
+/// Works on a finished frame over a node from before: adds where its return to the node's heads leads, and the empty
+/// stack if it is in the node.
 fn leave_node<G: Allocator, A: Allocator + Copy>(
     graphs: &Graphs<G>,
     asserts: &Asserts<G>,
@@ -98,7 +102,8 @@ fn leave_node<G: Allocator, A: Allocator + Copy>(
     requires over { top.below ≡ below.Old number }
     requires exit { top.frame.point ≡ 0 }
     ensures all { OnOk result (HaveAll
-        (IsOut (machine_by graphs.now asserts.now) (by_number (nodes_in sets.now)) top number) items.new.keys) }
+        (IsOut (machine_by graphs.now asserts.now) (by_number (nodes_in sets.now)) top number)
+        items.new.keys) }
     ensures only { Extends
         (IsOut (machine_by graphs.now asserts.now) (by_number (nodes_in sets.now)) top number)
         items.old.keys items.new.keys }
@@ -131,7 +136,8 @@ fn leave<G: Allocator, A: Allocator + Copy>(
 ) -> Result<(), NoTurn>
     requires { top.frame.point ≡ 0 }
     ensures all { OnOk result (HaveAll
-        (Leaves (machine_by graphs.now asserts.now) (by_number (nodes_in sets.now)) calls.old top) items.new.keys) }
+        (Leaves (machine_by graphs.now asserts.now) (by_number (nodes_in sets.now)) calls.old top)
+        items.new.keys) }
     ensures only { Extends
         (Leaves (machine_by graphs.now asserts.now) (by_number (nodes_in sets.now)) calls.old top)
         items.old.keys items.new.keys }
@@ -154,13 +160,17 @@ fn work_on_top<G: Allocator, A: Allocator + Copy>(
     left: &mut u64,
     top: Top,
 ) -> Result<bool, NoTurn>
-    ensures fails { result ≡ Ok true → IsFailing (machine_by graphs.now asserts.now) (item.Head top) }
-    ensures passes { result ≡ Ok false → IsFailing (machine_by graphs.now asserts.now) (item.Head top) → ⊥ }
+    ensures fails { result ≡ Ok true
+        → IsFailing (machine_by graphs.now asserts.now) (item.Head top) }
+    ensures passes { result ≡ Ok false
+        → IsFailing (machine_by graphs.now asserts.now) (item.Head top) → ⊥ }
     ensures all { result ≡ Ok false → HaveAll
-        (Follows (machine_by graphs.now asserts.now) (by_number (nodes_in sets.now)) calls.old (item.Head top))
+        (Follows (machine_by graphs.now asserts.now) (by_number (nodes_in sets.now)) calls.old
+        (item.Head top))
         items.new.keys }
     ensures only { Extends
-        (Follows (machine_by graphs.now asserts.now) (by_number (nodes_in sets.now)) calls.old (item.Head top))
+        (Follows (machine_by graphs.now asserts.now) (by_number (nodes_in sets.now)) calls.old
+        (item.Head top))
         items.old.keys items.new.keys }
     ensures listed { result ≡ Ok false → ListsAlso (item.Head top) calls.old calls.new }
     ensures work { left.new + length items.new.keys ≤ left.old + length items.old.keys }
@@ -193,7 +203,8 @@ pub(crate) fn work_on<G: Allocator, A: Allocator + Copy>(
     ensures fails { result ≡ Ok true → IsFailing (machine_by graphs.now asserts.now) item }
     ensures passes { result ≡ Ok false → IsFailing (machine_by graphs.now asserts.now) item → ⊥ }
     ensures all { result ≡ Ok false → HaveAll
-        (Follows (machine_by graphs.now asserts.now) (by_number (nodes_in sets.now)) calls.old item) items.new.keys }
+        (Follows (machine_by graphs.now asserts.now)
+        (by_number (nodes_in sets.now)) calls.old item) items.new.keys }
     ensures only { Extends
         (Follows (machine_by graphs.now asserts.now) (by_number (nodes_in sets.now)) calls.old item)
         items.old.keys items.new.keys }

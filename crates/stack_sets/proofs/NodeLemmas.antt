@@ -1,5 +1,6 @@
 -- Heads that compare as equal, and nodes that are added.
-use Rattle.std.proofs.Common.{◌≡◌, ◌++◌, Bool, true, ◌&&◌, nat_eq, List, [], ◌∷◌, false, Some, length, slice_get, refl, sym, ap₂, true≢false}
+use Rattle.std.proofs.Common.{◌≡◌, ◌++◌, Bool, true, ◌&&◌, nat_eq, List, [], ◌∷◌, false, Some, length, slice_get, refl, sym, ap₂}
+use Rattle.std.proofs.Common.{true≢false}
 use Rattle.std.specs.Bool.{beq}
 use Rattle.std.specs.Cmp.Lexicographic.{pointwise}
 use Rattle.std.proofs.lemmas.Map.Views.{exact_unsigned_eq}

@@ -9,7 +9,8 @@ use Rattle.stack_sets.specs.declared.node.Node.{Node}
 use Rattle.stack_sets.specs.declared.turn.Turn.{Turn}
 use Rattle.stack_sets.specs.declared.turn.Turn.TheVariants.{Fails, Ends}
 
--- A turn fails if it can fail from some stack of the node. Else its endings are those of all its stacks, in the nodes after it.
+-- A turn fails if it can fail from some stack of the node. Else its endings are those of all its stacks, in the nodes
+-- after it.
 abbrev pub ComesTo : {Alloc : Type 0} → Machine ℕ NumberedFrame → List (Node Alloc) → List (Node Alloc) → ℕ → ℕ → Turn Alloc → Type 0
 ComesTo machine before after globals node Fails = SomeStackFails machine (by_number before) globals node
 ComesTo machine before after globals node (Ends endings) =

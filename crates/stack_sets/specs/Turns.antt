@@ -27,8 +27,8 @@ pub record AreWhole {Alloc : Type 0} (nodes : List (Node Alloc)) : Type 0 where
   pub within : (q : ℕ) (f : NumberedFrame) (r : ℕ) → (by_number nodes).Has q f r → r < length nodes
   pub full : NoneVacant (by_number nodes)
 
--- The endings are those of a turn from these globals and this node: each has only stacks with which the turn can end, and each
--- stack with which it can end is in one with its globals.
+-- The endings are those of a turn from these globals and this node: each has only stacks with which the turn can end,
+-- and each stack with which it can end is in one with its globals.
 pub record AreEndings {Alloc : Type 0} (machine : Machine ℕ NumberedFrame) (before after : List (Node Alloc)) (globals node : ℕ)
     (endings : List Ending) : Type 0 where
   pub only : (h m : ℕ) (stack : List NumberedFrame) → Member (ending h m) endings → InNode (by_number after) m stack

@@ -1,6 +1,6 @@
-//! Sets of stacks, as numbered nodes of a finite automaton that reads a stack from its top (Bouajjani, Esparza and Maler
-//! 1997). A stack is in a node if it is empty and the node is bare, or if its top frame is that of a head of the node and
-//! what lies below it is in the head's node.
+//! Sets of stacks, as numbered nodes of a finite automaton that reads a stack from its top (Bouajjani, Esparza and
+//! Maler 1997). A stack is in a node if it is empty and the node is bare, or if its top frame is that of a head of the
+//! node and what lies below it is in the head's node.
 #![tactic(auto)]
 
 mod laws;

@@ -1,6 +1,7 @@
 //! Kept nodes.
 
-ghost use Rattle.std.specs.Prelude.{◌≡◌, ◌<◌, ◌++◌, ◌∷◌, [], true, IfOk, IfSome, IsTrue, OnErr, OnOk, Some, length};
+ghost use Rattle.std.specs.Prelude.{◌≡◌, ◌<◌, ◌++◌, ◌∷◌, [], true, IfOk, IfSome, IsTrue, OnErr};
+ghost use Rattle.std.specs.Prelude.{OnOk, Some, length};
 ghost use Rattle.std.specs.Prelude.{slice_get};
 ghost use Rattle.stack_sets.specs.Nodes.{HasContent, IsNumbered, IsPrefix, IsSame, MayAdd};
 
@@ -41,7 +42,8 @@ impl<A: Allocator + Copy> StackSets<A> {
 
     /// The node of the empty stack alone.
     pub fn new(alloc: A) -> Result<Self, AllocError>
-        ensures { IfOk result (λ sets. (length (nodes_in sets) ≡ 1) × IsNumbered (nodes_in sets) 0 true []) }
+        ensures { IfOk result
+            (λ sets. (length (nodes_in sets) ≡ 1) × IsNumbered (nodes_in sets) 0 true []) }
     {
         let mut nodes = Vec::new(alloc);
         nodes.push(Node {

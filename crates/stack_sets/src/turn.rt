@@ -46,6 +46,7 @@ pub trait TakesTurns<A: Allocator + Copy> {
         ensures keeps { IsPrefix (nodes_in sets.old) (nodes_in sets.new) }
         ensures whole { IfOk result (λ _. AreWhole (nodes_in sets.new)) }
         ensures comes { IfOk result
-            (ComesTo (machine_by graphs.now asserts.now) (nodes_in sets.old) (nodes_in sets.new) globals node) }
+            (ComesTo (machine_by graphs.now asserts.now) (nodes_in sets.old)
+            (nodes_in sets.new) globals node) }
         ensures work { left.new ≤ left.old };
 }

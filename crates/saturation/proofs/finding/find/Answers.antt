@@ -12,7 +12,9 @@ returns-then-branch-clause-fails g c = λ none.
     let m = machine_by c.args.graphs.now c.args.asserts.now in
     let nodes = by_number (nodes_in c.args.sets.now) in
     let started = starts_found m nodes c.args.globals c.args.node c.start.new.items.keys
-    (subst (λ l. Extends (First nodes c.args.globals c.args.node) l c.start.new.items.keys) c.new-items.ensures.empty c.in_ok-start.ensures.only) in
+    (subst
+    (λ l. Extends (First nodes c.args.globals c.args.node) l c.start.new.items.keys) c.new-items.ensures.empty
+    c.in_ok-start.ensures.only) in
     fails_found m nodes c.args.globals c.args.node c.saturate.new.items.keys
     (c.in_ok-saturate.ensures.found c.args.globals c.args.node started) (c.in_ok-saturate.ensures.fails (ap Ok c.if-branch.true))
 
@@ -21,7 +23,9 @@ returns-clause-all g c =
     let m = machine_by c.args.graphs.now c.args.asserts.now in
     let nodes = by_number (nodes_in c.args.sets.now) in
     let started = starts_found m nodes c.args.globals c.args.node c.start.new.items.keys
-    (subst (λ l. Extends (First nodes c.args.globals c.args.node) l c.start.new.items.keys) c.new-items.ensures.empty c.in_ok-start.ensures.only) in
+    (subst
+    (λ l. Extends (First nodes c.args.globals c.args.node) l c.start.new.items.keys) c.new-items.ensures.empty
+    c.in_ok-start.ensures.only) in
     are_found m nodes c.args.globals c.args.node c.saturate.new.items.keys
     (have_more (First nodes c.args.globals c.args.node) (λ x. Unit {0}) c.start.new.items.keys c.saturate.new.items.keys
     c.in_ok-saturate.ensures.stays c.in_ok-start.ensures.all)
@@ -32,7 +36,9 @@ returns-clause-passes g c = λ some.
     let m = machine_by c.args.graphs.now c.args.asserts.now in
     let nodes = by_number (nodes_in c.args.sets.now) in
     let started = starts_found m nodes c.args.globals c.args.node c.start.new.items.keys
-    (subst (λ l. Extends (First nodes c.args.globals c.args.node) l c.start.new.items.keys) c.new-items.ensures.empty c.in_ok-start.ensures.only) in
+    (subst
+    (λ l. Extends (First nodes c.args.globals c.args.node) l c.start.new.items.keys) c.new-items.ensures.empty
+    c.in_ok-start.ensures.only) in
     none_fails m nodes c.args.globals c.args.node c.saturate.new.items.keys
     (have_more (First nodes c.args.globals c.args.node) (λ x. Unit {0}) c.start.new.items.keys c.saturate.new.items.keys
     c.in_ok-saturate.ensures.stays c.in_ok-start.ensures.all)

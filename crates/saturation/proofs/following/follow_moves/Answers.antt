@@ -33,9 +33,13 @@ returns-then-not-more-clause-all g c = λ fails x move.
     choice_before c.in-Some.graph.now c.args.top c.in-Some-flow_of.flow.now c.valuation-values.result c.choices.choice
     (IsNext c.in-Some.graph.now c.args.top c.choose-next.result.0) c.choices.items.keys c.reach_next.new.items.keys
     (c.choices.invariant.0) c.in_ok-reach_next.ensures.only
-    (subst (λ n. HaveAll (IsNext c.in-Some.graph.now c.args.top n) c.reach_next.new.items.keys) c.choose-next.ensures.next c.in_ok-reach_next.ensures.all)
+    (subst
+    (λ n. HaveAll (IsNext c.in-Some.graph.now c.args.top n) c.reach_next.new.items.keys) c.choose-next.ensures.next
+    c.in_ok-reach_next.ensures.all)
     choice
-    (let least = is_last c.choices.choice (last_of c.in-Some-flow_of.flow.now) c.choose-next.result.1 c.choose-next.ensures.more c.if-not-more.true in
+    (let least =
+    is_last c.choices.choice
+    (last_of c.in-Some-flow_of.flow.now) c.choose-next.result.1 c.choose-next.ensures.more c.if-not-more.true in
     omega (arith, least, most)) x next
 
 pub choices-preserved : goal.choices-preserved
@@ -43,7 +47,9 @@ choices-preserved g c = (
   λ choice before. choice_before c.in-Some.graph.now c.args.top c.in-Some-flow_of.flow.now c.valuation-values.result c.choices.choice
       (IsNext c.in-Some.graph.now c.args.top c.choose-next.result.0) c.choices.items.keys c.reach_next.new.items.keys
       (c.choices.invariant.0) c.in_ok-reach_next.ensures.only
-      (subst (λ n. HaveAll (IsNext c.in-Some.graph.now c.args.top n) c.reach_next.new.items.keys) c.choose-next.ensures.next c.in_ok-reach_next.ensures.all)
+      (subst
+      (λ n. HaveAll (IsNext c.in-Some.graph.now c.args.top n) c.reach_next.new.items.keys) c.choose-next.ensures.next
+      c.in_ok-reach_next.ensures.all)
       choice before,
   λ fails.
       let Move : Found → Type 0 = IsMove (numbered_machine (graphs_of c.args.graphs.now) fails) c.args.top in

@@ -11,6 +11,9 @@ returns-clause-all g c = ok_map c.reach.result (λ added x (point, values, is, s
       _,
       added,
       (λ i. head (c.parts-globals.ensures.globals i) (c.parts-globals.ensures.frame i) c.args.top.below)
-          ∙ ap (λ (z : ℕ × ℕ). head (globals_in c.args.graph.now z.1) (placed c.args.top.frame.procedure z.0 (places_in c.args.graph.now z.1)) c.args.top.below) parts
+          ∙ ap
+          (λ (z : ℕ × ℕ).
+          head (globals_in c.args.graph.now z.1)
+          (placed c.args.top.frame.procedure z.0 (places_in c.args.graph.now z.1)) c.args.top.below) parts
           ∙ sym same,
     )) c.reach.ensures.added

@@ -10,7 +10,8 @@ use Rattle.saturation.specs.Saturation.{IsClosedFor}
 use Rattle.stack_sets.specs.Turns.{machine_by}
 use Rattle.saturation.specs.Work.{Follows}
 use Rattle.saturation.proofs.FollowLemmas.{extends_none, extends_then, member_at}
-use Rattle.saturation.proofs.SaturationLemmas.{closed_more, closed_all, found_more, none_closed, none_listed, take_next, member_take, take_whole}
+use Rattle.saturation.proofs.SaturationLemmas.{closed_more, closed_all, found_more, none_closed, none_listed, take_next, member_take}
+use Rattle.saturation.proofs.SaturationLemmas.{take_whole}
 use Rattle.saturation.proofs.saturating.saturate.Goals as goal
 
 pub items-init : goal.items-init
@@ -49,7 +50,8 @@ returns-clause-passes g c = λ ok (item, n, bad).
     let m = machine_by c.args.graphs.now c.args.asserts.now in
     let nodes = by_number (nodes_in c.args.sets.now) in
     let long : length c.items.items.keys ≤ c.items.at = omega (arith, c.items-test.false, c.len.ensures.len) in
-    (subst (λ l. IsClosedFor m nodes l c.items.items.keys) (take_whole c.items.items.keys c.items.at long) c.items.invariant.0).passes item n bad
+    (subst (λ l. IsClosedFor m nodes l c.items.items.keys) (take_whole c.items.items.keys c.items.at long) c.items.invariant.0).passes item
+    n bad
 
 pub items-preserved : goal.items-preserved
 items-preserved g c =
@@ -64,12 +66,15 @@ items-preserved g c =
     let here = c.item_at-item.ensures in
     let next = take_next all c.in_ok-work_on.ensures.only.0 new c.items.at item here c.in_ok-work_on.ensures.only.1 in (
       subst (λ l. IsClosedFor m nodes l new) (sym next)
-          (closed_more (graphs_of c.args.graphs.now) (fails_at c.args.asserts.now) nodes c.items.calls done all new item (Follows m nodes c.items.calls item) c.items.invariant.0
+          (closed_more (graphs_of c.args.graphs.now) (fails_at c.args.asserts.now) nodes c.items.calls done all new item
+          (Follows m nodes c.items.calls item) c.items.invariant.0
           c.items.invariant.1 c.in_ok-work_on.ensures.only (c.in_ok-work_on.ensures.all passed) (c.in_ok-work_on.ensures.passes passed)),
       subst (AreListed c.work_on.new.calls) (sym next) (c.in_ok-work_on.ensures.listed passed done c.items.invariant.1),
       λ globals node found.
-          found_more (graphs_of c.args.graphs.now) (fails_at c.args.asserts.now) nodes globals node c.items.calls done all new item c.items.invariant.1
-          (member_take all c.items.at) (member_at all c.items.at item here) c.in_ok-work_on.ensures.only (c.items.invariant.2 globals node found),
+          found_more (graphs_of c.args.graphs.now)
+          (fails_at c.args.asserts.now) nodes globals node c.items.calls done all new item c.items.invariant.1
+          (member_take all c.items.at) (member_at all c.items.at item here) c.in_ok-work_on.ensures.only
+          (c.items.invariant.2 globals node found),
       extends_then (λ x. Unit {0}) c.args.items.now.keys all new c.items.invariant.3
           (c.in_ok-work_on.ensures.only.0, c.in_ok-work_on.ensures.only.1, λ item m. tt),
       omega (arith, c.items.invariant.4, c.in_ok-work_on.ensures.work),
@@ -81,19 +86,23 @@ returns-in_err-work_on-clause-found g c = λ globals node found.
     let all = c.items.items.keys in
     found_more (graphs_of c.args.graphs.now) (fails_at c.args.asserts.now) (by_number (nodes_in c.args.sets.now)) globals node c.items.calls
     (take c.items.at all) all c.work_on.new.items.keys c.item_at-item.result c.items.invariant.1 (member_take all c.items.at)
-    (member_at all c.items.at c.item_at-item.result c.item_at-item.ensures) c.in_err-work_on.ensures.only (c.items.invariant.2 globals node found)
+    (member_at all c.items.at c.item_at-item.result c.item_at-item.ensures) c.in_err-work_on.ensures.only
+    (c.items.invariant.2 globals node found)
 
 pub returns-then-branch-clause-found : goal.returns-then-branch-clause-found
 returns-then-branch-clause-found g c = λ globals node found.
     let all = c.items.items.keys in
     found_more (graphs_of c.args.graphs.now) (fails_at c.args.asserts.now) (by_number (nodes_in c.args.sets.now)) globals node c.items.calls
     (take c.items.at all) all c.work_on.new.items.keys c.item_at-item.result c.items.invariant.1 (member_take all c.items.at)
-    (member_at all c.items.at c.item_at-item.result c.item_at-item.ensures) c.in_ok-work_on.ensures.only (c.items.invariant.2 globals node found)
+    (member_at all c.items.at c.item_at-item.result c.item_at-item.ensures) c.in_ok-work_on.ensures.only
+    (c.items.invariant.2 globals node found)
 
 pub returns-then-branch-clause-fails : goal.returns-then-branch-clause-fails
 returns-then-branch-clause-fails g c = λ ok.
     let all = c.items.items.keys in
-    let now = member_left c.item_at-item.result all c.in_ok-work_on.ensures.only.0 (member_at all c.items.at c.item_at-item.result c.item_at-item.ensures) in (
+    let now =
+    member_left c.item_at-item.result all c.in_ok-work_on.ensures.only.0
+    (member_at all c.items.at c.item_at-item.result c.item_at-item.ensures) in (
       c.item_at-item.result,
       subst (Member c.item_at-item.result) (sym c.in_ok-work_on.ensures.only.1) now,
       c.in_ok-work_on.ensures.fails (ap Ok c.if-branch.true),

@@ -16,5 +16,6 @@ returns g c =
     c.parts.ensures.frame
     ∙ (λ i. placed (c.callee-callee.ensures i) (c.start.ensures i)
     (places_in called ((c.entry-entered.ensures ∙ ap (entered_from c.in-Call.call) c.valuation.ensures) i))) in
-    subst (λ z. (e w : NumberedFrame) → CallsFrom graphs c.args.globals c.args.frame e w ↔ ((Some z ≡ Some e) × (w ≡ c.args.frame))) (sym same)
+    subst (λ z. (e w : NumberedFrame) → CallsFrom graphs c.args.globals c.args.frame e w ↔ ((Some z ≡ Some e) × (w ≡ c.args.frame)))
+    (sym same)
     (called_is graphs c.args.globals c.args.frame graph called c.in-Call.call c.in_ok-graph.ensures.some at there)

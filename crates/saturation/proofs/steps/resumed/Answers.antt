@@ -19,6 +19,7 @@ returns g c =
     ≡ after graphs c.args.globals c.args.frame c.args.below own graph c.in-Call.call finished c.in_ok-own.ensures.some c.in_ok-graph.ensures.some at =
     (λ i. (c.parts.ensures.globals i, c.parts.ensures.frame i))
     ∙ (λ i. (globals_in graph (values i), placed c.args.below.procedure (c.back.ensures i) (places_in graph (values i)))) in
-    subst (λ z. (h : ℕ) (k : NumberedFrame) → ReturnsTo graphs c.args.globals c.args.frame c.args.below h k ↔ (Some z ≡ Some (h, k))) (sym same)
+    subst (λ z. (h : ℕ) (k : NumberedFrame) → ReturnsTo graphs c.args.globals c.args.frame c.args.below h k ↔ (Some z ≡ Some (h, k)))
+    (sym same)
     (returned_is graphs c.args.globals c.args.frame c.args.below own graph c.in-Call.call finished c.in_ok-own.ensures.some
     c.in_ok-graph.ensures.some at)

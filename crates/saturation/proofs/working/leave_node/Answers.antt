@@ -15,7 +15,10 @@ returns-in_err-come_out-clause-only g c =
     let nodes = nodes_in c.args.sets.now in
     extends_as _ (IsOut machine (by_number nodes) c.args.top c.args.number)
     (returned_out machine nodes c.args.top c.args.number c.node-node.result.now c.node-node.ensures) _ _
-    (subst (λ hs. Extends (OfSome (λ one. IsReturn machine (finished_in c.args.top) (resting_in one)) hs) c.args.items.now.keys c.come_out.new.items.keys)
+    (subst
+    (λ hs.
+    Extends
+    (OfSome (λ one. IsReturn machine (finished_in c.args.top) (resting_in one)) hs) c.args.items.now.keys c.come_out.new.items.keys)
     c.as_slice.ensures.value (c.in_err-come_out.ensures.only (fails_at c.args.asserts.now)))
 
 pub returns-else-node-clause-only : goal.returns-else-node-clause-only
@@ -24,7 +27,10 @@ returns-else-node-clause-only g c =
     let nodes = nodes_in c.args.sets.now in
     extends_as _ (IsOut machine (by_number nodes) c.args.top c.args.number)
     (returned_out machine nodes c.args.top c.args.number c.node-node.result.now c.node-node.ensures) _ _
-    (subst (λ hs. Extends (OfSome (λ one. IsReturn machine (finished_in c.args.top) (resting_in one)) hs) c.args.items.now.keys c.come_out.new.items.keys)
+    (subst
+    (λ hs.
+    Extends
+    (OfSome (λ one. IsReturn machine (finished_in c.args.top) (resting_in one)) hs) c.args.items.now.keys c.come_out.new.items.keys)
     c.as_slice.ensures.value (c.in_ok-come_out.ensures.only (fails_at c.args.asserts.now)))
 
 pub returns-else-node-clause-all : goal.returns-else-node-clause-all
@@ -51,7 +57,10 @@ returns-in_ok-reach-clause-only g c =
     let Out : Found → Type 0 = IsOut machine (by_number nodes) c.args.top c.args.number in
     extends_then Out _ _ _
     (extends_as _ Out (returned_out machine nodes c.args.top c.args.number c.node-node.result.now c.node-node.ensures) _ _
-    (subst (λ hs. Extends (OfSome (λ one. IsReturn machine (finished_in c.args.top) (resting_in one)) hs) c.args.items.now.keys c.come_out.new.items.keys)
+    (subst
+    (λ hs.
+    Extends
+    (OfSome (λ one. IsReturn machine (finished_in c.args.top) (resting_in one)) hs) c.args.items.now.keys c.come_out.new.items.keys)
     c.as_slice.ensures.value (c.in_ok-come_out.ensures.only (fails_at c.args.asserts.now))))
     (extends_as _ Out (gone_out machine nodes c.args.top c.args.number c.node-node.result.now c.node-node.ensures c.if-node.true) _ _
     c.in_ok-reach.ensures.grows)
@@ -63,7 +72,10 @@ returns-in_err-reach-clause-only g c =
     let Out : Found → Type 0 = IsOut machine (by_number nodes) c.args.top c.args.number in
     extends_then Out _ _ _
     (extends_as _ Out (returned_out machine nodes c.args.top c.args.number c.node-node.result.now c.node-node.ensures) _ _
-    (subst (λ hs. Extends (OfSome (λ one. IsReturn machine (finished_in c.args.top) (resting_in one)) hs) c.args.items.now.keys c.come_out.new.items.keys)
+    (subst
+    (λ hs.
+    Extends
+    (OfSome (λ one. IsReturn machine (finished_in c.args.top) (resting_in one)) hs) c.args.items.now.keys c.come_out.new.items.keys)
     c.as_slice.ensures.value (c.in_ok-come_out.ensures.only (fails_at c.args.asserts.now))))
     (extends_as _ Out (gone_out machine nodes c.args.top c.args.number c.node-node.result.now c.node-node.ensures c.if-node.true) _ _
     c.in_err-reach.ensures.grows)

@@ -11,7 +11,8 @@ use Rattle.saturation.proofs.working.work_on_caller.Goals as goal
 pub returns-clause-all : goal.returns-clause-all
 returns-clause-all g c =
     subst (λ all. OnOk c.return_of.result (HaveAll
-    (OfSome (λ one. IsReturn (machine_by c.args.graphs.now c.args.asserts.now) one (resting_at c.args.caller)) all) c.return_of.new.items.keys))
+    (OfSome (λ one. IsReturn (machine_by c.args.graphs.now c.args.asserts.now) one (resting_at c.args.caller)) all)
+    c.return_of.new.items.keys))
     c.of.ensures (c.return_of.ensures.all (fails_at c.args.asserts.now))
 
 pub returns-clause-only : goal.returns-clause-only
@@ -21,4 +22,5 @@ returns-clause-only g c =
 
 pub returns-clause-listed : goal.returns-clause-listed
 returns-clause-listed g c =
-    at_ok c.return_of.result (lists_caller c.args.calls.now _ c.args.caller c.in_ok-add.ensures.added c.in_ok-add.ensures.others (λ k. refl))
+    at_ok c.return_of.result
+    (lists_caller c.args.calls.now _ c.args.caller c.in_ok-add.ensures.added c.in_ok-add.ensures.others (λ k. refl))

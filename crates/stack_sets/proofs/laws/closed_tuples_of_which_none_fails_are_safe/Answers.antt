@@ -5,4 +5,6 @@ use Rattle.stack_sets.specs.Nodes.{by_number}
 use Rattle.stack_sets.proofs.laws.closed_tuples_of_which_none_fails_are_safe.Goals as goal
 
 pub returns : goal.returns
-returns g c = λ graphs fails threads nodes tuples k closed never. closed_safe (numbered_threads graphs fails threads) (by_number nodes) (met_by tuples) k closed never
+returns g c =
+    λ graphs fails threads nodes tuples k closed never.
+    closed_safe (numbered_threads graphs fails threads) (by_number nodes) (met_by tuples) k closed never
