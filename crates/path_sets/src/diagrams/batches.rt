@@ -20,7 +20,7 @@ use std::alloc::{AllocError, Allocator};
 const WAITING_PER_MERGED: usize = 64;
 
 /// The least limit on the number of masks that wait.
-const MIN_WAITING: usize = 4_096;
+const MIN_WAITING: usize = 5_000;
 
 /// The greatest limit on the number of masks that wait.
 const MAX_WAITING: usize = 1_048_576;
