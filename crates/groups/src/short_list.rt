@@ -4,8 +4,9 @@ ghost use Rattle.std.specs.Prelude.{◌≡◌, [], ◌∷◌, ◌++◌, OnOk, On
 
 use std::alloc::{AllocError, Allocator};
 
-/// Appends a value. A list that is full grows by half and two, and not to twice its length: there are many short ones, which would
-/// stay half empty, but a list of a few values is not to grow for each. If memory is refused, the list has the same values.
+/// Appends a value. A list that is full grows by half and two, and not to twice its length: there are many short ones,
+/// which would stay half empty, but a list of a few values is not to grow for each. If memory is refused, the list has
+/// the same values.
 #[inline(always)]
 pub(crate) fn append<T: Copy, A: Allocator>(
     list: &mut Vec<T, A>,

@@ -14,7 +14,8 @@ use std::alloc::Allocator;
 /// A program is unsafe within k rounds if and only if a turn below round k fails of its threads by numbers, as its flow
 /// graphs have them.
 pub fn a_program_is_unsafe_where_a_turn_by_numbers_fails<A: Allocator>()
-    ensures { (p : Program) (graphs : List (Graph A)) (fails : Failures) (k : ℕ) → AreDrawnFrom p graphs
+    ensures { (p : Program) (graphs : List (Graph A)) (fails : Failures) (k : ℕ)
+        → AreDrawnFrom p graphs
         → AreNarrow p → TellFailures p fails
         → Unsafe p k ↔ FailsBelow (numbered_threads graphs fails p.threads) k }
 {}
