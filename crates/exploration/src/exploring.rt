@@ -7,6 +7,7 @@ ghost use Rattle.exploration.specs.Reports.{CountsSearch, IsCause, IsReport, IsS
 ghost use Rattle.exploration.specs.Searched.{threads_by};
 ghost use Rattle.language.specs.Resolve.{meaning_of};
 ghost use Rattle.language.specs.Rounds.{Unsafe};
+ghost use Rattle.resolved.specs.Narrow.{AllNarrow};
 ghost use Rattle.turns.specs.Between.{FailsBelow};
 
 use crate::limits::{Rounds, WorkLimit};
@@ -94,6 +95,8 @@ pub fn explore<T: TakesTurns<A>, N: Allocator, A: Allocator + Copy>(
     // which one does; where it is settled, no run of any number of rounds fails.
     ensures report { IfOk result
         (IsReport (Unsafe (meaning_of (checked_tree program.now))) rounds) }
+    // There is an answer only if no procedure is too wide.
+    ensures narrow { IfOk result (λ _. AllNarrow (checked_tree program.now)) }
     // The cause is that some procedure is too wide, that memory was refused, or the limit; then no run of the number of
     // rounds that it says fails.
     ensures cause { IfErr result (IsCause (checked_tree program.now)) }

@@ -193,7 +193,7 @@ fn too_deep<A: Allocator>(
 }
 
 /// Writes why a text is not read.
-fn unread<A: Allocator>(
+pub fn unread<A: Allocator>(
     alloc: A,
     message: &mut String<A>,
     path: &str,
@@ -242,7 +242,7 @@ fn located<A: Allocator + Copy>(
 }
 
 /// Writes why a program is not checked.
-fn unchecked<A: Allocator + Copy>(
+pub fn unchecked<A: Allocator + Copy>(
     alloc: A,
     message: &mut String<A>,
     path: &str,

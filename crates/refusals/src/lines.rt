@@ -67,7 +67,7 @@ fn located<A: Allocator>(
 }
 
 /// The line of a text that is not read. Only a line with an offset takes memory.
-fn unread<A: Allocator>(alloc: A, fault: &ReadFault) -> Result<CowSlice<'static, u8, A>, AllocError>
+pub fn unread_line<A: Allocator>(alloc: A, fault: &ReadFault) -> Result<CowSlice<'static, u8, A>, AllocError>
     ensures line { IfOk result (λ line. cow_slice_items line ≡ unread_line fault.now) }
     ensures memory { IfErr result (λ _. NamesOffset (why.Unread fault.now)) }
 {
@@ -81,7 +81,7 @@ fn unread<A: Allocator>(alloc: A, fault: &ReadFault) -> Result<CowSlice<'static,
 }
 
 /// The line of a text that has a fault of scopes. It takes memory, unless the fault is that memory ran out.
-fn unchecked<A: Allocator>(
+pub fn unchecked_line<A: Allocator>(
     alloc: A,
     fault: &ScopeFault,
 ) -> Result<CowSlice<'static, u8, A>, AllocError>
@@ -109,8 +109,8 @@ pub fn line<A: Allocator>(
     ensures memory { IfErr result (λ _. NamesOffset refusal.now) }
 {
     match refusal {
-        Refusal::Unread(fault) => unread(alloc, fault),
-        Refusal::Unchecked(fault) => unchecked(alloc, fault),
+        Refusal::Unread(fault) => unread_line(alloc, fault),
+        Refusal::Unchecked(fault) => unchecked_line(alloc, fault),
         Refusal::TooWide(_) => Ok(fixed(TOO_WIDE)),
         Refusal::EdgeLimit(_) => Ok(fixed(EDGE_LIMIT)),
         Refusal::Memory => Ok(fixed(MEMORY_LINE)),

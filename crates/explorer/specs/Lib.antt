@@ -1,0 +1,4 @@
+pub mod Refused
+pub mod Lines
+pub mod Explained
+pub mod Replies

@@ -1,0 +1,45 @@
+-- What a reply says about a text.
+use Rattle.std.specs.Prelude.{◌≡◌, ◌⊎◌, ◌++◌, ℕ, List, None, Some}
+use Rattle.std.specs.Cow.{cow_slice_items}
+use Rattle.language.specs.Tree.{Tree}
+use Rattle.language.specs.Resolve.{meaning_of}
+use Rattle.language.specs.Rounds as runs
+use Rattle.resolved.specs.Narrow.{AllNarrow}
+use Rattle.exploration.specs.Reports.{IsReport}
+use Rattle.exploration.specs.declared.report.Report.{Report}
+use Rattle.explorer.specs.Lines.{NamesOffset, answer_line, answer_status, line_behind, line_of, status_of}
+use Rattle.explorer.specs.Refused.{IsProgramOf, RefusalStands}
+use Rattle.explorer.specs.declared.order.Order.{Order}
+use Rattle.explorer.specs.declared.refusal.Refusal.{Refusal}
+use Rattle.explorer.specs.declared.refusal.Refusal.TheVariants.{Memory}
+use Rattle.explorer.specs.declared.reply.Reply.{Reply}
+
+-- what a reply writes
+abbrev pub bytes_of : {A : Type 0} → Reply A → List ℕ
+bytes_of reply = cow_slice_items reply.bytes
+
+-- The text is that of a checked program whose procedures have at most 128 places each, of which this report is right for the rounds asked for: it says `Unsafe` if and
+-- only if some run of them fails an assert.
+pub record Reports (text : List ℕ) (order : Order) (report : Report) : Type 0 where
+  pub tree : Tree
+  pub of : IsProgramOf text tree
+  pub narrow : AllNarrow tree
+  pub right : IsReport (runs.Unsafe (meaning_of tree)) order.rounds report
+
+-- The reply with a status of at most 1 has the answer of a report that is right, and then what is asked for.
+abbrev pub Replies : List ℕ → Order → List ℕ → ℕ → Type 0
+Replies text order bytes status =
+    (report : Report) × Reports text order report × (bytes ≡ answer_line report.answer ++ line_behind order.stats report)
+    × (status ≡ answer_status report.answer)
+
+-- The reply reports this refusal, and is its line with its status.
+abbrev pub TellsRefusal : {A : Type 0} → Refusal → Reply A → Type 0
+TellsRefusal why reply = (bytes_of reply ≡ line_of why) × (reply.status ≡ status_of why) × (reply.refusal ≡ Some why)
+
+-- The reply reports this refusal; or its line names an offset, and the reply says that memory ran out for it.
+abbrev pub TellsOrLacks : {A : Type 0} → Refusal → Reply A → Type 0
+TellsOrLacks why reply = TellsRefusal why reply ⊎ (NamesOffset why × TellsRefusal Memory reply)
+
+-- Some refusal stands, and the reply reports it, and is its line with its status.
+abbrev pub Refuses : {A : Type 0} → List ℕ → Reply A → Type 0
+Refuses text reply = (why : Refusal) × RefusalStands text why × TellsRefusal why reply
