@@ -1,0 +1,5 @@
+pub mod PlaceLemmas
+pub mod PartLemmas
+pub mod HoldLemmas
+pub mod NamedLemmas
+pub mod ListLemmas
