@@ -1,9 +1,7 @@
 -- The nodes of a turn's sets have what was found, also when a set or an item is added.
-use Rattle.std.proofs.Common.{◌≡◌, ◌⊎◌, ◌<◌, ◌+◌, ◌++◌, ℕ, zero, suc, List, [], ◌∷◌, true, false, Some, slice_get, length, inl, inr, refl}
+use Rattle.std.proofs.Common.{◌≡◌, ◌⊎◌, ◌++◌, ℕ, List, [], ◌∷◌, true, false, Some, slice_get, inl, inr, refl}
 use Rattle.std.specs.Prelude.{slice_set}
-use Rattle.std.proofs.Common.{sym, ap, ◌∙◌, subst, arith, true≢false}
-use Rattle.std.proofs.lemmas.List.{length-append}
-use Rattle.std.proofs.lemmas.Option.{same_Some, slice_get_within}
+use Rattle.std.proofs.Common.{sym, ap, ◌∙◌, subst, true≢false}
 use Rattle.language.specs.Lists.{Member}
 use Rattle.language.proofs.Members.{member_append, member_left, member_right}
 use Rattle.turns.specs.Turn as turn
@@ -11,15 +9,12 @@ use Rattle.turns.specs.declared.numbered_frame.NumberedFrame.{NumberedFrame}
 use Rattle.stack_sets.specs.Nodes.{AtNode, by_number, head_over}
 use Rattle.stack_sets.specs.declared.node.Head.{Head}
 use Rattle.stack_sets.specs.declared.node.Node.{Node}
-use Rattle.saturation.specs.Items.{Found, IsAmong, below_of, item_of}
-use Rattle.saturation.specs.declared.item.Below.{Below}
-use Rattle.saturation.specs.declared.item.Below.TheVariants as below
+use Rattle.saturation.specs.Items.{Found, IsAmong, item_of}
 use Rattle.saturation.specs.declared.item.Item.{Item}
-use Rattle.naming.specs.declared.named.Named.{Named}
 use Rattle.naming.specs.declared.part.Part.{Part}
 use Rattle.naming.specs.declared.part.Part.TheVariants.{Call, Ending}
-use Rattle.naming.specs.Names.{put, HasName, IsLevel, Stays, AddsPart, AddsBelow, IsPut, IsBared}
-use Rattle.naming.specs.Holds.{HasEnding, Holds, HaveSome, HoldsFor}
+use Rattle.naming.specs.Names.{put, HasName, IsPut, IsBared}
+use Rattle.naming.specs.Holds.{HasEnding, Holds}
 use Rattle.naming.proofs.PlaceLemmas.{get_left, get_last, get_member, set_here, at_is, is_at, at_left, at_last, set_at, at_set}
 use Rattle.naming.proofs.PartLemmas.{put_same, put_gone}
 

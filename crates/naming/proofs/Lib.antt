@@ -3,3 +3,4 @@ pub mod PartLemmas
 pub mod HoldLemmas
 pub mod NamedLemmas
 pub mod ListLemmas
+pub mod TurnLemmas

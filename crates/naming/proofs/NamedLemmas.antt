@@ -1,10 +1,9 @@
 -- A turn's sets of stacks when what was found is put into them.
-use Rattle.std.proofs.Common.{◌≡◌, ◌⊎◌, ◌<◌, ◌+◌, ◌++◌, ℕ, List, [], ◌∷◌, Some, slice_get, length, inl, inr, refl, sym, ap, ◌∙◌}
+use Rattle.std.proofs.Common.{◌≡◌, ◌<◌, ◌+◌, ◌++◌, ℕ, List, [], ◌∷◌, Some, slice_get, length, inl, inr, refl, sym, ap, ◌∙◌}
 use Rattle.std.proofs.Common.{subst, arith}
 use Rattle.std.proofs.Math.ListN.{length-set}
 use Rattle.std.proofs.lemmas.List.{length-append}
 use Rattle.std.proofs.lemmas.Option.{slice_get_within, none-some}
-use Rattle.language.specs.Lists.{Member}
 use Rattle.turns.specs.Turn as turn
 use Rattle.turns.specs.declared.numbered_frame.NumberedFrame.{NumberedFrame}
 use Rattle.stack_sets.specs.Nodes.{head_over}
@@ -18,7 +17,7 @@ use Rattle.saturation.specs.declared.item.Item.TheVariants.{Gone}
 use Rattle.naming.specs.declared.named.Named.{Named}
 use Rattle.naming.specs.declared.part.Part.{Part}
 use Rattle.naming.specs.declared.part.Part.TheVariants.{Call, Ending}
-use Rattle.naming.specs.Names.{put, HasName, IsLevel, Stays, AddsPart, AddsBelow, IsPut, IsBared}
+use Rattle.naming.specs.Names.{put, HasName, IsLevel, AddsPart, AddsBelow, IsPut, IsBared}
 use Rattle.naming.specs.Holds.{HasEnding, Holds, HaveSome, HoldsFor}
 use Rattle.naming.proofs.PlaceLemmas.{get_last}
 use Rattle.naming.proofs.HoldLemmas.{Plus, among_last, among_more, among_split, ending_as, name_more, holds_as, add_holds, put_holds}

@@ -1,5 +1,5 @@
 -- Sets that compare as equal are the same, and so are what is put over them.
-use Rattle.std.proofs.Common.{◌≡◌, ◌⊎◌, ◌++◌, ℕ, Bool, true, false, nat_eq, List, [], ◌∷◌, Some, slice_get, inl, inr, refl, sym, ap, subst, true≢false}
+use Rattle.std.proofs.Common.{◌≡◌, ◌++◌, ℕ, Bool, true, false, List, [], ◌∷◌, inl, inr, refl, sym, ap, subst, true≢false}
 use Rattle.std.proofs.Common.{◌&&◌, ◌||◌, ◌∙◌, ap₂, eq-eqb}
 use Rattle.std.specs.Prelude.{if◌then◌else◌}
 use Rattle.std.specs.List.{list_any}
@@ -7,8 +7,6 @@ use Rattle.std.proofs.lemmas.Map.Views.{exact_unsigned_eq}
 use Rattle.language.specs.Lists.{Member}
 use Rattle.turns.specs.Turn as turn
 use Rattle.turns.specs.declared.numbered_frame.NumberedFrame.{NumberedFrame}
-use Rattle.saturation.specs.Items.{Found}
-use Rattle.saturation.specs.declared.item.Entry.{Entry}
 use Rattle.stack_sets.proofs.NodeLemmas.{frame_eq}
 use Rattle.saturation.proofs.ItemLemmas.{same_entry}
 use Rattle.naming.specs.contracts.part.PartPartialEq.TheImpl as derived

@@ -66,6 +66,13 @@ module _ {Alloc : Type 0} (P : Node Alloc → Type 0) where
       let e : suc (length xs) + i ≡ suc (length xs + i) = omega arith in
       right_at xs ys i (subst (λ k. AtNode (slice_get (x ∷ (xs ++ ys)) k) P) e at)
 
+  -- one of either list
+  pub at_either : (xs ys : List (Node Alloc)) (n : ℕ) → AtNode (slice_get (xs ++ ys) n) P
+      → AtNode (slice_get xs n) P ⊎ ((i : ℕ) × AtNode (slice_get ys i) P)
+  at_either [] ys n at = inr (n, at)
+  at_either (x ∷ xs) ys zero at = inl at
+  at_either (x ∷ xs) ys (suc n) at = at_either xs ys n at
+
   pub at_last : (xs : List (Node Alloc)) (y : Node Alloc) (i : ℕ) → AtNode (slice_get (xs ++ y ∷ []) i) P → AtNode (slice_get xs i) P ⊎ P y
   at_last [] y zero at = inr at
   at_last [] y (suc i) at = absurd at

@@ -2,7 +2,6 @@ use Rattle.std.proofs.Common.{sym, subst}
 use Rattle.std.proofs.lemmas.List.{take_all}
 use Rattle.naming.specs.Holds.{HoldsFor}
 use Rattle.naming.proofs.ListLemmas.{take_one}
-use Rattle.naming.proofs.NamedLemmas.{none_done}
 use Rattle.naming.proofs.named.name_all.Goals as goal
 
 pub loop-item-preserved : goal.loop-item-preserved
