@@ -1,6 +1,7 @@
 -- The endings of sets, and items that are taken one after another.
 use Rattle.std.proofs.Common.{◌≡◌, ◌⊎◌, ◌<◌, ◌+◌, ◌++◌, ℕ, zero, suc, List, [], ◌∷◌, Some, get_or, take, length, inl, inr}
 use Rattle.std.proofs.Common.{refl, sym, ap, ap₂, ◌∙◌, subst, arith}
+use Rattle.std.proofs.lemmas.List.{length-append}
 use Rattle.language.specs.Lists.{Member}
 use Rattle.language.proofs.Members.{member_append, member_left, member_right}
 use Rattle.stack_sets.specs.Turns.{ending}
@@ -8,7 +9,7 @@ use Rattle.stack_sets.specs.declared.turn.Ending as sets
 use Rattle.stack_sets.proofs.NodeLemmas.{last_is}
 use Rattle.naming.specs.declared.part.Part.{Part}
 use Rattle.naming.specs.declared.part.Part.TheVariants.{Call, Ending}
-use Rattle.naming.specs.Names.{IsAt, AreListed, IsListed}
+use Rattle.naming.specs.Names.{IsAt, AreListed, IsListed, endings_in}
 use Rattle.naming.proofs.PlaceLemmas.{get_left, get_last}
 
 module _ {A : Type 0} where
@@ -73,3 +74,23 @@ listed_more base parts i d old new small all is =
     let len : i ≡ length (take i parts) = sym (length_taken parts i small) in
     subst (λ l. AreListed base l new) (sym (take_one parts i d small))
     (listed base (take i parts) (get_or parts i d) old new all (subst (λ n. IsListed base n (get_or parts i d) old new) len is))
+
+-- ---- how many endings there are
+
+pub endings_append : (xs ys : List Part) → endings_in (xs ++ ys) ≡ endings_in xs + endings_in ys
+endings_append [] ys = omega arith
+endings_append (Call entry ∷ xs) ys = endings_append xs ys
+endings_append (Ending g ∷ xs) ys = let rest = endings_append xs ys in omega (arith, rest)
+
+listed_count : (base i : ℕ) (part : Part) (old new : List sets.Ending) → IsListed base i part old new
+    → length new ≡ length old + endings_in (part ∷ [])
+listed_count base i (Call entry) old new is = let e = ap length is in omega (arith, e)
+listed_count base i (Ending g) old new is = let e = ap length is ∙ length-append old (ending g (base + i) ∷ []) in omega (arith, e)
+
+pub count_more : (base : ℕ) (parts : List Part) (i : ℕ) (d : Part) (old new : List sets.Ending) → i < length parts
+    → length old ≡ endings_in (take i parts) → IsListed base i (get_or parts i d) old new
+    → length new ≡ endings_in (take (i + 1) parts)
+count_more base parts i d old new small count is =
+    let here = listed_count base i (get_or parts i d) old new is in
+    let next = ap endings_in (take_one parts i d small) ∙ endings_append (take i parts) (get_or parts i d ∷ []) in
+    omega (arith, here, next, count)

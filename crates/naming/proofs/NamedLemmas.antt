@@ -1,5 +1,5 @@
 -- A turn's sets of stacks when what was found is put into them.
-use Rattle.std.proofs.Common.{◌≡◌, ◌<◌, ◌+◌, ◌++◌, ℕ, List, [], ◌∷◌, Some, slice_get, length, inl, inr, refl, sym, ap, ◌∙◌}
+use Rattle.std.proofs.Common.{◌≡◌, ◌<◌, ◌≤◌, ◌+◌, ◌++◌, ℕ, List, [], ◌∷◌, Some, slice_get, length, inl, inr, refl, sym, ap, ◌∙◌}
 use Rattle.std.proofs.Common.{subst, arith}
 use Rattle.std.proofs.Math.ListN.{length-set}
 use Rattle.std.proofs.lemmas.List.{length-append}
@@ -17,8 +17,9 @@ use Rattle.saturation.specs.declared.item.Item.TheVariants.{Gone}
 use Rattle.naming.specs.declared.named.Named.{Named}
 use Rattle.naming.specs.declared.part.Part.{Part}
 use Rattle.naming.specs.declared.part.Part.TheVariants.{Call, Ending}
-use Rattle.naming.specs.Names.{put, HasName, IsLevel, AddsPart, AddsBelow, IsPut, IsBared}
+use Rattle.naming.specs.Names.{put, HasName, IsLevel, AddsPart, AddsBelow, IsPut, IsBared, endings_in}
 use Rattle.naming.specs.Holds.{HasEnding, Holds, HaveSome, HoldsFor}
+use Rattle.naming.proofs.ListLemmas.{endings_append}
 use Rattle.naming.proofs.PlaceLemmas.{get_last}
 use Rattle.naming.proofs.HoldLemmas.{Plus, among_last, among_more, among_split, ending_as, name_more, holds_as, add_holds, put_holds}
 use Rattle.naming.proofs.HoldLemmas.{empty_holds}
@@ -26,6 +27,10 @@ use Rattle.naming.proofs.HoldLemmas.{empty_holds}
 ending_more : (done : List Item) (item : Item) (g : ℕ) → HasEnding (IsAmong done) g → HasEnding (IsAmong (done ++ item ∷ [])) g
 ending_more done item g has =
     ending_as (IsAmong done) (IsAmong (done ++ item ∷ [])) (λ x is. among_more done item x (inl is)) g has
+
+one_ending : (part : Part) → endings_in (part ∷ []) ≤ 1
+one_ending (Call entry) = omega arith
+one_ending (Ending g) = omega arith
 
 module _ {Alloc : Type 0} where
   -- ---- a set more
@@ -40,6 +45,23 @@ module _ {Alloc : Type 0} where
   pub below_level : (b : Below) (old new : Named Alloc) → AddsBelow b old new → IsLevel old → IsLevel new
   below_level (below.Old q) old new stays level = adds_level (Ending 0) old new (inl stays) level
   below_level (below.Call entry) old new adds level = adds_level (Call entry) old new adds level
+
+  -- a set is one ending more, or none
+  adds_endings : (part : Part) (old new : Named Alloc) → AddsPart part old new
+      → endings_in new.parts.keys ≤ endings_in old.parts.keys + endings_in (part ∷ [])
+  adds_endings part old new (inl (parts, nodes)) = let e = ap endings_in parts in omega (arith, e)
+  adds_endings part old new (inr (absent, parts, node, bare, none, nodes)) =
+      let e = ap endings_in parts ∙ endings_append old.parts.keys (part ∷ []) in
+      omega (arith, e)
+
+  pub adds_few : (part : Part) (old new : Named Alloc) → AddsPart part old new
+      → endings_in new.parts.keys ≤ endings_in old.parts.keys + 1
+  adds_few part old new adds = let a = adds_endings part old new adds in let b = one_ending part in omega (arith, a, b)
+
+  -- and the set of a call none
+  pub below_few : (b : Below) (old new : Named Alloc) → AddsBelow b old new → endings_in new.parts.keys ≤ endings_in old.parts.keys
+  below_few (below.Old q) old new (parts, nodes) = let e = ap endings_in parts in omega (arith, e)
+  below_few (below.Call entry) old new adds = let a = adds_endings (Call entry) old new adds in omega (arith, a)
 
   -- a head that is put on a node leaves as many
   pub put_level : (named : Named Alloc) (head : Head) (i : ℕ) (nodes : List (Node Alloc)) → IsPut head named.nodes.items i nodes

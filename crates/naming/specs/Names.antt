@@ -1,5 +1,5 @@
 -- A turn's sets of stacks, and the numbers of their nodes.
-use Rattle.std.specs.Prelude.{◌≡◌, ◌+◌, ◌++◌, ◌⊎◌, ◌↔◌, ℕ, List, [], ◌∷◌, Some, true, false, length, slice_get, slice_set}
+use Rattle.std.specs.Prelude.{◌≡◌, ◌+◌, ◌++◌, ◌⊎◌, ◌↔◌, ℕ, zero, suc, List, [], ◌∷◌, Some, true, false, length, slice_get, slice_set}
 use Rattle.language.specs.Lists.{Member}
 use Rattle.turns.specs.Turn as turn
 use Rattle.turns.specs.declared.numbered_frame.NumberedFrame.{NumberedFrame}
@@ -37,6 +37,12 @@ module _ (base : ℕ) (parts : List Part) where
 abbrev pub IsListed : ℕ → ℕ → Part → List sets.Ending → List sets.Ending → Type 0
 IsListed base index (Call entry) old new = new ≡ old
 IsListed base index (Ending g) old new = new ≡ old ++ ending g (base + index) ∷ []
+
+-- how many of the sets are endings
+abbrev pub endings_in : List Part → ℕ
+endings_in [] = zero
+endings_in (Call entry ∷ parts) = endings_in parts
+endings_in (Ending g ∷ parts) = suc (endings_in parts)
 
 module _ {Alloc : Type 0} where
   -- there is a node for each set

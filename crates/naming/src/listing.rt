@@ -1,7 +1,7 @@
 //! The endings of a turn.
 
-ghost use Rattle.std.specs.Prelude.{◌≡◌, ◌++◌, ◌∷◌, [], IfOk, OnOk};
-ghost use Rattle.naming.specs.Names.{AreListed, IsListed};
+ghost use Rattle.std.specs.Prelude.{◌≡◌, ◌++◌, ◌∷◌, [], IfOk, OnOk, length};
+ghost use Rattle.naming.specs.Names.{AreListed, IsListed, endings_in};
 
 use crate::part::{Part, node_at};
 use stack_sets::{Ending, NoTurn};
@@ -37,7 +37,8 @@ pub(crate) fn list_endings<A: Allocator>(
     base: usize,
     parts: &[Part],
 ) -> Result<Vec<Ending, A>, NoTurn>
-    ensures { IfOk result (λ endings. AreListed base parts.now endings.items) }
+    ensures listed { IfOk result (λ endings. AreListed base parts.now endings.items) }
+    ensures count { IfOk result (λ endings. length endings.items ≡ endings_in parts.now) }
 {
     let mut endings = Vec::new(alloc);
     for (index, part) in parts.iter().enumerate() {

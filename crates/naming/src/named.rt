@@ -1,9 +1,9 @@
 //! A turn's sets of stacks, with a node for each.
 
-ghost use Rattle.std.specs.Prelude.{◌≡◌, ◌<◌, ◌++◌, ◌∷◌, [], ℕ, IfOk, List, OnOk, Some, length};
+ghost use Rattle.std.specs.Prelude.{◌≡◌, ◌<◌, ◌≤◌, ◌+◌, ◌++◌, ◌∷◌, [], ℕ, IfOk, List, OnOk, Some, length};
 ghost use Rattle.std.specs.Prelude.{slice_get};
 ghost use Rattle.naming.specs.Holds.{HoldsFor};
-ghost use Rattle.naming.specs.Names.{AddsBelow, AddsPart, HasName, IsBared, IsLevel, IsPut, put};
+ghost use Rattle.naming.specs.Names.{AddsBelow, AddsPart, HasName, IsBared, IsLevel, IsPut, endings_in, put};
 ghost use Rattle.saturation.specs.Items.{below_of, item_of};
 ghost use Rattle.saturation.specs.declared.item.Item.{Item as AnItem};
 ghost use Rattle.saturation.specs.declared.item.Item.TheVariants.{Gone};
@@ -97,6 +97,8 @@ impl<A: Allocator + Copy> Named<A> {
     ) -> Result<(), NoTurn>
         requires { IsLevel self.old }
         ensures level { OnOk result (IsLevel self.new) }
+        ensures few { OnOk result (endings_in self.new.parts.keys
+            ≤ endings_in self.old.parts.keys + 1) }
         ensures holds { (done : List AnItem) (item : AnItem)
             → put part frame (below_of below) ≡ item_of item → HoldsFor base done self.old
             → OnOk result (HoldsFor base (done ++ item ∷ []) self.new) }
@@ -111,6 +113,8 @@ impl<A: Allocator + Copy> Named<A> {
     fn put_empty(&mut self, alloc: A, globals: Word) -> Result<(), NoTurn>
         requires { IsLevel self.old }
         ensures level { OnOk result (IsLevel self.new) }
+        ensures few { OnOk result (endings_in self.new.parts.keys
+            ≤ endings_in self.old.parts.keys + 1) }
         ensures holds { (base : ℕ) (done : List AnItem) → HoldsFor base done self.old
             → OnOk result (HoldsFor base (done ++ Gone globals ∷ []) self.new) }
     {
@@ -123,6 +127,8 @@ impl<A: Allocator + Copy> Named<A> {
     pub(crate) fn take_in(&mut self, alloc: A, base: usize, item: Item) -> Result<(), NoTurn>
         requires { IsLevel self.old }
         ensures level { OnOk result (IsLevel self.new) }
+        ensures few { OnOk result (endings_in self.new.parts.keys
+            ≤ endings_in self.old.parts.keys + 1) }
         ensures holds { (done : List AnItem) → HoldsFor base done self.old
             → OnOk result (HoldsFor base (done ++ item ∷ []) self.new) }
     {
@@ -147,6 +153,7 @@ pub(crate) fn name_all<A: Allocator + Copy>(
     items: &[Item],
 ) -> Result<Named<A>, NoTurn>
     ensures level { IfOk result IsLevel }
+    ensures few { IfOk result (λ named. endings_in named.parts.keys ≤ length items.now) }
     ensures holds { IfOk result (HoldsFor base items.now) }
 {
     let mut named = Named::new(alloc);
