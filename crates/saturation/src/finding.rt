@@ -38,6 +38,8 @@ pub fn find<G: Allocator, A: Allocator + Copy>(
         → SomeHeadFails (machine_by graphs.now asserts.now)
         (by_number (nodes_in sets.now)) globals node }
     ensures work { left.new ≤ left.old }
+    ensures taken { IfOk result (λ found. IfSome found (λ items.
+        left.new + length items.keys ≤ left.old)) }
 {
     let mut items = IndexSet::new(alloc);
     start(sets, &mut items, left, globals, node)?;

@@ -1,7 +1,7 @@
 //! Turns over sets of stacks.
 
 ghost use Rattle.std.specs.Prelude.{◌<◌, ◌≤◌, IfOk, length};
-ghost use Rattle.stack_sets.specs.Comes.{ComesTo};
+ghost use Rattle.stack_sets.specs.Comes.{ComesTo, Takes};
 ghost use Rattle.stack_sets.specs.Nodes.{IsPrefix, nodes_in};
 ghost use Rattle.stack_sets.specs.Turns.{AreWhole, machine_by};
 
@@ -30,8 +30,8 @@ pub enum Turn<A: Allocator> {
 /// A way to make a thread's turn.
 pub trait TakesTurns<A: Allocator + Copy> {
     /// Makes the turn of a thread from these globals and any stack of this node. Stacks with which it can end are put
-    /// into the sets. What it finds is taken from the work that is left; if there is less left than that, the error is
-    /// `Limit`.
+    /// into the sets. What it finds is taken from the work that is left, at least one for each ending; if there is less
+    /// left than that, the error is `Limit`.
     fn take_turn<G: Allocator>(
         alloc: A,
         graphs: &Graphs<G>,
@@ -48,5 +48,6 @@ pub trait TakesTurns<A: Allocator + Copy> {
         ensures comes { IfOk result
             (ComesTo (machine_by graphs.now asserts.now) (nodes_in sets.old)
             (nodes_in sets.new) globals node) }
-        ensures work { left.new ≤ left.old };
+        ensures work { left.new ≤ left.old }
+        ensures taken { IfOk result (Takes left.old left.new) };
 }

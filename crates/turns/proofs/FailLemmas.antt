@@ -8,16 +8,17 @@ use Rattle.turns.proofs.TurnLemmas.{found_ends}
 
 module _ {Name Globals Frame : Type 0} (m : Machine Globals Frame) (nodes : Nodes Name Frame) (g0 : Globals) (start : Name)
     (full : NoneVacant nodes) where
-  abbrev Is : Item Name Globals Frame → Type 0
+  abbrev pub Is : Item Name Globals Frame → Type 0
   Is item = Found m nodes g0 start item
 
   -- some frames lie below
-  abbrev HasBelow : Item Name Globals Frame → Type 0
+  abbrev pub HasBelow : Item Name Globals Frame → Type 0
   HasBelow (head g f b) = (fs : List Frame) × LiesBelow nodes Is b fs
   HasBelow (caller g e w b) = (fs : List Frame) × LiesBelow nodes Is b fs
   HasBelow (gone g) = Unit {0}
 
-  has_below : (item : Item Name Globals Frame) → Is item → HasBelow item
+  -- some frames lie below whatever is found
+  pub has_below : (item : Item Name Globals Frame) → Is item → HasBelow item
   has_below _ (starts f q has) = full start f q has
   has_below _ (is_gone bare) = tt
   has_below _ (moves g f h f' b found is) = has_below _ found

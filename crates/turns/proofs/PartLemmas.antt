@@ -6,10 +6,12 @@ use Rattle.turns.specs.Parts.{Part, below, ending, parts_of, AreNamed}
 use Rattle.turns.proofs.NodeLemmas.{no_more_stacks}
 
 module _ {Name Globals Frame : Type 0} (nodes : Nodes Name Frame) (Is : Item Name Globals Frame → Type 0) where
-  abbrev parts : Nodes (Part Name Globals Frame) Frame
+  -- the sets of stacks of a turn
+  abbrev pub parts : Nodes (Part Name Globals Frame) Frame
   parts = parts_of nodes Is
 
-  into : (fs : List Frame) (b : Below Name Globals Frame) → LiesBelow nodes Is b fs → InNode parts (below b) fs
+  -- what can lie below a frame is in its set
+  pub into : (fs : List Frame) (b : Below Name Globals Frame) → LiesBelow nodes Is b fs → InNode parts (below b) fs
   into [] (old q) lies = lies
   into [] (call g e) lies = lies
   into (f ∷ fs) (old q) (m, has, lies) = (below (old m), (m, refl, has), into fs (old m) lies)
