@@ -69,13 +69,13 @@ module _ {Alloc : Type 0} (base : ℕ) where
     once_more i j p at at' =
         elim (get_last parts part i p at) [
           | inl here ↦ elim (get_last parts part j p at') [
-              | inl there ↦ holds.once i j p here there
-              | inr (e, same) ↦ absurd (new (subst (λ z. Member z parts) (sym same) (get_member parts i p here)))
-            ]
+            | inl there ↦ holds.once i j p here there
+            | inr (e, same) ↦ absurd (new (subst (λ z. Member z parts) (sym same) (get_member parts i p here)))
+          ]
           | inr (e, same) ↦ elim (get_last parts part j p at') [
-              | inl there ↦ absurd (new (subst (λ z. Member z parts) (sym same) (get_member parts j p there)))
-              | inr (e', same') ↦ e ∙ sym e'
-            ]
+            | inl there ↦ absurd (new (subst (λ z. Member z parts) (sym same) (get_member parts j p there)))
+            | inr (e', same') ↦ e ∙ sym e'
+          ]
         ]
 
     bare_was : (i : ℕ) → (by_number (nodes ++ node ∷ [])).Bare i → (by_number nodes).Bare i

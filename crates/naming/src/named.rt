@@ -1,9 +1,10 @@
 //! A turn's sets of stacks, with a node for each.
 
-ghost use Rattle.std.specs.Prelude.{◌≡◌, ◌<◌, ◌≤◌, ◌+◌, ◌++◌, ◌∷◌, [], ℕ, IfOk, List, OnOk, Some, length};
-ghost use Rattle.std.specs.Prelude.{slice_get};
+ghost use Rattle.std.specs.Prelude.{◌≡◌, ◌<◌, ◌≤◌, ◌+◌, ◌++◌, ◌∷◌, [], ℕ, IfOk, List, OnOk, Some};
+ghost use Rattle.std.specs.Prelude.{length, slice_get};
 ghost use Rattle.naming.specs.Holds.{HoldsFor};
-ghost use Rattle.naming.specs.Names.{AddsBelow, AddsPart, HasName, IsBared, IsLevel, IsPut, endings_in, put};
+ghost use Rattle.naming.specs.Names.{AddsBelow, AddsPart, HasName, IsBared, IsLevel, IsPut};
+ghost use Rattle.naming.specs.Names.{endings_in, put};
 ghost use Rattle.saturation.specs.Items.{below_of, item_of};
 ghost use Rattle.saturation.specs.declared.item.Item.{Item as AnItem};
 ghost use Rattle.saturation.specs.declared.item.Item.TheVariants.{Gone};

@@ -37,7 +37,8 @@ returns-clause-comes g c =
           c.len-base.result c.len-base.ensures c.in_ok-named.named c.in_ok-named.ensures.level
           (subst (λ l. HoldsFor c.len-base.result l c.in_ok-named.named) c.as_slice.ensures.keys c.in_ok-named.ensures.holds)
           c.in_ok-add_all.ensures.ok c.in_ok-endings.endings.items
-          (subst (λ l. AreListed c.len-base.result l c.in_ok-endings.endings.items) c.as_slice-2.ensures.keys c.in_ok-endings.ensures.listed),
+          (subst
+          (λ l. AreListed c.len-base.result l c.in_ok-endings.endings.items) c.as_slice-2.ensures.keys c.in_ok-endings.ensures.listed),
       λ fails.
           c.in_ok-items.ensures.passes (subst IsSome (sym c.in-Some.is) refl)
           ((turn_fails m (by_number before) c.args.globals c.args.node c.requires.whole.full).1 fails),
