@@ -5,8 +5,9 @@ use Rattle.std.specs.declared.num.ParseIntError.{ParseIntError}
 use Rattle.std.proofs.lemmas.Option.{none-some, same_Some}
 use Rattle.clap.specs.Words.{found_of, rows_of}
 use Rattle.clap.proofs.WalkLemmas.{first_value-rows}
-use Rattle.command_line.specs.Line.{IsGiven, ReadsNumber}
-use Rattle.command_line.proofs.Reading.{flag, gives, has_rounds, is_given, is_met, is_named, number, of_command, reads}
+use Rattle.arguments.specs.Found.{IsGiven, ReadsNumber}
+use Rattle.arguments.proofs.Reading.{flag, is_given, number, reads}
+use Rattle.command_line.proofs.Reading.{gives, has_rounds, is_met, is_named, of_command}
 use Rattle.command_line.proofs.line.asked.Goals as goal
 
 -- what the text of a number with a given number of bits is read as
