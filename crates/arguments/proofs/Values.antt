@@ -12,7 +12,7 @@ use Rattle.clap.specs.Values.{Accepts, IsSignedIn, read_as, reading_of, refused_
 use Rattle.clap.specs.Facts.{parser_of_value}
 use Rattle.clap.specs.ValueTests.{accepts}
 use Rattle.clap.specs.Kinds.{check_kinds, value_kinds}
-use Rattle.clap.specs.Walk.{arg_by_id, has_row, one_of, reading_by, Row, Rule, Text}
+use Rattle.clap.specs.Walk.{arg_by_id, has_row, one_of, Row, Rule, Text}
 use Rattle.clap.specs.Simple.{Shape}
 use Rattle.clap.specs.declared.builder.value_parser.ValueParser.{ValueParser}
 use Rattle.clap.specs.declared.builder.value_parser.ValueParser.TheVariants.{Signed}

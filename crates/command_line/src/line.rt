@@ -1,7 +1,8 @@
 //! What the words of the command line ask for.
 ghost use Rattle.std.specs.Prelude.{◌≡◌, codes, false, map, IfErr, IfOk, MatchOption};
 ghost use Rattle.std.specs.String.{string_bytes};
-ghost use Rattle.clap.specs.Words.{Text, app_of, new_app, rule_of, subcommand_rows_of, with_subcommand};
+ghost use Rattle.clap.specs.Words.{Text, app_of, new_app, rule_of, subcommand_rows_of};
+ghost use Rattle.clap.specs.Words.{with_subcommand};
 ghost use Rattle.arguments.specs.Rules as rules;
 ghost use Rattle.command_line.specs.Line as line;
 
