@@ -7,8 +7,8 @@ use Rattle.clap.specs.Words.{Text}
 use Rattle.command_line.specs.Line as line
 use Rattle.cli.specs.Served.{Answered, Serves, TellsUnread, without_memory}
 use Rattle.cli.specs.Streams.{Said, Says, Stays, Streams, StreamTakes}
-use Rattle.command_line.specs.declared.asked.LineFault.{LineFault}
-use Rattle.command_line.specs.declared.asked.LineFault.TheVariants.{Help, Memory, Refused}
+use Rattle.arguments.specs.declared.line_fault.LineFault.{LineFault}
+use Rattle.arguments.specs.declared.line_fault.LineFault.TheVariants.{Help, Memory, Refused}
 use Rattle.orders.specs.declared.order.Order.{Order}
 
 -- what is written if the words give no order: help, with status 0; a line and the reason; or that memory ran

@@ -1,22 +1,16 @@
 -- Words that the command line accepts give an order.
-use Rattle.std.proofs.Common.{◌&&◌, ◌==◌, ◌||◌, ◌∙◌, ◌∷◌, ◌≡◌, ◌≤◌, [], ap, arith, Bool, codes, cond, drop, false}
-use Rattle.std.proofs.Common.{find, fold, inl, inr, is_some, List, lit<, None, not, Option, pos, refl, Some, subst}
-use Rattle.std.proofs.Common.{suc, sym, true, unwrap_or, zero, ℕ}
+use Rattle.std.proofs.Common.{◌&&◌, ◌||◌, ◌∙◌, ◌∷◌, ◌≡◌, ◌≤◌, [], ap, arith, Bool, codes, cond, drop, false}
+use Rattle.std.proofs.Common.{find, fold, inl, inr, is_some, List, lit<, None, not, Option, refl, Some, subst}
+use Rattle.std.proofs.Common.{suc, sym, true, zero, ℕ}
 use Rattle.std.specs.Prelude.{if◌then◌else◌, option_map}
 use Rattle.std.specs.Option.{option_map_or}
 use Rattle.std.specs.Str.{bytes_eq}
-use Rattle.std.specs.Str.Parse.{digits_value, IsNumeral, starts_with_minus, without_leading_plus}
-use Rattle.std.specs.List.{slice_index_or}
 use Rattle.std.proofs.lemmas.Slice.Eq.{bytes_eq-Decides}
-use Rattle.std.proofs.lemmas.Int.{ints}
 use Rattle.std.proofs.lemmas.Bool.{true≢false}
-use Rattle.clap.specs.Lexer.{long_of, short_of, without_minus}
-use Rattle.clap.specs.Values.{Accepts, IsSignedIn, read_as, reading_of, refused_kind}
-use Rattle.clap.specs.Facts.{parser_of_value}
-use Rattle.clap.specs.ValueTests.{accepts}
-use Rattle.clap.specs.Kinds.{check_kinds, or_else, value_kinds}
-use Rattle.clap.specs.Walk.{after_flag, after_step, answers_to, arg_by_id, arg_by_index, arg_by_long, bundle, done}
-use Rattle.clap.specs.Walk.{has_row, Held, idle, long_met, long_or_other, Names, next, nothing_held, one_of, option}
+use Rattle.clap.specs.Lexer.{long_of, short_of}
+use Rattle.clap.specs.Kinds.{check_kinds, or_else}
+use Rattle.clap.specs.Walk.{after_flag, after_step, answers_to, arg_by_index, arg_by_long, bundle, done}
+use Rattle.clap.specs.Walk.{Held, idle, long_met, long_or_other, Names, next, nothing_held, option}
 use Rattle.clap.specs.Walk.{Outcome, plain, plain_word, positional, refused, Row, Rule, settled, short_or_plain, Step}
 use Rattle.clap.specs.Walk.{subcommand, subcommand_met, subcommand_or_other, Text, to_positional, trailing, value}
 use Rattle.clap.specs.Walk.{Waiting, waits, Walk, walk, walk_from, walked, walked_from, with_default, word_met}
@@ -26,19 +20,19 @@ use Rattle.clap.specs.Takes.{is_given}
 use Rattle.clap.specs.Faults.{check_fault, defaults_fault, entered_fault, fault_of, level_fault, other_fault}
 use Rattle.clap.specs.Faults.{settle_fault, step_fault, turn_fault, walk_fault, word_fault}
 use Rattle.clap.specs.declared.error.kind.ErrorKind.TheVariants as kind
-use Rattle.clap.specs.declared.builder.value_parser.ValueParser.{ValueParser}
-use Rattle.clap.specs.declared.builder.value_parser.ValueParser.TheVariants.{Bool as bool, Signed}
-use Rattle.clap.proofs.ValueTestLemmas.{accepts-Accepts}
+use Rattle.clap.specs.declared.builder.value_parser.ValueParser.TheVariants.{Bool as bool}
 use Rattle.round_rewrite.specs.declared.rounds.Rounds.{Rounds}
 use Rattle.path_sets.specs.declared.edge_limit.EdgeLimit.{EdgeLimit}
 use Rattle.round_rewrite.specs.Limits.{most_rounds}
 use Rattle.round_rewrite.specs.Programs.{count_of}
 use Rattle.path_sets.specs.EdgeLimits.{most_of}
 use Rattle.path_sets.specs.Limits.{most_edges}
-use Rattle.command_line.specs.Line.{GivesOrder, bebopk, check, file, flag_text, Orders, ReadsNumber, sequential}
+use Rattle.arguments.specs.Found.{ReadsNumber}
+use Rattle.arguments.proofs.Values.{as_flag, number_read, passes, rule, wants}
+use Rattle.arguments.proofs.Walks.{AreFit, AreUsable, defaulted, given_row, kept_by_defaults, level_fit, none, row_read}
+use Rattle.command_line.specs.Line.{GivesOrder, bebopk, check, Orders, sequential}
 use Rattle.orders.specs.declared.order.Order.{Order}
 use Rattle.orders.specs.declared.order.Order.TheVariants.{Check, Sequential}
-use Rattle.command_line.proofs.Walks.{AreFit, AreUsable, defaulted, given_row, kept_by_defaults, level_fit, none, row_read}
 
 -- the step does not enter the command `help`
 abbrev IsNoHelp : Step → Type 0
@@ -132,55 +126,6 @@ module _ (s : Shape) (names : Names) (helps : s.disable_help_subcommand ≡ fals
       let p = none (turn_fault s names w word) _ e in
       walk_stop (walked s.rules names w word) rest p.1 (turn_stop w word p.0 g)
 
-without_minus-cond : (t : Text) → without_minus t ≡ cond (starts_with_minus t) (drop 1 t) t
-without_minus-cond [] = refl
-without_minus-cond (x ∷ xs) = go (x == 45)
-  where
-    go : (b : Bool) → unwrap_or (cond b (Some xs) None) (x ∷ xs) ≡ cond b xs (x ∷ xs)
-    go true = refl
-    go false = refl
-
--- a text that passed the parser of a range from 1 reads as a number in that range
-in_range : (high : ℕ) (t : Text) → IsSignedIn (pos 1) (pos high) t
-    → (n : ℕ) × (1 ≤ n) × (n ≤ high) × IsNumeral 10 (without_leading_plus (without_minus t))
-    × (digits_value 10 (without_leading_plus (without_minus t)) ≡ n)
-in_range high t passed = go (starts_with_minus t) refl
-  where
-    go : (b : Bool) → starts_with_minus t ≡ b
-        → (n : ℕ) × (1 ≤ n) × (n ≤ high) × IsNumeral 10 (without_leading_plus (without_minus t))
-        × (digits_value 10 (without_leading_plus (without_minus t)) ≡ n)
-    go true minus =
-        let low_ok = rw minus at passed.2 in
-        absurd (omega (arith, ints))
-    go false minus =
-        let low_ok = rw minus at passed.2 in
-        let high_ok = rw minus at passed.3 in
-        let numeral : IsNumeral 10 (without_leading_plus t) = rw minus at passed.0 in
-        let same : t ≡ without_minus t = sym (without_minus-cond t ∙ ap (λ (b : Bool). cond b (drop 1 t) t) minus) in (
-          digits_value 10 (without_leading_plus t),
-          omega (arith, ints),
-          omega (arith, ints),
-          subst (λ (u : Text). IsNumeral 10 (without_leading_plus u)) same numeral,
-          ap (λ (u : Text). digits_value 10 (without_leading_plus u)) (sym same),
-        )
-
--- a value without a fault passes its parser
-passes : (i : Bool) (p : ValueParser) (t : Text) → value_kinds i p t ≡ [] → Accepts i p t
-passes i p t e = accepts-Accepts i p t (go (accepts i p t) e)
-  where
-    go : (b : Bool) → (if b then [] else refused_kind p ∷ []) ≡ [] → b ≡ true
-    go true e = refl
-    go false e = cc
-
--- a text that passed the parser of an option without a value says whether the option was given
-as_flag : (t : Text) → (bytes_eq t (codes "true") || bytes_eq t (codes "false")) ≡ true → (b : Bool) × (t ≡ flag_text b)
-as_flag t e = go (bytes_eq t (codes "true")) refl e
-  where
-    go : (b : Bool) → bytes_eq t (codes "true") ≡ b → (b || bytes_eq t (codes "false")) ≡ true → (b : Bool)
-        × (t ≡ flag_text b)
-    go true is e = (true, (bytes_eq-Decides t (codes "true")).0 is)
-    go false is e = (false, (bytes_eq-Decides t (codes "false")).0 e)
-
 -- the commands as they are parsed
 abbrev above : Shape
 above = with_leaf_noted (marked_built bebopk.top)
@@ -197,9 +142,6 @@ help_ready = built_leaf help_shape
 ready : (built bebopk).subs ≡ check_ready ∷ sequential_ready ∷ help_ready ∷ []
 ready = refl
 
-abbrev rule : Shape → ℕ → Rule
-rule s i = slice_index_or s.rules i file
-
 -- a number from 1 to the most rounds is a number of rounds, and one from 1 to the greatest limit is a limit
 as_rounds : (n : ℕ) → 1 ≤ n → n ≤ most_rounds → (r : Rounds) × (n ≡ count_of r)
 as_rounds zero low high = absurd (omega arith)
@@ -212,11 +154,7 @@ as_edges n low high = (record { edges = n; some = low; few = high }, refl)
 abbrev IsOrder : Text × List Row → Type 0
 IsOrder command = (order : Order) × (path : Text) × Orders command order path
 
--- if no required argument is missing, the one that is required was given
-wants : (b : Bool) → check_kinds false false (not b || false) ≡ [] → b ≡ true
-wants true e = refl
-wants false e = cc
-
+-- if no required argument is missing, both that are required were given
 wants_both : (a b : Bool) → check_kinds false false (not a || (not b || false)) ≡ [] → (a ≡ true) × (b ≡ true)
 wants_both true true e = (refl, refl)
 wants_both true false e = cc
@@ -231,7 +169,7 @@ check_usable = (
       record { own = refl; action = inl (inr refl, inr (lit< tt)) },
       (
         record { own = refl; action = inl (inl refl, inl (lit< tt)) },
-        (record { own = refl; action = inr refl }, tt),
+        (record { own = refl; action = inr (inl refl) }, tt),
       ),
     ),
   ),
@@ -242,24 +180,9 @@ sequential_usable = (
   record { own = refl; action = inl (inl refl, inl (lit< tt)) },
   (
     record { own = refl; action = inl (inl refl, inl (lit< tt)) },
-    (record { own = refl; action = inr refl }, tt),
+    (record { own = refl; action = inr (inl refl) }, tt),
   ),
 )
-
--- a row of an option that takes a number from 1 to the greatest one reads as such a number
-number_read : (c : List Rule) (rows : List Row) (id : Text) (a : Rule) (most : ℕ) → AreFit c rows
-    → arg_by_id c id ≡ Some a
-    → a.parser ≡ Some (Signed (pos 1) (pos most)) → has_row id rows ≡ true
-    → (n : ℕ) × (1 ≤ n) × (n ≤ most) × ReadsNumber rows id n
-number_read c rows id a most fit is parser has =
-    let row = row_read c rows id a fit is has in
-    let v = row.0 in
-    let by : parser_of_value a.parser ≡ Signed (pos 1) (pos most) = ap parser_of_value parser in
-    let pass = subst (λ (p : ValueParser). value_kinds a.ignore_case p v ≡ []) by row.3 in
-    let n = in_range most v (passes a.ignore_case (Signed (pos 1) (pos most)) v pass) in
-    let one : one_of id rows ≡ Some (without_minus v) = row.2
-    ∙ ap (λ (p : ValueParser). Some (read_as (reading_of p) v)) by in
-    (n.0, n.1, n.2, (without_minus v, one, n.3, n.4))
 
 -- the rows of a command without a fault give an order
 check_rows : (rows : List Row) → AreFit check_ready.rules (fold with_default rows check_ready.rules)

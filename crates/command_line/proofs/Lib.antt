@@ -1,4 +1,3 @@
 pub mod Rows
 pub mod Reading
-pub mod Walks
 pub mod Accepted

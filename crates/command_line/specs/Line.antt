@@ -1,45 +1,24 @@
 -- The command line of bebopk, and what words ask for by it.
-use Rattle.std.specs.Prelude.{◌≡◌, ◌≢◌, ◌⊎◌, ⊤, ℕ, Bool, List, [], ◌∷◌, Option, Some, true, false, pos, codes}
-use Rattle.std.specs.Str.Parse.{IsNumeral, digits_value, without_leading_plus}
+use Rattle.std.specs.Prelude.{◌≡◌, ℕ, Bool, List, [], ◌∷◌, Option, Some, true, codes}
 use Rattle.clap.specs.Simple.{on_top}
-use Rattle.clap.specs.Words.{App, IsAmong, Row, Rule, Text, app_of, fault_of}
-use Rattle.clap.specs.Words.{first_of, new_app, new_rule, one_of, subcommand_of, with_rule, with_subcommand}
-use Rattle.clap.specs.declared.builder.action.ArgAction.TheVariants.{SetTrue}
-use Rattle.clap.specs.declared.builder.command.Command.{Command}
-use Rattle.clap.specs.declared.builder.command.Command.TheViews.{out-Command as fields_of}
-use Rattle.clap.specs.declared.builder.value_parser.ValueParser.{ValueParser}
-use Rattle.clap.specs.declared.builder.value_parser.ValueParser.TheVariants.{Signed}
-use Rattle.clap.specs.declared.error.kind.ErrorKind.{ErrorKind}
-use Rattle.clap.specs.declared.error.kind.ErrorKind.TheVariants as kind
+use Rattle.clap.specs.Words.{App, Row, Rule, Text, fault_of}
+use Rattle.clap.specs.Words.{first_of, new_app, subcommand_of, with_rule, with_subcommand}
+use Rattle.arguments.specs.Rules.{file, number_up_to, stats}
+use Rattle.arguments.specs.Found.{IsGiven, ReadsNumber}
+use Rattle.arguments.specs.Faults.{Refuses}
+use Rattle.arguments.specs.declared.line_fault.LineFault.{LineFault}
 use Rattle.round_rewrite.specs.Limits.{most_rounds}
 use Rattle.round_rewrite.specs.Programs.{count_of}
 use Rattle.path_sets.specs.EdgeLimits.{most_of}
 use Rattle.path_sets.specs.Limits.{most_edges}
-use Rattle.command_line.specs.declared.asked.LineFault.{LineFault}
-use Rattle.command_line.specs.declared.asked.LineFault.TheVariants.{Help, Memory, Refused}
 use Rattle.orders.specs.declared.order.Order.{Order}
 use Rattle.orders.specs.declared.order.Order.TheVariants.{Check, Sequential}
-
--- an option with one value, which this parser reads
-abbrev pub option_by : ValueParser → Text → Rule
-option_by parser name = record (new_rule name) { long = Some name; value_names = 1; parser = Some parser }
-
--- an option that takes a number from 1 to the greatest one
-abbrev pub number_up_to : ℕ → Text → Rule
-number_up_to most = option_by (Signed (pos 1) (pos most))
 
 abbrev pub rounds : Rule
 rounds = number_up_to most_rounds (codes "rounds")
 
 abbrev pub edges : Rule
 edges = record (number_up_to most_edges (codes "edges")) { defaults = codes "1000000" ∷ [] }
-
--- an option without a value
-abbrev pub stats : Rule
-stats = record (new_rule (codes "stats")) { long = Some (codes "stats"); action = Some SetTrue }
-
-abbrev pub file : Rule
-file = record (new_rule (codes "file")) { value_names = 1; required = true }
 
 -- check [--rounds K] [--edges N]
 abbrev pub check_by_numbers : App
@@ -60,24 +39,6 @@ bare = on_top (λ s. record s { has_version = true; subcommand_required = true }
 -- bebopk check .., bebopk sequential .., or bebopk --version
 abbrev pub bebopk : App
 bebopk = with_subcommand (with_subcommand bare check.top) sequential.top
-
--- The command is the one written down, and it shares no option with commands below it.
-abbrev pub IsBuilt : App → Command → Type 0
-IsBuilt app command = (app_of command ≡ app) × ((fields_of command).has_globals ≡ false)
-
--- The value that was found for this option, given or by default, reads as the number.
-abbrev pub ReadsNumber : List Row → Text → ℕ → Type 0
-ReadsNumber rows id n = (t : Text) × (one_of id rows ≡ Some t) × IsNumeral 10 (without_leading_plus t)
-    × (digits_value 10 (without_leading_plus t) ≡ n)
-
--- what is found for an option without a value: that it was given, or that it was not
-abbrev pub flag_text : Bool → Text
-flag_text true = codes "true"
-flag_text false = codes "false"
-
--- The option without a value was given, or it was not.
-abbrev pub IsGiven : List Row → Text → Bool → Type 0
-IsGiven rows id given = one_of id rows ≡ Some (flag_text given)
 
 -- A command of this name, with what was found for its options, is the order.
 abbrev pub CommandGives : Text → List Row → Order → Type 0
@@ -107,19 +68,7 @@ pub record AskFor (words : List Text) (order : Order) (path : Text) : Type 0 whe
   pub met : subcommand_of bebopk words ≡ Some command
   pub orders : Orders command order path
 
--- An error of this kind only shows help or the version.
-abbrev pub IsShown : ErrorKind → Type 0
-IsShown error_kind = (error_kind ≡ kind.DisplayHelp) ⊎ (error_kind ≡ kind.DisplayVersion)
-
--- An error of this kind is the fault.
-abbrev pub IsOfKind : ErrorKind → LineFault → Type 0
-IsOfKind error_kind (Help text) = IsShown error_kind × (error_kind ≢ kind.OutOfMemory)
-IsOfKind error_kind (Refused text) = ¬ IsShown error_kind × (error_kind ≢ kind.OutOfMemory)
-IsOfKind error_kind Memory = ⊤
-
 -- The command line does not accept the words: they ask for help or for the version, or have another fault. Memory may
 -- run out for any words.
 abbrev pub RefusesWords : List Text → LineFault → Type 0
-RefusesWords words (Help text) = (k : ErrorKind) × IsAmong k (fault_of bebopk words) × IsShown k
-RefusesWords words (Refused text) = (k : ErrorKind) × IsAmong k (fault_of bebopk words) × ¬ IsShown k
-RefusesWords words Memory = ⊤
+RefusesWords = Refuses bebopk

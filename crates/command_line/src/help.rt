@@ -1,7 +1,7 @@
-//! The end of the help: what the replies and statuses mean, the limits, and an example. The version.
+//! The end of the help: what the replies and statuses mean, the limits, and an example.
 
-/// What `--version` prints after the name: the version, and on a second line the logic that the proofs are in.
-pub(crate) const VERSION: &str = "0.1.0\nlogic dac8208d650f15bf";
+/// The line of `--stats` in the help of `check`.
+pub(crate) const STATS: &str = "Also counts what was found of each procedure";
 
 /// The end of the help of `bebopk`.
 pub(crate) const BEBOPK: &str = "\

@@ -1,47 +1,19 @@
 //! What the words of the command line ask for.
 ghost use Rattle.std.specs.Prelude.{◌≡◌, codes, false, map, IfErr, IfOk, MatchOption};
 ghost use Rattle.std.specs.String.{string_bytes};
-ghost use Rattle.clap.specs.Words.{Text, app_of, kind_of, new_app, rule_of, subcommand_rows_of, with_subcommand};
+ghost use Rattle.clap.specs.Words.{Text, app_of, new_app, rule_of, subcommand_rows_of};
+ghost use Rattle.clap.specs.Words.{with_subcommand};
+ghost use Rattle.arguments.specs.Rules as rules;
 ghost use Rattle.command_line.specs.Line as line;
 
-use crate::asked::LineFault;
-use crate::help::{BEBOPK, CHECK, SEQUENTIAL, VERSION};
-use clap::builder::ValueParser;
+use crate::help::{BEBOPK, CHECK, SEQUENTIAL, STATS};
+use arguments::{LineFault, VERSION, fault_of, file, option, stats};
 use clap::error::ErrorKind;
-use clap::{Arg, ArgAction, ArgMatches, Command, Error, value_parser};
+use clap::{Arg, ArgMatches, Command, value_parser};
 use orders::Order;
 use path_sets::{EdgeLimit, MOST_EDGES};
 use round_rewrite::{MOST_ROUNDS, Rounds};
 use std::alloc::{AllocError, Global};
-
-/// The argument FILE.
-fn file<'a>(alloc: Global) -> Arg<'a>
-    ensures rule { rule_of result ≡ line.file }
-    ensures local { result.global ≡ false }
-{
-    Arg::new(alloc, "file")
-        .value_name("FILE")
-        .help("The text of a program")
-        .required(true)
-}
-
-/// An option with one value, which this parser reads.
-fn option<'a>(
-    alloc: Global,
-    name: &'a str,
-    value: &'a str,
-    help: &'a str,
-    parser: ValueParser<'a>,
-) -> Arg<'a>
-    ensures rule { rule_of result ≡ line.option_by parser.entry name.entry.now }
-    ensures local { result.global ≡ false }
-{
-    Arg::new(alloc, name)
-        .long(name)
-        .value_name(value)
-        .help(help)
-        .value_parser(parser)
-}
 
 /// The option `--rounds`.
 fn rounds<'a>(alloc: Global) -> Arg<'a>
@@ -62,20 +34,9 @@ fn edges<'a>(alloc: Global) -> Arg<'a>
     option(alloc, "edges", "N", help, parser).default_value("1000000")
 }
 
-/// The option `--stats`.
-fn stats<'a>(alloc: Global) -> Arg<'a>
-    ensures rule { rule_of result ≡ line.stats }
-    ensures local { result.global ≡ false }
-{
-    Arg::new(alloc, "stats")
-        .long("stats")
-        .action(ArgAction::SetTrue)
-        .help("Also counts what was found of each procedure")
-}
-
 /// The command `check`, without arguments.
 fn bare_check<'a>(alloc: Global) -> Command<'a>
-    ensures { line.IsBuilt (new_app (codes "check")) result }
+    ensures { rules.IsBuilt (new_app (codes "check")) result }
 {
     Command::new(alloc, "check")
         .about("Answers whether some run of at most K rounds fails an assert")
@@ -84,7 +45,7 @@ fn bare_check<'a>(alloc: Global) -> Command<'a>
 
 /// The command `check` with the options that take a number.
 fn check_by_numbers<'a>(alloc: Global) -> Result<Command<'a>, AllocError>
-    ensures { IfOk result (line.IsBuilt line.check_by_numbers) }
+    ensures { IfOk result (rules.IsBuilt line.check_by_numbers) }
 {
     bare_check(alloc)
         .arg(rounds(alloc).default_value("2"))?
@@ -93,14 +54,16 @@ fn check_by_numbers<'a>(alloc: Global) -> Result<Command<'a>, AllocError>
 
 /// The command `check`.
 fn check<'a>(alloc: Global) -> Result<Command<'a>, AllocError>
-    ensures { IfOk result (line.IsBuilt line.check) }
+    ensures { IfOk result (rules.IsBuilt line.check) }
 {
-    check_by_numbers(alloc)?.arg(stats(alloc))?.arg(file(alloc))
+    check_by_numbers(alloc)?
+        .arg(stats(alloc, STATS))?
+        .arg(file(alloc))
 }
 
 /// The command `sequential`.
 fn sequential<'a>(alloc: Global) -> Result<Command<'a>, AllocError>
-    ensures { IfOk result (line.IsBuilt line.sequential) }
+    ensures { IfOk result (rules.IsBuilt line.sequential) }
 {
     Command::new(alloc, "sequential")
         .about("Prints the sequential program that K rounds are rewritten to")
@@ -145,23 +108,6 @@ fn help_after(kind: ErrorKind) -> &'static str {
         NO_COMMAND
     } else {
         ""
-    }
-}
-
-/// The fault for an error of `clap`.
-fn fault_of(alloc: Global, error: &Error) -> LineFault
-    ensures { line.IsOfKind (kind_of error.now) result }
-{
-    let kind = error.kind();
-    if kind == ErrorKind::OutOfMemory {
-        return LineFault::Memory;
-    }
-    let help = !error.use_stderr();
-    let hint = help_after(kind);
-    match format!(in alloc; "{error}{hint}") {
-        Ok(text) if help => LineFault::Help(text),
-        Ok(text) => LineFault::Refused(text),
-        Err(_) => LineFault::Memory,
     }
 }
 
@@ -214,7 +160,7 @@ pub fn order(alloc: Global, words: &[String]) -> Result<(Order, String), LineFau
     };
     let matches = match command.try_get_matches_from(words) {
         Ok(matches) => matches,
-        Err(error) => return Err(fault_of(alloc, &error)),
+        Err(error) => return Err(fault_of(alloc, &error, help_after(error.kind()))),
     };
     let Some((order, path)) = asked(&matches) else {
         unreachable!();

@@ -1,29 +1,18 @@
 -- The order is the one that the command line that is written down gives for the words.
-use Rattle.std.proofs.Common.{◌≡◌, ◌∙◌, ◌⊎◌, List, Some, map, sym, ap, subst, inl, inr}
+use Rattle.std.proofs.Common.{◌≡◌, ◌∙◌, ◌⊎◌, Some, map, sym, ap, subst}
 use Rattle.std.specs.String.{string_bytes}
-use Rattle.clap.specs.Words.{App, IsAmong, Text, app_of, fault_of, is_simple, is_simple_and_free, kind_of, subcommand_of}
-use Rattle.clap.specs.declared.error.kind.ErrorKind.{ErrorKind}
+use Rattle.clap.specs.Words.{App, IsAmong, app_of, fault_of, is_simple, is_simple_and_free, kind_of, subcommand_of}
 use Rattle.clap.specs.declared.error.kind.ErrorKind.TheVariants.{OutOfMemory}
-use Rattle.command_line.specs.declared.asked.LineFault.{LineFault}
-use Rattle.command_line.specs.declared.asked.LineFault.TheVariants.{Help, Memory, Refused}
+use Rattle.arguments.proofs.Refusing.{refuses}
 use Rattle.command_line.specs.Line as line
 use Rattle.command_line.proofs.Accepted.{accepted}
 use Rattle.command_line.proofs.line.order.Goals as goal
-
--- why the words give no order, by the kind of the error
-refuses : (words : List Text) (k : ErrorKind) (why : LineFault) → line.IsOfKind k why
-    → (k ≡ OutOfMemory) ⊎ IsAmong k (fault_of line.bebopk words) → line.RefusesWords words why
-refuses words k (Help t) h (inl e) = absurd (h.1 e)
-refuses words k (Help t) h (inr m) = (k, m, h.0)
-refuses words k (Refused t) h (inl e) = absurd (h.1 e)
-refuses words k (Refused t) h (inr m) = (k, m, h.0)
-refuses words k Memory h f = tt
 
 pub returns-in-Err-clause-refuses : goal.returns-in-Err-clause-refuses
 returns-in-Err-clause-refuses c =
     let words = map string_bytes c.args.words.now in
     let is : app_of c.in-Ok.command ≡ line.bebopk = c.in-Ok.ensures in
-    refuses words (kind_of c.in-Err.error) c.fault_of.result c.fault_of.ensures
+    refuses line.bebopk words (kind_of c.in-Err.error) c.fault_of.result c.fault_of.ensures
     (subst (λ (a : App). (kind_of c.in-Err.error ≡ OutOfMemory) ⊎ IsAmong (kind_of c.in-Err.error) (fault_of a words)) is
     (c.in-Err.ensures.kinds (ap is_simple_and_free is)))
 

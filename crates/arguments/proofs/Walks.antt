@@ -27,7 +27,7 @@ use Rattle.clap.specs.Faults.{values_fault, walk_fault, word_fault}
 use Rattle.clap.specs.Takes.{is_given}
 use Rattle.clap.specs.declared.error.kind.ErrorKind.TheVariants as kind
 use Rattle.clap.specs.declared.builder.action.ArgAction.{ArgAction}
-use Rattle.clap.specs.declared.builder.action.ArgAction.TheVariants.{Help, Set, SetTrue}
+use Rattle.clap.specs.declared.builder.action.ArgAction.TheVariants.{Help, Set, SetTrue, Version}
 use Rattle.clap.specs.declared.parser.matches.ValueSource.{ValueSource}
 use Rattle.clap.specs.declared.parser.matches.ValueSource.TheVariants.{CommandLine, DefaultValue}
 use Rattle.clap.specs.declared.builder.value_parser.Reading.{Reading}
@@ -55,10 +55,11 @@ AreFit c (r ∷ rs) = Fits c r.id r.values r.reading × AreFit c rs
 abbrev HasValue : Rule → Type 0
 HasValue a = (0 < (unwrap_or_range a.range).start_inclusive) ⊎ (0 < length a.missing)
 
--- the argument is the one with its id, and it sets a value or asks for help
+-- the argument is the one with its id, and it sets a value, or asks for help or for the version
 pub record IsUsable (c : List Rule) (a : Rule) : Type 0 where
   pub own : arg_by_id c a.id ≡ Some a
-  pub action : (((action_of a ≡ Set) ⊎ (action_of a ≡ SetTrue)) × HasValue a) ⊎ (action_of a ≡ Help)
+  pub action : (((action_of a ≡ Set) ⊎ (action_of a ≡ SetTrue)) × HasValue a)
+      ⊎ ((action_of a ≡ Help) ⊎ (action_of a ≡ Version))
 
 abbrev pub AreUsable : List Rule → List Rule → Type 0
 AreUsable c [] = Unit {0}
@@ -152,7 +153,10 @@ module _ (c : List Rule) (again : Bool) (all : AreUsable c c) where
       elim u.action [
         | inl (inl is, has) ↦ go Set is has p.0 p.1 (inl refl)
         | inl (inr is, has) ↦ go SetTrue is has p.0 p.1 (inr refl)
-        | inr is ↦
+        | inr (inl is) ↦
+            let bad = rw is at p.1 in
+            cc
+        | inr (inr is) ↦
             let bad = rw is at p.1 in
             cc
       ]

@@ -1,0 +1,4 @@
+pub mod Refusing
+pub mod Reading
+pub mod Walks
+pub mod Values
