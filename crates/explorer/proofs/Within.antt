@@ -1,0 +1,17 @@
+-- STUB: which texts have answers, and which statuses refusals have.
+use Rattle.std.proofs.Common.{◌≤◌, ℕ, List, length, arith}
+use Rattle.tokens.specs.Limits.{most_bytes}
+use Rattle.explorer.specs.Lines.{status_of}
+use Rattle.explorer.specs.Replies.{Replies}
+use Rattle.explorer.specs.declared.order.Order.{Order}
+use Rattle.explorer.specs.declared.refusal.Refusal.{Refusal}
+use Rattle.explorer.specs.declared.refusal.Refusal.TheVariants.{Memory}
+
+-- no refusal has the status of an answer
+pub refused : (why : Refusal) → 2 ≤ status_of why
+refused Memory = omega arith
+
+-- a text that has an answer is not too long
+pub within : (text : List ℕ) (order : Order) (bytes : List ℕ) (status : ℕ) → Replies text order bytes status
+    → length text ≤ most_bytes
+within text order bytes status replies = replies.0
