@@ -15,7 +15,7 @@ module _ {Order Why A : Type 0} (Explains : List ℕ → List ℕ → Order → 
       → (2 ≤ reply.status → Refuses line_of status_of Stands text order reply)
       → IsMessage Explains path text order reply.refusal message
       → IsReply Explains Replies Stands line_of status_of path text order
-          (record { reply = bytes_of reply; status = reply.status; message = message })
+      (record { reply = bytes_of reply; status = reply.status; message = message })
   replied path text order reply message answers silent refuses about =
       elim (cases_lt reply.status 2) [
         | inl few ↦

@@ -20,8 +20,8 @@ declined Memory = without_memory
 abbrev pub Declines : LineFault → Streams → Streams → ℕ → Type 0
 Declines fault old new result = Says old new (declined fault) result
 
--- `opens` says what the opening of a file by its name may give, and `remaining` what a file has left; `IsReply` says what
--- is written about the text in a file of this name for an order.
+-- `opens` says what the opening of a file by its name may give, and `remaining` what a file has left; `IsReply` says
+-- what is written about the text in a file of this name for an order.
 module _ {Order F : Type 0} (opens : Text → Result F Error → Type 0) (remaining : F → Option (List ℕ))
     (IsReply : List ℕ → List ℕ → Order → Said → Type 0) where
   -- The file with this name was opened, and what is due for its contents was written; or it was not opened, and
