@@ -1,4 +1,4 @@
-pub mod Giving
+pub mod Within
 pub mod Refusing
 pub mod Counting
 pub mod Answering

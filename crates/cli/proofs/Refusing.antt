@@ -12,10 +12,10 @@ use Rattle.cli.specs.Refused.{HasPlace, HasRewriting, IsPast, IsPastAt, RefusalS
 use Rattle.cli.specs.Replies.{IsSequential, RefusesFor, TellsOrLacks}
 use Rattle.cli.specs.Rewritten.{IsRewriting}
 use Rattle.cli.specs.Verdict.{Answers}
-use Rattle.cli.specs.Written.{bytes_of}
+use Rattle.streams.specs.Written.{bytes_of}
 use Rattle.refusals.specs.declared.refusal.Refusal.{Refusal}
 use Rattle.refusals.specs.declared.refusal.Refusal.TheVariants.{EdgeLimit, Memory, NoWorker, Spent, Unchecked, Unread}
-use Rattle.cli.specs.declared.reply.Reply.{Reply}
+use Rattle.streams.specs.declared.reply.Reply.{Reply}
 
 -- a fault of scopes that is not lack of memory has its place
 fault_place : (text : List ℕ) (fault : ScopeFault) → NamesOffset (Unchecked fault)
@@ -33,7 +33,7 @@ has_place text rounds limit (Unchecked fault) names stands = fault_place text fa
 has_place text rounds limit _ names stands = absurd names
 
 -- what is reported if a refusal stands is a refusal that stands
-pub refuses : {A : Type 0} (text : List ℕ) (rounds : ℕ) (limit : Option ℕ) (why : Refusal) (reply : Reply A)
+pub refuses : {A : Type 0} (text : List ℕ) (rounds : ℕ) (limit : Option ℕ) (why : Refusal) (reply : Reply Refusal A)
     → RefusalStands text rounds limit why → TellsOrLacks why reply → RefusesFor text rounds limit reply
 refuses text rounds limit why reply stands (inl told) = (why, stands, told)
 refuses text rounds limit why reply stands (inr lacks) =
@@ -53,7 +53,7 @@ pub rewriting_few : (text : List ℕ) (rounds : ℕ) (bytes : List ℕ) (status 
 rewriting_few text rounds bytes status (e, is) = omega (arith, e)
 
 -- a reply with a greater status gives the reason
-pub tells_many : {A : Type 0} (text : List ℕ) (rounds : ℕ) (limit : Option ℕ) (reply : Reply A) (V : Type 0)
+pub tells_many : {A : Type 0} (text : List ℕ) (rounds : ℕ) (limit : Option ℕ) (reply : Reply Refusal A) (V : Type 0)
     → (V → reply.status ≤ 1) → V × (reply.refusal ≡ None) ⊎ RefusesFor text rounds limit reply → 2 ≤ reply.status
     → RefusesFor text rounds limit reply
 tells_many text rounds limit reply V few (inl v) many = let least = few v.0 in absurd (omega (arith, least, many))
@@ -66,7 +66,7 @@ status_many (Unchecked scope.Memory) = omega arith
 status_many _ = omega arith
 
 -- a reply with a smaller status gives no reason
-pub tells_none : {A : Type 0} (text : List ℕ) (rounds : ℕ) (limit : Option ℕ) (reply : Reply A) (V : Type 0)
+pub tells_none : {A : Type 0} (text : List ℕ) (rounds : ℕ) (limit : Option ℕ) (reply : Reply Refusal A) (V : Type 0)
     → V × (reply.refusal ≡ None) ⊎ RefusesFor text rounds limit reply → reply.status ≤ 1 → reply.refusal ≡ None
 tells_none text rounds limit reply V (inl v) few = v.1
 tells_none text rounds limit reply V (inr (why, stands, told)) few =
@@ -101,6 +101,6 @@ past_by text rounds limit NoWorker stands e = absurd (other _ 110 refl (λ same.
 past_by text rounds limit Spent stands e = absurd (other _ 115 refl (λ same. omega (arith, same)) e)
 past_by text rounds limit _ stands e = absurd (refused _ refl e)
 
-pub is_past : {A : Type 0} (text : List ℕ) (rounds : ℕ) (limit : Option ℕ) (reply : Reply A)
+pub is_past : {A : Type 0} (text : List ℕ) (rounds : ℕ) (limit : Option ℕ) (reply : Reply Refusal A)
     → RefusesFor text rounds limit reply → bytes_of reply ≡ edge_line → IsPast text rounds limit
 is_past text rounds limit reply (why, stands, told) e = past_by text rounds limit why stands (sym told.0 ∙ e)

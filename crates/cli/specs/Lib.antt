@@ -1,11 +1,9 @@
 pub mod Counts
 pub mod Counted
-pub mod Written
 pub mod Rewritten
 pub mod Verdict
 pub mod Refused
 pub mod Replies
-pub mod Streams
 pub mod Told
 pub mod Served
 pub mod Ran

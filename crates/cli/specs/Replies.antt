@@ -1,5 +1,5 @@
 -- What a reply says about a text, by what was asked.
-use Rattle.std.specs.Prelude.{◌≡◌, ◌⊎◌, ℕ, List, Option, Some}
+use Rattle.std.specs.Prelude.{◌≡◌, ◌⊎◌, ℕ, List, Option}
 use Rattle.language.specs.Tree.{Tree}
 use Rattle.syntax.specs.Text.{WithinLimits, IsTextOf, Text}
 use Rattle.grammar.specs.Printed.{printed}
@@ -12,11 +12,11 @@ use Rattle.orders.specs.declared.order.Order.{Order}
 use Rattle.orders.specs.declared.order.Order.TheVariants.{Check, Sequential}
 use Rattle.refusals.specs.declared.refusal.Refusal.{Refusal}
 use Rattle.refusals.specs.declared.refusal.Refusal.TheVariants.{Memory}
-use Rattle.cli.specs.declared.reply.Reply.{Reply}
+use Rattle.streams.specs.Replied as replied
+use Rattle.streams.specs.declared.reply.Reply.{Reply}
 use Rattle.cli.specs.Verdict.{Answers}
 use Rattle.refusals.specs.Lines.{NamesOffset, line_of, status_of}
 use Rattle.cli.specs.Refused.{IsPast, RefusalStands}
-use Rattle.cli.specs.Written.{bytes_of}
 
 -- the text is that of a checked program, the bytes are the printed form of its rewriting for K rounds, and within
 -- the limits of texts they are a text of that rewriting, offsets aside
@@ -37,17 +37,21 @@ abbrev pub IsPastLimit : List ℕ → Order → Type 0
 IsPastLimit text order = IsPast text (rounds_of order) (edges_of order)
 
 -- The reply reports this refusal, and is its line with its status.
-abbrev pub TellsRefusal : {A : Type 0} → Refusal → Reply A → Type 0
-TellsRefusal why reply = (bytes_of reply ≡ line_of why) × (reply.status ≡ status_of why) × (reply.refusal ≡ Some why)
+abbrev pub TellsRefusal : {A : Type 0} → Refusal → Reply Refusal A → Type 0
+TellsRefusal why reply = replied.TellsRefusal line_of status_of why reply
 
 -- The reply reports this refusal; or its line names an offset, and the reply says that memory ran out for it.
-abbrev pub TellsOrLacks : {A : Type 0} → Refusal → Reply A → Type 0
+abbrev pub TellsOrLacks : {A : Type 0} → Refusal → Reply Refusal A → Type 0
 TellsOrLacks why reply = TellsRefusal why reply ⊎ (NamesOffset why × TellsRefusal Memory reply)
 
 -- Some refusal stands for K rounds and this limit, and the reply reports it, and is its line with its status.
-abbrev pub RefusesFor : {A : Type 0} → List ℕ → ℕ → Option ℕ → Reply A → Type 0
+abbrev pub RefusesFor : {A : Type 0} → List ℕ → ℕ → Option ℕ → Reply Refusal A → Type 0
 RefusesFor text rounds limit reply = (why : Refusal) × RefusalStands text rounds limit why × TellsRefusal why reply
 
+-- The refusal stands for what was asked.
+abbrev pub Stands : List ℕ → Order → Refusal → Type 0
+Stands text order why = RefusalStands text (rounds_of order) (edges_of order) why
+
 -- Some refusal stands for what was asked, and the reply reports it, and is its line with its status.
-abbrev pub Refuses : {A : Type 0} → List ℕ → Order → Reply A → Type 0
-Refuses text order reply = RefusesFor text (rounds_of order) (edges_of order) reply
+abbrev pub Refuses : {A : Type 0} → List ℕ → Order → Reply Refusal A → Type 0
+Refuses text order reply = replied.Refuses line_of status_of Stands text order reply

@@ -11,7 +11,7 @@ ghost use Rattle.cli.specs.Counts.{procedure_names};
 ghost use Rattle.cli.specs.Replies.{IsPastLimit, IsSequential, Refuses, RefusesFor, Replies};
 ghost use Rattle.cli.specs.Replies.{TellsRefusal, TellsOrLacks};
 ghost use Rattle.cli.specs.Verdict.{Answers};
-ghost use Rattle.cli.specs.Written.{IsReplyWith, bytes_of};
+ghost use Rattle.streams.specs.Written.{IsReplyWith, bytes_of};
 
 use crate::checking::checked;
 use crate::counts::push_counts;

@@ -2,44 +2,17 @@
 
 ghost use Rattle.std.specs.Prelude.{◌≤◌, map};
 ghost use Rattle.std.specs.Fn.{FnOnceReturnsAt};
-ghost use Rattle.std.specs.IoError.{error_kind};
 ghost use Rattle.std.specs.Process.{exit_status};
 ghost use Rattle.std.specs.String.{string_bytes};
-ghost use Rattle.cli.specs.Ended.{EndsAnswered, ProgramEnds, TellsNotPassed};
-ghost use Rattle.cli.specs.Streams.{streams};
+ghost use Rattle.cli.specs.Ended.{EndsAnswered, ProgramEnds};
+ghost use Rattle.streams.specs.Streams.{streams};
 
 use crate::running::run;
-use crate::saying::{say, tell};
-use crate::serving::no_room;
-use crate::sink::Stream;
-use std::alloc::Global;
-use std::env;
-use std::io::{self, ErrorKind, Read};
+use std::io::{self, Read};
 use std::process::ExitCode;
-use std::rt::Env;
 use std::sync::Wait;
 use std::thread::Threads;
-
-/// Replies to words that the system did not pass on, and returns the status: `refused: line` with 2 if one is not
-/// UTF-8, and the reply for lack of memory with 3 otherwise. The reason is written to `log`. If a write to `writer`
-/// fails, the status is 3.
-fn not_passed<W: Stream, L: Stream>(
-    alloc: Global,
-    error: &io::Error,
-    writer: &mut W,
-    log: &mut L,
-) -> u8
-    ensures tells { TellsNotPassed (error_kind error.now)
-        (streams (W.held writer.old) (L.held log.old))
-        (streams (W.held writer.new) (L.held log.new)) result }
-    ensures status { (2 ≤ result) × (result ≤ 3) }
-{
-    if error.kind() != ErrorKind::InvalidData {
-        return no_room(alloc, writer, log);
-    }
-    tell(log, b"error: a word of the command line is no UTF-8\n");
-    say(alloc, writer, log, b"refused: line\n", 2)
-}
+use streams::{Stream, not_passed};
 
 /// The program: does what the words of the command line ask for, with the file that `opener` returns for the path among
 /// them, and returns the exit status.
@@ -66,9 +39,4 @@ where
         Ok(words) => ExitCode::from(run(rt, words.as_slice(), opener, writer, log)),
         Err(error) => ExitCode::from(not_passed(rt.alloc(), &error, writer, log)),
     }
-}
-
-/// The words of the command line, from the system, the program's own name first.
-pub fn words<R: Env + AllocGlobal>(rt: &R) -> io::Result<Vec<String>> {
-    Ok(env::args(rt)?.collect(rt.alloc())?)
 }

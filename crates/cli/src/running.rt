@@ -3,39 +3,15 @@
 ghost use Rattle.std.specs.Prelude.{◌≤◌, map};
 ghost use Rattle.std.specs.Fn.{FnOnceReturnsAt};
 ghost use Rattle.std.specs.String.{string_bytes};
-ghost use Rattle.cli.specs.Ran.{AnswersWords, Declines, RunsWords};
-ghost use Rattle.cli.specs.Streams.{streams};
+ghost use Rattle.cli.specs.Ran.{AnswersWords, RunsWords};
+ghost use Rattle.streams.specs.Streams.{streams};
 
-use crate::saying::{say, tell};
-use crate::serving::{no_room, serve_telling, unread};
-use crate::sink::Stream;
-use command_line::{LineFault, order};
-use std::alloc::Allocator;
+use crate::serving::serve_telling;
+use command_line::order;
 use std::io::{self, Read};
 use std::sync::Wait;
 use std::thread::Threads;
-
-/// Replies to words that give no order, and returns the status: help or the version on `writer` with 0; `refused: line`
-/// with 2, and the reason on `log`; the reply for lack of memory with 3. If a write to `writer` fails, the status is 3,
-/// and the reason is written to `log`, with memory of `alloc`.
-pub fn decline<A: Allocator + Copy, W: Stream, L: Stream>(
-    alloc: A,
-    fault: &LineFault,
-    writer: &mut W,
-    log: &mut L,
-) -> u8
-    ensures { Declines fault.now (streams (W.held writer.old) (L.held log.old))
-        (streams (W.held writer.new) (L.held log.new)) result }
-{
-    match fault {
-        LineFault::Help(text) => say(alloc, writer, log, text.as_bytes(), 0),
-        LineFault::Refused(why) => {
-            tell(log, why.as_bytes());
-            say(alloc, writer, log, b"refused: line\n", 2)
-        }
-        LineFault::Memory => no_room(alloc, writer, log),
-    }
-}
+use streams::{Stream, decline, unread};
 
 /// Does what the words of the command line ask for, the program's own name first. The file that they name is what
 /// `opener` returns for its path. The reply to it goes to `writer`, and the reason why there is no verdict to `log`.

@@ -1,21 +1,17 @@
 //! From a reader and an order to the standard streams and a status.
 
 ghost use Rattle.std.specs.Prelude.{◌≤◌, ℕ, List, []};
-ghost use Rattle.std.specs.IoError.{error_kind};
-ghost use Rattle.cli.specs.Served.{Answered, Serves, TellsUnread, without_memory};
-ghost use Rattle.cli.specs.Streams.{KnownStream, Logs, Says, streams};
+ghost use Rattle.cli.specs.Served.{Answered, Serves};
 ghost use Rattle.cli.specs.Told.{IsMessage};
+ghost use Rattle.streams.specs.Streams.{KnownStream, Logs, streams};
 
 use crate::answers::answer;
-use crate::saying::{say, tell, tell_reason};
-use crate::sink::Stream;
-use crate::source::text_of;
 use orders::Order;
-use refusals::{MEMORY_LINE, NO_MEMORY, Refusal, explain};
-use std::alloc::Allocator;
-use std::io::{self, ErrorKind, Read};
+use refusals::{NO_MEMORY, Refusal, explain};
+use std::io::{self, Read};
 use std::sync::Wait;
 use std::thread::Threads;
+use streams::{Stream, say, tell, text_of, unread};
 
 /// Writes to `log` why a text gets no verdict, if it gets none, or that memory ran out for this message.
 fn tell_why<X: Alloc, L: Stream>(
@@ -39,40 +35,6 @@ where
         Ok(()) => tell(log, message.as_bytes()),
         Err(_) => tell(log, NO_MEMORY.as_bytes()),
     }
-}
-
-/// Replies that memory ran out, and writes the same to `log`.
-pub(crate) fn no_room<A: Allocator + Copy, W: Stream, L: Stream>(
-    alloc: A,
-    writer: &mut W,
-    log: &mut L,
-) -> u8
-    ensures { Says (streams (W.held writer.old) (L.held log.old))
-        (streams (W.held writer.new) (L.held log.new))
-        without_memory result }
-{
-    tell(log, NO_MEMORY.as_bytes());
-    say(alloc, writer, log, MEMORY_LINE.as_bytes(), 3)
-}
-
-/// Replies that a file cannot be opened or read, and writes the system's reason to `log`; if the error is that memory
-/// ran out, it replies that instead. Returns the status: 2, or 3 if memory ran out or a write to `writer` fails.
-pub(crate) fn unread<A: Allocator + Copy, W: Stream, L: Stream>(
-    alloc: A,
-    path: &str,
-    error: &io::Error,
-    writer: &mut W,
-    log: &mut L,
-) -> u8
-    ensures { TellsUnread path.now (error_kind error.now)
-        (streams (W.held writer.old) (L.held log.old))
-        (streams (W.held writer.new) (L.held log.new)) result }
-{
-    if error.kind() == ErrorKind::OutOfMemory {
-        return no_room(alloc, writer, log);
-    }
-    tell_reason(alloc, path, error, log);
-    say(alloc, writer, log, b"refused: file\n", 2)
 }
 
 /// `serve` with the name of what is read, and with a stream to which it writes why there is no verdict, as a compiler

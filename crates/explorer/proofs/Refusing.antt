@@ -14,11 +14,12 @@ use Rattle.exploration.specs.declared.report.NoVerdict.TheVariants as cause
 use Rattle.exploration.specs.declared.report.Report.{Report}
 use Rattle.explorer.specs.Lines.{NamesOffset, answer_line, answer_status, line_behind, line_of, status_of}
 use Rattle.explorer.specs.Refused.{HasPlace, IsProgramOf, IsToldAs, RefusalStands}
-use Rattle.explorer.specs.Replies.{Refuses, Reports, TellsOrLacks, TellsRefusal, bytes_of}
-use Rattle.explorer.specs.declared.order.Order.{Order}
+use Rattle.streams.specs.Written.{bytes_of}
+use Rattle.explorer.specs.Replies.{Refuses, Reports, TellsOrLacks, TellsRefusal}
+use Rattle.explore_line.specs.declared.asked.Order.{Order}
 use Rattle.explorer.specs.declared.refusal.Refusal.{Refusal}
 use Rattle.explorer.specs.declared.refusal.Refusal.TheVariants.{Unread, Unchecked, TooWide, Memory, Limit}
-use Rattle.explorer.specs.declared.reply.Reply.{Reply}
+use Rattle.streams.specs.declared.reply.Reply.{Reply}
 
 -- a fault of scopes that is not lack of memory has its place
 fault_place : (text : List ℕ) (fault : ScopeFault) → NamesOffset (Unchecked fault)
@@ -35,10 +36,10 @@ has_place text (Unchecked fault) names stands = fault_place text fault names sta
 has_place text _ names stands = absurd names
 
 -- what is reported if a refusal stands is a refusal that stands
-pub refuses : {A : Type 0} (text : List ℕ) (why : Refusal) (reply : Reply A) → RefusalStands text why → TellsOrLacks why reply
-    → Refuses text reply
-refuses text why reply stands (inl told) = (why, stands, told)
-refuses text why reply stands (inr lacks) = (Memory, inr (has_place text why lacks.0 stands), lacks.1)
+pub refuses : {A : Type 0} (text : List ℕ) (order : Order) (why : Refusal) (reply : Reply Refusal A) → RefusalStands text why
+    → TellsOrLacks why reply → Refuses text order reply
+refuses text order why reply stands (inl told) = (why, stands, told)
+refuses text order why reply stands (inr lacks) = (Memory, inr (has_place text why lacks.0 stands), lacks.1)
 
 -- a cause that holds is told as a refusal that stands
 pub told_stands : (text : List ℕ) (t : Tree) (cause : NoVerdict) (why : Refusal) → IsProgramOf text t → IsCause t cause
@@ -53,15 +54,15 @@ few Safe = omega arith
 few Unsafe = omega arith
 
 -- what a reply to a report is
-abbrev pub IsReported : {A : Type 0} → Report → Bool → Reply A → Type 0
+abbrev pub IsReported : {A : Type 0} → Report → Bool → Reply Refusal A → Type 0
 IsReported report stats reply =
     (bytes_of reply ≡ answer_line report.answer ++ line_behind stats report) × (reply.status ≡ answer_status report.answer)
     × (reply.refusal ≡ None)
 
 -- a reply to a report with a greater status says that memory ran out
-pub reported_refuses : {A : Type 0} (text : List ℕ) (order : Order) (report : Report) (reply : Reply A) (P : Type 0)
+pub reported_refuses : {A : Type 0} (text : List ℕ) (order : Order) (report : Report) (reply : Reply Refusal A) (P : Type 0)
     → Reports text order report → IsReported report order.stats reply ⊎ P × TellsRefusal Memory reply
-    → 2 ≤ reply.status → Refuses text reply
+    → 2 ≤ reply.status → Refuses text order reply
 reported_refuses text order report reply P is (inl told) many =
     let least = few report.answer in
     let same = told.1 in

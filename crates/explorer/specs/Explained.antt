@@ -7,7 +7,7 @@ use Rattle.diagnostics.specs.Name.{escaped}
 use Rattle.diagnostics.specs.Message.{Locates, of_name}
 use Rattle.refusals.specs.Explained.{ExplainsFault, ExplainsUnread, no_memory}
 use Rattle.exploration.specs.Limits.{most_of}
-use Rattle.explorer.specs.declared.order.Order.{Order}
+use Rattle.explore_line.specs.declared.asked.Order.{Order}
 use Rattle.explorer.specs.declared.refusal.Refusal.{Refusal}
 use Rattle.explorer.specs.declared.refusal.Refusal.TheVariants.{Unread, Unchecked, TooWide, Memory, Limit}
 

@@ -9,23 +9,24 @@ ghost use Rattle.explorer.specs.Lines.{answer_line, answer_status, counts_line, 
 ghost use Rattle.explorer.specs.Lines.{line_behind, rounds_words, yes_or_no};
 ghost use Rattle.explorer.specs.Refused.{IsProgramOf, IsToldAs, RefusalStands};
 ghost use Rattle.explorer.specs.Replies.{Refuses, Replies, Reports, TellsOrLacks, TellsRefusal};
-ghost use Rattle.explorer.specs.Replies.{bytes_of};
+ghost use Rattle.streams.specs.Written.{bytes_of};
 ghost use Rattle.explorer.specs.declared.refusal.Refusal.TheVariants as why;
 
-use crate::order::Order;
 use crate::refusal::{Refusal, line, status};
-use crate::reply::Reply;
+use explore_line::Order;
 use exploration::{Answer, NoVerdict, Report, explore};
+use naming::BySaturation;
 use refusals::MEMORY_LINE;
 use scopes::{Checked, check};
 use source_graphs::wide_procedure;
 use stack_sets::TakesTurns;
 use std::alloc::{AllocError, Allocator};
 use std::borrow::CowSlice;
+use streams::Reply;
 use syntax::read;
 
 /// The reply if an allocation was refused: a fixed text, which takes no memory.
-pub fn no_memory<A: Allocator>() -> Reply<A>
+pub fn no_memory<A: Allocator>() -> Reply<Refusal, A>
     ensures bytes { bytes_of result ≡ memory_line }
     ensures status { result.status ≡ 3 }
     ensures refusal { result.refusal ≡ Some why.Memory }
@@ -39,7 +40,7 @@ pub fn no_memory<A: Allocator>() -> Reply<A>
 
 /// The reply to a text that gets no verdict: the line of the refusal, or, if the line has an offset and memory ran out
 /// for it, the reply for lack of memory.
-fn refused<A: Allocator>(alloc: A, refusal: Refusal) -> Reply<A>
+fn refused<A: Allocator>(alloc: A, refusal: Refusal) -> Reply<Refusal, A>
     ensures { TellsOrLacks refusal result }
 {
     let status = status(&refusal);
@@ -143,7 +144,7 @@ fn with_counts<A: Allocator>(
 }
 
 /// The reply for a report: the answer and, if it is asked for, the counts. Only the counts take memory.
-fn reported<A: Allocator>(alloc: A, report: &Report, stats: bool) -> Reply<A>
+fn reported<A: Allocator>(alloc: A, report: &Report, stats: bool) -> Reply<Refusal, A>
     ensures { (bytes_of result ≡ answer_line report.now.answer ++ line_behind stats report.now)
         × (result.status ≡ answer_status report.now.answer) × (result.refusal ≡ None)
         ⊎ (stats ≡ true) × TellsRefusal why.Memory result }
@@ -153,11 +154,7 @@ fn reported<A: Allocator>(alloc: A, report: &Report, stats: bool) -> Reply<A>
         Answer::Unsafe => ("unsafe\n", 1),
     };
     if !stats {
-        return Reply {
-            bytes: CowSlice::Borrowed(word.as_bytes()),
-            status,
-            refusal: None,
-        };
+        return Reply::fixed(word, status);
     }
     match with_counts(alloc, word, report) {
         Ok(lines) => Reply {
@@ -169,23 +166,33 @@ fn reported<A: Allocator>(alloc: A, report: &Report, stats: bool) -> Reply<A>
     }
 }
 
-/// The reply to a text, by turns that `T` makes. If its status is 0 or 1, the text is that of a checked program, and the
-/// reply is `unsafe` with status 1 if and only if some run of the rounds asked for fails an assert, and otherwise `safe`
-/// with 0; with `stats` a line follows that counts what was explored. If the status is 2, a fault of the text stands, and
-/// the bytes are its line. If it is 3, there is no verdict: memory ran out, or more was found and met than the limit. A
-/// reply with status 2 or 3 has the refusal that stands, and one with 0 or 1 has none.
-pub fn answer<T: TakesTurns<A>, A: Allocator + Copy>(
+/// `answer` by turns that `T` makes.
+pub fn answer_with<T: TakesTurns<A>, A: Allocator + Copy>(
     alloc: A,
     text: &[u8],
     order: Order,
-) -> Reply<A>
+) -> Reply<Refusal, A>
     ensures answers { result.status ≤ 1 → Replies text.now order (bytes_of result) result.status }
     ensures silent { result.status ≤ 1 → result.refusal ≡ None }
-    ensures refuses { 2 ≤ result.status → Refuses text.now result }
+    ensures refuses { 2 ≤ result.status → Refuses text.now order result }
     ensures status { result.status ≤ 3 }
 {
     match explored::<T, A>(alloc, text, order) {
         Ok(report) => reported(alloc, &report, order.stats),
         Err(why) => refused(alloc, why),
     }
+}
+
+/// The reply to a text. If its status is 0 or 1, the text is that of a checked program, and the reply is `unsafe` with
+/// status 1 if and only if some run of the rounds asked for fails an assert, and otherwise `safe` with 0; with `stats` a
+/// line follows that counts what was explored. If the status is 2, a fault of the text stands, and the bytes are its
+/// line. If it is 3, there is no verdict: memory ran out, or more was found and met than the limit. A reply with status
+/// 2 or 3 has the refusal that stands, and one with 0 or 1 has none. It waits for nobody.
+pub fn answer<A: Allocator + Copy>(alloc: A, text: &[u8], order: Order) -> Reply<Refusal, A>
+    ensures answers { result.status ≤ 1 → Replies text.now order (bytes_of result) result.status }
+    ensures silent { result.status ≤ 1 → result.refusal ≡ None }
+    ensures refuses { 2 ≤ result.status → Refuses text.now order result }
+    ensures status { result.status ≤ 3 }
+{
+    answer_with::<BySaturation, A>(alloc, text, order)
 }

@@ -5,9 +5,9 @@ ghost use Rattle.std.specs.String.{string_bytes};
 ghost use Rattle.refusals.specs.Explained.{no_memory};
 ghost use Rattle.explorer.specs.Explained.{Explains, LocatesWide, limit_lines, ways_out, wide_words};
 
-use crate::order::Order;
 use crate::refusal::Refusal;
 use diagnostics::{Wrong, at_offset, push_escaped};
+use explore_line::Order;
 use refusals::{NO_MEMORY, explain_unchecked, explain_unread};
 use resolved::MOST_PLACES;
 use source_graphs::WideProcedure;

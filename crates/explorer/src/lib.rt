@@ -4,12 +4,16 @@
 
 mod answers;
 mod explanation;
-mod order;
+mod program;
 mod refusal;
-mod reply;
+mod running;
+mod serving;
 
-pub use answers::{answer, no_memory};
+pub use answers::{answer, answer_with, no_memory};
 pub use explanation::explain;
-pub use order::Order;
+pub use explore_line::{LineFault, Order, order};
+pub use program::ended;
 pub use refusal::{Refusal, line, status};
-pub use reply::Reply;
+pub use running::run;
+pub use serving::{serve, serve_telling};
+pub use streams::{Reply, Stream, words};

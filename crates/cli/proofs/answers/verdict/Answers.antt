@@ -3,7 +3,7 @@ use Rattle.std.proofs.Common.{Some, inl, inr}
 use Rattle.path_sets.specs.EdgeLimits.{most_of}
 use Rattle.round_rewrite.specs.Programs.{count_of}
 use Rattle.checked.specs.Programs.{checked_tree}
-use Rattle.cli.specs.Written.{bytes_of}
+use Rattle.streams.specs.Written.{bytes_of}
 use Rattle.refusals.specs.declared.refusal.Refusal.TheVariants.{Memory}
 use Rattle.cli.proofs.Answering.{answers, has_each, reported_rewriting}
 use Rattle.cli.proofs.Refusing.{refuses}

@@ -3,7 +3,7 @@ use Rattle.std.proofs.Common.{◌≤◌, inl, map, subst, sym}
 use Rattle.std.specs.Fn.{FnOnceReturnsAt}
 use Rattle.std.specs.String.{string_bytes}
 use Rattle.cli.specs.Ran.{AnswersWords, RunsWords}
-use Rattle.cli.specs.Streams.{streams}
+use Rattle.streams.specs.Streams.{streams}
 use Rattle.cli.proofs.program.ended.Goals as goal
 
 pub returns-in-Ok-clause-ends : goal.returns-in-Ok-clause-ends

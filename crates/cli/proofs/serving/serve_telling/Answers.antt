@@ -1,9 +1,15 @@
 -- The reply is the answer to the text that was read, and the message is about that.
 use Rattle.std.proofs.Common.{inl, subst}
+use Rattle.refusals.specs.Explained.{Explains}
+use Rattle.refusals.specs.Lines.{line_of, status_of}
+use Rattle.cli.specs.Replies.{Replies, Stands}
 use Rattle.cli.specs.Served.{IsReply}
-use Rattle.cli.specs.Streams.{Said, Writes, streams}
-use Rattle.cli.specs.Written.{bytes_of}
-use Rattle.cli.proofs.Giving.{replied}
+use Rattle.streams.specs.Streams.{Said, Writes, streams}
+use Rattle.streams.specs.Written.{bytes_of}
+use Rattle.streams.proofs.Answered.{answered}
+use Rattle.streams.proofs.Giving.{replied}
+use Rattle.cli.proofs.Refusing.{status_many}
+use Rattle.cli.proofs.Within.{within}
 use Rattle.cli.proofs.serving.serve_telling.Goals as goal
 
 pub returns-clause-serves : goal.returns-clause-serves
@@ -14,6 +20,8 @@ returns-clause-serves g c =
     let reply = c.answer-reply.result in
     let of = c.answer-reply.ensures in
     let (message, about, logs) = c.tell_why.ensures in
+    let is_reply = replied Explains Replies Stands line_of status_of path text order reply message of.answers of.silent
+    of.refuses about in
     let said : Said = record { reply = bytes_of reply; status = reply.status; message = message } in
     let told = g.L.Stream.held c.tell_why.new.log in
     let old = streams (g.W.Stream.held c.args.writer.now) told in
@@ -24,8 +32,12 @@ returns-clause-serves g c =
       due = inl (
         c.in-Ok.text.items,
         c.in-Ok.ensures.gave,
-        subst (λ t. IsReply path t order said) c.as_slice-text.ensures.value
-            (replied path text order reply message of.answers of.silent of.refuses about),
+        subst (λ t. IsReply path t order said) c.as_slice-text.ensures.value is_reply,
       );
       says = (told, logs, wrote);
     }
+
+pub returns-clause-answers : goal.returns-clause-answers
+returns-clause-answers g c =
+    answered Explains Replies Stands line_of status_of status_many within c.args.path.now c.args.order _ _ _ _ _
+    (returns-clause-serves g c)
