@@ -17,10 +17,10 @@ use language::Word;
 use std::alloc::{AllocError, Allocator};
 
 /// How many masks may wait for each that has gone into the diagrams.
-const WAITING_PER_MERGED: usize = 64;
+const WAITING_PER_MERGED: usize = 512;
 
 /// The least limit on the number of masks that wait.
-const MIN_WAITING: usize = 5_000;
+const MIN_WAITING: usize = 256;
 
 /// The greatest limit on the number of masks that wait.
 const MAX_WAITING: usize = 1_048_576;
