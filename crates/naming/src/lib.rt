@@ -2,8 +2,9 @@
 //! that are there.
 #![tactic(auto)]
 
-mod adding;
+mod keeping;
 mod listing;
+mod moving;
 mod named;
 mod part;
 mod taking;
