@@ -7,16 +7,15 @@ use Rattle.std.proofs.lemmas.List.{length-append}
 use Rattle.std.proofs.lemmas.Option.{same_Some, slice_get_within, get_or_from_slice_get}
 use Rattle.language.specs.Lists.{Member}
 use Rattle.turns.specs.declared.numbered_frame.NumberedFrame.{NumberedFrame}
-use Rattle.stack_sets.specs.Nodes.{AtNode, HasContent, IsNumbered, IsPrefix, MayAdd, by_number, head_over}
-use Rattle.stack_sets.specs.declared.node.Head.{Head}
+use Rattle.stack_sets.specs.Nodes.{HasContent, IsNumbered, IsPrefix, MayAdd, by_number, head_over}
 use Rattle.stack_sets.specs.declared.node.Node.{Node}
 use Rattle.stack_sets.proofs.NodeLemmas.{last_is}
-use Rattle.naming.specs.Moves.{IsNumber, HasNumber, NoneHas, IsMoved, AreMoved, ReachBelow, ReachesBelow, IsMovedNode, IsKept, AreKept}
+use Rattle.naming.specs.Moves.{IsNumber, HasNumber, NoneHas, IsMoved, ReachBelow, ReachesBelow, IsMovedNode, IsKept, AreKept}
 use Rattle.naming.specs.Moves.{HaveNumbers, MayAddMoved, filled, missing}
 use Rattle.naming.proofs.ListLemmas.{take_one}
 use Rattle.naming.proofs.MoveLemmas.{at_on, prefix_last, moved_as, are_moved_as, moved_back, set_gives, set_keeps}
 use Rattle.naming.proofs.MoveLemmas.{filled_length, filled_has, filled_none, missing_last}
-use Rattle.naming.proofs.PlaceLemmas.{at_is, at_last, at_within, set_here}
+use Rattle.naming.proofs.PlaceLemmas.{at_is, at_last, at_within}
 
 -- the node has this number, and is one of the first so many, or had it before
 abbrev pub Done : List (Option ℕ) → List ℕ → ℕ → ℕ → ℕ → Type 0
@@ -156,14 +155,16 @@ module _ {Alloc : Type 0} (base : ℕ) where
           → AreKept base (IsNumber all) (Done names all (i + 1)) nodes there'
       number_known m has grown = subst (λ l. AreKept base (IsNumber all) (Done names all (i + 1)) nodes l) (sym grown) (record {
         kept = λ j n done.
-            are.kept j n (done.0,
-            elim done.1 [
-              | inl small ↦ elim (last j small) [
-                | inl smaller ↦ inl smaller
-                | inr e ↦ inr (m, subst (λ z. HasNumber names z m) (sym e) has)
-              ]
-              | inr was ↦ inr was
-            ]);
+            are.kept j n (
+              done.0,
+              elim done.1 [
+                | inl small ↦ elim (last j small) [
+                  | inl smaller ↦ inl smaller
+                  | inr e ↦ inr (m, subst (λ z. HasNumber names z m) (sym e) has)
+                ]
+                | inr was ↦ inr was
+              ],
+            );
         moved = are.moved;
       })
 

@@ -1,5 +1,6 @@
 -- Heads over final numbers, final numbers that are given one after another, and lists that go on.
-use Rattle.std.proofs.Common.{◌≡◌, ◌⊎◌, ◌<◌, ◌≤◌, ◌+◌, ◌++◌, ℕ, zero, suc, Option, None, Some, List, [], ◌∷◌, length, take, get_or, slice_get}
+use Rattle.std.proofs.Common.{◌≡◌, ◌⊎◌, ◌<◌, ◌≤◌, ◌+◌, ◌++◌, ℕ, zero, suc, Option, None, Some, List, [], ◌∷◌, length, take, get_or}
+use Rattle.std.proofs.Common.{slice_get}
 use Rattle.std.proofs.Common.{inl, inr, refl, sym, ap, ◌∙◌, subst, arith, append_assoc, append-nil, false}
 use Rattle.std.proofs.Common.{true≢false}
 use Rattle.std.specs.Prelude.{slice_set}

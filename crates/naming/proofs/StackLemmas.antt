@@ -9,7 +9,6 @@ use Rattle.turns.specs.declared.numbered_frame.NumberedFrame.{NumberedFrame}
 use Rattle.turns.proofs.NodeLemmas.{no_more_stacks}
 use Rattle.stack_sets.specs.Nodes.{AtNode, IsPrefix, by_number, head_over}
 use Rattle.stack_sets.specs.Turns.{AreWhole}
-use Rattle.stack_sets.specs.declared.node.Head.{Head}
 use Rattle.stack_sets.specs.declared.node.Node.{Node}
 use Rattle.naming.specs.Moves.{IsMoved, IsKept, AreKept}
 use Rattle.naming.proofs.MoveLemmas.{at_on, at_as, at_both, moved_there, moved_back}
@@ -69,7 +68,8 @@ module _ {Alloc : Type 0} (before nodes there : List (Node Alloc)) (whole : AreW
 
   into : IsSimulation (by_number turn) (by_number there) Under
   into m n (inl (small, same)) = (
-    λ bare. subst (λ z. (by_number there).Bare z) (sym same) (at_on IsBare before there prefix m (at_before IsBare before nodes m small bare)),
+    λ bare.
+        subst (λ z. (by_number there).Bare z) (sym same) (at_on IsBare before there prefix m (at_before IsBare before nodes m small bare)),
     λ f k has.
         let was : (by_number before).Has m f k = at_before (Bears f k) before nodes m small has in (
           k,

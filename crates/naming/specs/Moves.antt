@@ -1,5 +1,5 @@
 -- The final numbers of a turn's nodes, and the nodes whose heads lie over what has them.
-use Rattle.std.specs.Prelude.{◌≡◌, ◌<◌, ◌≤◌, ◌+◌, ◌++◌, ◌⊎◌, ℕ, zero, suc, Option, Some, None, List, [], ◌∷◌, length, slice_get, take}
+use Rattle.std.specs.Prelude.{◌≡◌, ◌<◌, ◌≤◌, ◌+◌, ◌++◌, ◌⊎◌, ℕ, zero, Option, Some, None, List, [], ◌∷◌, length, slice_get}
 use Rattle.language.specs.Lists.{Member}
 use Rattle.turns.specs.declared.numbered_frame.NumberedFrame.{NumberedFrame}
 use Rattle.stack_sets.specs.Nodes.{IsNumbered, by_number, head_over}
@@ -18,8 +18,8 @@ HasNumber names i n = slice_get names i ≡ Some (Some n)
 abbrev pub NoneHas : List (Option ℕ) → Type 0
 NoneHas names = (i n : ℕ) → HasNumber names i n → ⊥
 
--- Where final numbers are given: this is the one of a node. A node from before keeps its own, and the others have that of
--- their index.
+-- Where final numbers are given: this is the one of a node. A node from before keeps its own, and the others have that
+-- of their index.
 abbrev pub IsMoved : ℕ → (ℕ → ℕ → Type 0) → ℕ → ℕ → Type 0
 IsMoved base Is m n = ((m < base) × (n ≡ m)) ⊎ ((i : ℕ) × (m ≡ base + i) × Is i n)
 
@@ -48,7 +48,8 @@ module _ {Alloc : Type 0} (base : ℕ) (Is : ℕ → ℕ → Type 0) where
   abbrev pub IsKept : List (Node Alloc) → Node Alloc → ℕ → Type 0
   IsKept there node n = (heads : List Head) × AreMoved base Is node.heads.items heads × IsNumbered there n node.bare heads
 
-  -- Each node that is done is kept, and each head that was added lies over the final number of what a head of the turn lies over.
+  -- Each node that is done is kept, and each head that was added lies over the final number of what a head of the turn
+  -- lies over.
   pub record AreKept (Done : ℕ → ℕ → Type 0) (nodes there : List (Node Alloc)) : Type 0 where
     pub kept : (i n : ℕ) → Done i n → (node : Node Alloc) × (slice_get nodes i ≡ Some node) × IsKept there node n
     pub moved : (q : ℕ) (f : NumberedFrame) (r : ℕ) → base ≤ q → (by_number there).Has q f r

@@ -1,6 +1,7 @@
 //! The final numbers of a turn's nodes: a node with a content that is known already is the node that has it.
 
-ghost use Rattle.std.specs.Prelude.{◌≡◌, ◌<◌, ◌+◌, ◌++◌, ◌∷◌, [], IfOk, OnOk, Some, length, slice_get};
+ghost use Rattle.std.specs.Prelude.{◌≡◌, ◌<◌, ◌+◌, ◌++◌, ◌∷◌, [], IfOk, OnOk, Some, length};
+ghost use Rattle.std.specs.Prelude.{slice_get};
 ghost use Rattle.std.specs.Prelude.{slice_set};
 ghost use Rattle.naming.specs.Moves.{AreKept, HasNumber, HaveNumbers, IsFilled, IsNumber};
 ghost use Rattle.naming.specs.Moves.{MayAddMoved, NoneHas, ReachBelow, ReachesBelow, filled};

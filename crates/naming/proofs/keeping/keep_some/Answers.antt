@@ -1,5 +1,5 @@
 use Rattle.stack_sets.specs.Nodes.{nodes_in}
-use Rattle.naming.proofs.MoveLemmas.{prefix_on, prefix_same}
+use Rattle.naming.proofs.MoveLemmas.{prefix_same}
 use Rattle.naming.proofs.keeping.keep_some.Goals as goal
 
 pub loop-index-init : goal.loop-index-init
