@@ -1,7 +1,8 @@
 //! Path edges that are gathered, in batches, before they go into the diagrams.
 
 ghost use Rattle.std.specs.Prelude.{◌≡◌, ◌<◌, ℕ, [], Some, length, slice_get, IfOk, OnErr};
-ghost use Rattle.std.specs.Prelude.{◌≤◌, ◌⊎◌, ◌↔◌, ◌+◌, ◌-◌, ◌^◌, min, IfSome, IsNone, IsSome, IsTrue, OnOk};
+ghost use Rattle.std.specs.Prelude.{◌≤◌, ◌⊎◌, ◌↔◌, ◌+◌, ◌-◌, ◌^◌, min, IfSome, IsNone, IsSome};
+ghost use Rattle.std.specs.Prelude.{IsTrue, OnOk};
 ghost use Rattle.std.specs.Bool.{OnTrue};
 ghost use Rattle.std.specs.Map.{keys_of};
 ghost use Rattle.language.specs.Lists.{Member};
