@@ -1,4 +1,5 @@
-# Where the proved program is, and whether it is built from the sources as they are. For the launcher and ./build, which set `root`.
+# Where a proved program is, and whether it is built from the sources as they are. For the launcher and ./build, which set `root`, and
+# `name`, the name of the program.
 
 # What ./build makes is in a folder of its own: below .git, where neither git nor the checks of the toolchain look.
 if [ -n "${BEBOPK_OUT:-}" ]; then
@@ -8,7 +9,7 @@ elif [ -d "$root/.git" ]; then
 else
   out=$root/out
 fi
-program=$out/bebopk
+program=$out/$name
 
 # Sets `kit` to the path of rt, or to nothing if there is none.
 find_kit() {

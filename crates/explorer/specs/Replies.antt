@@ -14,8 +14,8 @@ use Rattle.explorer.specs.declared.refusal.Refusal.TheVariants.{Memory}
 use Rattle.streams.specs.Replied as replied
 use Rattle.streams.specs.declared.reply.Reply.{Reply}
 
--- The text is that of a checked program whose procedures have at most 128 places each, of which this report is right for the rounds asked for: it says `Unsafe` if and
--- only if some run of them fails an assert.
+-- The text is that of a checked program whose procedures have at most 128 places each, of which this report is right
+-- for the rounds asked for: it says `Unsafe` if and only if some run of them fails an assert.
 pub record Reports (text : List ℕ) (order : Order) (report : Report) : Type 0 where
   pub tree : Tree
   pub of : IsProgramOf text tree

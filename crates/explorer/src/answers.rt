@@ -13,8 +13,8 @@ ghost use Rattle.streams.specs.Written.{bytes_of};
 ghost use Rattle.explorer.specs.declared.refusal.Refusal.TheVariants as why;
 
 use crate::refusal::{Refusal, line, status};
-use explore_line::Order;
 use exploration::{Answer, NoVerdict, Report, explore};
+use explore_line::Order;
 use naming::BySaturation;
 use refusals::MEMORY_LINE;
 use scopes::{Checked, check};
@@ -130,11 +130,7 @@ fn push_found<A: Allocator>(lines: &mut String<A>, report: &Report) -> Result<()
 }
 
 /// The verdict, followed by the counts of the exploration.
-fn with_counts<A: Allocator>(
-    alloc: A,
-    word: &str,
-    report: &Report,
-) -> Result<String<A>, AllocError>
+fn with_counts<A: Allocator>(alloc: A, word: &str, report: &Report) -> Result<String<A>, AllocError>
     ensures { IfOk result (λ s. string_bytes s ≡ word.now ++ counts_line report.now) }
 {
     let mut lines = String::from_str(alloc, word)?;
@@ -184,8 +180,8 @@ pub fn answer_with<T: TakesTurns<A>, A: Allocator + Copy>(
 }
 
 /// The reply to a text. If its status is 0 or 1, the text is that of a checked program, and the reply is `unsafe` with
-/// status 1 if and only if some run of the rounds asked for fails an assert, and otherwise `safe` with 0; with `stats` a
-/// line follows that counts what was explored. If the status is 2, a fault of the text stands, and the bytes are its
+/// status 1 if and only if some run of the rounds asked for fails an assert, and otherwise `safe` with 0; with `stats`
+/// a line follows that counts what was explored. If the status is 2, a fault of the text stands, and the bytes are its
 /// line. If it is 3, there is no verdict: memory ran out, or more was found and met than the limit. A reply with status
 /// 2 or 3 has the refusal that stands, and one with 0 or 1 has none. It waits for nobody.
 pub fn answer<A: Allocator + Copy>(alloc: A, text: &[u8], order: Order) -> Reply<Refusal, A>

@@ -3,7 +3,8 @@
 ghost use Rattle.std.specs.Prelude.{◌≡◌, ◌++◌, IfOk, OnOk};
 ghost use Rattle.std.specs.String.{string_bytes};
 ghost use Rattle.refusals.specs.Explained.{no_memory};
-ghost use Rattle.explorer.specs.Explained.{Explains, LocatesWide, limit_lines, ways_out, wide_words};
+ghost use Rattle.explorer.specs.Explained.{Explains, LocatesWide, limit_lines, ways_out};
+ghost use Rattle.explorer.specs.Explained.{wide_words};
 
 use crate::refusal::Refusal;
 use diagnostics::{Wrong, at_offset, push_escaped};

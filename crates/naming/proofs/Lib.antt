@@ -3,4 +3,7 @@ pub mod ListLemmas
 pub mod PartLemmas
 pub mod HoldLemmas
 pub mod NamedLemmas
+pub mod MoveLemmas
+pub mod KeepLemmas
+pub mod StackLemmas
 pub mod TurnLemmas

@@ -1,8 +1,8 @@
 -- The named sets of a turn have the stacks with which it can end.
 use Rattle.std.proofs.Common.{◌≡◌, ◌↔◌, ◌<◌, ◌+◌, ◌++◌, ℕ, List, [], ◌∷◌, true, Some, slice_get, length, inl, inr, refl, sym, ap, ◌∙◌}
-use Rattle.std.proofs.Common.{subst, arith}
+use Rattle.std.proofs.Common.{subst, get_or, arith}
 use Rattle.std.proofs.lemmas.List.{length-append}
-use Rattle.std.proofs.lemmas.Option.{same_Some, slice_get_within}
+use Rattle.std.proofs.lemmas.Option.{same_Some, slice_get-get_or, slice_get_within}
 use Rattle.language.specs.Lists.{Member}
 use Rattle.turns.specs.Machines.{Machine}
 use Rattle.turns.specs.Parts as sets
@@ -15,7 +15,7 @@ use Rattle.turns.proofs.FailLemmas.{has_below}
 use Rattle.turns.proofs.NodeLemmas.{no_more_stacks}
 use Rattle.turns.proofs.PartLemmas.{into, named_stacks}
 use Rattle.turns.proofs.TurnLemmas.{found_ends}
-use Rattle.stack_sets.specs.Nodes.{by_number, head_over}
+use Rattle.stack_sets.specs.Nodes.{IsPrefix, by_number, head_over}
 use Rattle.stack_sets.specs.Turns.{AreWhole, AreEndings}
 use Rattle.stack_sets.specs.declared.node.Node.{Node}
 use Rattle.stack_sets.specs.declared.turn.Ending as endings
@@ -24,10 +24,12 @@ use Rattle.saturation.specs.declared.item.Item.{Item}
 use Rattle.naming.specs.declared.named.Named as kept
 use Rattle.naming.specs.declared.part.Part.{Part}
 use Rattle.naming.specs.declared.part.Part.TheVariants.{Call, Ending}
-use Rattle.naming.specs.Names.{put, IsAt, HasName, IsLevel, AreListed}
+use Rattle.naming.specs.Moves.{IsNumber, ReachBelow, AreKept}
+use Rattle.naming.specs.Names.{put, IsAt, HasName, IsEndingAt, IsLevel, AreListed}
 use Rattle.naming.specs.Holds.{HasEnding, Holds, HaveSome, HoldsFor}
 use Rattle.naming.proofs.HoldLemmas.{holds_as, ending_as}
 use Rattle.naming.proofs.PlaceLemmas.{at_within, at_left, at_before, at_right, right_at, at_either}
+use Rattle.naming.proofs.StackLemmas.{kept_stacks, kept_within, kept_whole}
 
 -- what lies below a frame
 abbrev Lower : Type 0
@@ -199,37 +201,66 @@ module _ {Alloc : Type 0} (m : Machine ℕ NumberedFrame) (before : List (Node A
   ending_stacks h n at stack =
       named_stacks (by_number before) Is (by_number after) Named (record { there = there; back = back }) h n at stack
 
-  ending_at : (h : ℕ) (stack : List NumberedFrame) → IsStackOf (by_number before) Is h stack → (n : ℕ) × IsAt base parts (Ending h) n
-  ending_at h [] found = let (i, at, bare) = holds.bare_all h found in (base + i, (i, at, refl))
-  ending_at h (f ∷ fs) (b, found, lies) =
-      let (i, k, at, has, name) = holds.heads_all (Ending h) f b found in (base + i, (i, at, refl))
+  ending_at : (h : ℕ) (stack : List NumberedFrame) → IsStackOf (by_number before) Is h stack
+      → (i : ℕ) × (slice_get parts i ≡ Some (Ending h))
+  ending_at h [] found = let (i, at, bare) = holds.bare_all h found in (i, at)
+  ending_at h (f ∷ fs) (b, found, lies) = let (i, k, at, has, name) = holds.heads_all (Ending h) f b found in (i, at)
 
   some_stack : (h : ℕ) → HasEnding Is h → (stack : List NumberedFrame) × IsStackOf (by_number before) Is h stack
   some_stack h (inl found) = ([], found)
   some_stack h (inr (f, b, found)) = let (fs, lies) = lies_below (Ending h) f b found in (f ∷ fs, (b, found, lies))
 
-  pub are_endings : HaveSome Is parts → (listed : List endings.Ending) → AreListed base parts listed
-      → AreEndings m before after g0 start listed
-  are_endings some listed all = record {
-    only = λ h n stack member inside.
-        (found_ends m (by_number before) g0 start h stack).0 ((ending_stacks h n ((all h n).0 member) stack).0 inside);
-    all = λ h stack ends.
-        let is = (found_ends m (by_number before) g0 start h stack).1 ends in
-        let (n, at) = ending_at h stack is in
-        (n, (all h n).1 at, (ending_stacks h n at stack).1 is);
-    within = λ h n member. at_small (Ending h) n ((all h n).0 member);
-    some = λ h n member.
-        let at = (all h n).0 member in
-        let (stack, is) = some_stack h (some at.0 h at.1) in
-        (stack, (ending_stacks h n at stack).1 is);
-  }
+  -- the nodes of the turn reach no further than to each other
+  pub turn_reaches : ReachBelow (base + length nodes) nodes
+  turn_reaches i f r has =
+      let small : r < length after = after_whole.within (base + i) f r (at_right (Bears f r) before nodes i has) in
+      omega (arith, small, length-append before nodes)
+
+  -- ---- the nodes that are kept for them
+
+  module _ (there : List (Node Alloc)) (prefix : IsPrefix before there) (names : List ℕ) (count : length names ≡ length nodes)
+      (kept : AreKept base (IsNumber names) (IsNumber names) nodes there) where
+    pub there_whole : AreWhole there
+    there_whole = kept_whole before nodes there whole prefix (IsNumber names) kept after_whole
+
+    -- each ending has a number
+    named_at : (i h : ℕ) → slice_get parts i ≡ Some (Ending h) → (n : ℕ) × IsNumber names i n
+    named_at i h at =
+        let small : i < length parts = slice_get_within parts i (Ending h) at in
+        let small' : i < length names = omega (arith, small, level, count) in
+        (get_or names i 0, slice_get-get_or names i 0 small')
+
+    there_stacks : (h n : ℕ) → IsEndingAt names parts h n → (stack : List NumberedFrame)
+        → InNode (by_number there) n stack ↔ IsStackOf (by_number before) Is h stack
+    there_stacks h n (i, at, name) stack =
+        let first = kept_stacks before nodes there whole prefix (IsNumber names) kept (base + i) n (inr (i, refl, name)) stack in
+        let second = ending_stacks h (base + i) (i, at, refl) stack in
+        (λ inside. second.0 (first.0 inside), λ is. first.1 (second.1 is))
+
+    pub are_endings : HaveSome Is parts → (listed : List endings.Ending) → AreListed names parts listed
+        → AreEndings m before there g0 start listed
+    are_endings some listed all = record {
+      only = λ h n stack member inside.
+          (found_ends m (by_number before) g0 start h stack).0 ((there_stacks h n ((all h n).0 member) stack).0 inside);
+      all = λ h stack ends.
+          let is = (found_ends m (by_number before) g0 start h stack).1 ends in
+          let (i, at) = ending_at h stack is in
+          let (n, name) = named_at i h at in
+          (n, (all h n).1 (i, at, name), (there_stacks h n (i, at, name) stack).1 is);
+      within = λ h n member.
+          let (i, at, name) = (all h n).0 member in
+          kept_within before nodes there whole prefix (IsNumber names) kept (base + i) n (inr (i, refl, name));
+      some = λ h n member.
+          let at = (all h n).0 member in
+          let (stack, is) = some_stack h (some at.0 h at.1) in
+          (stack, (there_stacks h n at stack).1 is);
+    }
 
 -- ---- the whole turn
 
-module _ {Alloc : Type 0} (m : Machine ℕ NumberedFrame) (before after : List (Node Alloc)) (g0 start : ℕ) (whole : AreWhole before)
+module _ {Alloc : Type 0} (m : Machine ℕ NumberedFrame) (before : List (Node Alloc)) (g0 start : ℕ) (whole : AreWhole before)
     (items : List Item) (all : (x : Found) → IsAmong items x ↔ turn.Found m (by_number before) g0 start x) (n : ℕ)
-    (is_base : n ≡ length before) (named : kept.Named Alloc) (level : IsLevel named) (holds : HoldsFor n items named)
-    (grown : after ≡ before ++ named.nodes.items) where
+    (is_base : n ≡ length before) (named : kept.Named Alloc) (level : IsLevel named) (holds : HoldsFor n items named) where
   holds_found : Holds (turn.Found m (by_number before) g0 start) (length before) named.parts.keys named.nodes.items
   holds_found =
       holds_as (length before) (IsAmong items) (turn.Found m (by_number before) g0 start) (λ x is. (all x).0 is) (λ x is. (all x).1 is)
@@ -239,14 +270,25 @@ module _ {Alloc : Type 0} (m : Machine ℕ NumberedFrame) (before after : List (
   some_found : HaveSome (turn.Found m (by_number before) g0 start) named.parts.keys
   some_found i h at = ending_as (IsAmong items) (turn.Found m (by_number before) g0 start) (λ x is. (all x).0 is) h (holds.1 i h at)
 
-  -- the nodes after the turn are whole
-  pub whole_then : AreWhole after
-  whole_then = subst AreWhole (sym grown)
-      (after_whole m before g0 start whole named.parts.keys named.nodes.items level holds_found)
+  -- heads lie over nodes that get final numbers
+  pub reach_then : ReachBelow (n + length named.nodes.items) named.nodes.items
+  reach_then = subst (λ b. ReachBelow (b + length named.nodes.items) named.nodes.items) (sym is_base)
+      (turn_reaches m before g0 start whole named.parts.keys named.nodes.items level holds_found)
 
-  -- and the listed endings are those of the turn
-  pub endings_then : (listed : List endings.Ending) → AreListed n named.parts.keys listed
-      → AreEndings m before after g0 start listed
-  endings_then listed is = subst (λ l. AreEndings m before l g0 start listed) (sym grown)
-      (are_endings m before g0 start whole named.parts.keys named.nodes.items level holds_found some_found listed
-      (subst (λ b. AreListed b named.parts.keys listed) is_base is))
+  module _ (there : List (Node Alloc)) (prefix : IsPrefix before there) (names : List ℕ)
+      (count : length names ≡ length named.nodes.items)
+      (are : AreKept n (IsNumber names) (IsNumber names) named.nodes.items there) where
+    are_kept : AreKept (length before) (IsNumber names) (IsNumber names) named.nodes.items there
+    are_kept = subst (λ b. AreKept b (IsNumber names) (IsNumber names) named.nodes.items there) is_base are
+
+    -- the nodes after the turn are whole
+    pub whole_then : AreWhole there
+    whole_then =
+        there_whole m before g0 start whole named.parts.keys named.nodes.items level holds_found there prefix names count are_kept
+
+    -- and the listed endings are those of the turn
+    pub endings_then : (listed : List endings.Ending) → AreListed names named.parts.keys listed
+        → AreEndings m before there g0 start listed
+    endings_then listed is =
+        are_endings m before g0 start whole named.parts.keys named.nodes.items level holds_found there prefix names count are_kept
+        some_found listed is

@@ -29,14 +29,18 @@ module _ (base : ℕ) (parts : List Part) where
   HasName (turn.old q) n = n ≡ q
   HasName (turn.call g e) n = IsAt (Call (record { globals = g; frame = e })) n
 
-  -- the endings are those of the sets, each with the number of its node
-  abbrev pub AreListed : List sets.Ending → Type 0
-  AreListed endings = (h m : ℕ) → Member (ending h m) endings ↔ IsAt (Ending h) m
+-- the ending with these globals is among the sets, and this is the number of its node among those that are given
+abbrev pub IsEndingAt : List ℕ → List Part → ℕ → ℕ → Type 0
+IsEndingAt names parts h m = (i : ℕ) × (slice_get parts i ≡ Some (Ending h)) × (slice_get names i ≡ Some m)
 
--- the set at an index is listed if it is an ending
-abbrev pub IsListed : ℕ → ℕ → Part → List sets.Ending → List sets.Ending → Type 0
-IsListed base index (Call entry) old new = new ≡ old
-IsListed base index (Ending g) old new = new ≡ old ++ ending g (base + index) ∷ []
+-- the endings are those of the sets, each with the number of its node
+abbrev pub AreListed : List ℕ → List Part → List sets.Ending → Type 0
+AreListed names parts endings = (h m : ℕ) → Member (ending h m) endings ↔ IsEndingAt names parts h m
+
+-- the set with this number is listed if it is an ending
+abbrev pub IsListed : ℕ → Part → List sets.Ending → List sets.Ending → Type 0
+IsListed n (Call entry) old new = new ≡ old
+IsListed n (Ending g) old new = new ≡ old ++ ending g n ∷ []
 
 -- how many of the sets are endings
 abbrev pub endings_in : List Part → ℕ

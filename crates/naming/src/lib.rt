@@ -1,9 +1,10 @@
-//! A turn's sets of stacks as nodes: what saturation finds from globals and a node is named, and put behind the nodes
-//! that are there.
+//! A turn's sets of stacks as nodes: what saturation finds from globals and a node is named, and kept as nodes that are
+//! there, or behind them.
 #![tactic(auto)]
 
-mod adding;
+mod keeping;
 mod listing;
+mod moving;
 mod named;
 mod part;
 mod taking;

@@ -1,10 +1,10 @@
 //! The endings of a turn.
 
-ghost use Rattle.std.specs.Prelude.{◌≡◌, ◌++◌, ◌∷◌, [], IfOk, OnOk, length};
+ghost use Rattle.std.specs.Prelude.{◌≡◌, ◌<◌, ◌++◌, ◌∷◌, [], IfOk, OnOk, Some, length, slice_get};
 ghost use Rattle.naming.specs.Names.{AreListed, IsListed, endings_in};
 
-use crate::part::{Part, node_at};
-use stack_sets::{Ending, NoTurn};
+use crate::part::Part;
+use stack_sets::Ending;
 use std::alloc::{AllocError, Allocator};
 
 /// Adds an ending.
@@ -15,17 +15,23 @@ fn add<A: Allocator>(endings: &mut Vec<Ending, A>, ending: Ending) -> Result<(),
     Ok(())
 }
 
-/// Adds the ending of a set at an index, if it is an ending.
+/// The number at an index.
+fn name_of(names: &[usize], index: usize) -> usize
+    requires { index < length names.now }
+    ensures { slice_get names.now index ≡ Some result }
+{
+    names[index]
+}
+
+/// Adds the ending of a set with the number of its node, if it is an ending.
 fn list_part<A: Allocator>(
     endings: &mut Vec<Ending, A>,
-    base: usize,
-    index: usize,
+    node: usize,
     part: Part,
-) -> Result<(), NoTurn>
-    ensures { OnOk result (IsListed base index part endings.old.items endings.new.items) }
+) -> Result<(), AllocError>
+    ensures { OnOk result (IsListed node part endings.old.items endings.new.items) }
 {
     if let Part::Ending(globals) = part {
-        let node = node_at(base, index)?;
         add(endings, Ending { globals, node })?;
     }
     Ok(())
@@ -34,15 +40,16 @@ fn list_part<A: Allocator>(
 /// The endings of a turn, each with the node of its stacks.
 pub(crate) fn list_endings<A: Allocator>(
     alloc: A,
-    base: usize,
+    names: &[usize],
     parts: &[Part],
-) -> Result<Vec<Ending, A>, NoTurn>
-    ensures listed { IfOk result (λ endings. AreListed base parts.now endings.items) }
+) -> Result<Vec<Ending, A>, AllocError>
+    requires { length names.now ≡ length parts.now }
+    ensures listed { IfOk result (λ endings. AreListed names.now parts.now endings.items) }
     ensures count { IfOk result (λ endings. length endings.items ≡ endings_in parts.now) }
 {
     let mut endings = Vec::new(alloc);
     for (index, part) in parts.iter().enumerate() {
-        list_part(&mut endings, base, index, *part)?;
+        list_part(&mut endings, name_of(names, index), *part)?;
     }
     Ok(endings)
 }

@@ -5,7 +5,7 @@ ghost use Rattle.stack_sets.specs.Comes.{ComesTo};
 ghost use Rattle.stack_sets.specs.Nodes.{IsPrefix, nodes_in};
 ghost use Rattle.stack_sets.specs.Turns.{AreWhole, machine_by};
 
-use crate::adding::add_all;
+use crate::keeping::keep_all;
 use crate::listing::list_endings;
 use crate::named::name_all;
 use flow_graph::{Asserts, Graphs};
@@ -32,8 +32,8 @@ impl<A: Allocator + Copy> TakesTurns<A> for BySaturation {
         };
         let base = sets.len();
         let named = name_all(alloc, base, items.as_slice())?;
-        let endings = list_endings(alloc, base, named.parts.as_slice())?;
-        add_all(sets, named.nodes)?;
+        let names = keep_all(alloc, base, named.nodes.as_slice(), sets)?;
+        let endings = list_endings(alloc, names.as_slice(), named.parts.as_slice())?;
         Ok(Turn::Ends(endings))
     }
 }

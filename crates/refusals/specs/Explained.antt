@@ -25,7 +25,8 @@ use Rattle.checked.specs.Checked.{offset}
 use Rattle.fault_details.specs.Deep.{GetsDeep}
 use Rattle.fault_details.specs.Details.{CountsGlobals, CountsThreads, Says}
 use Rattle.hints.specs.Hint.{AddsHint}
-use Rattle.refusals.specs.declared.explanation.TheConstants.{ALL_ASCII, BYTES, EDGES, FEWER, FEWER_END, HIGHER, LESS_OPEN, MAIN}
+use Rattle.refusals.specs.declared.explanation.TheConstants.{ALL_ASCII, BYTES, EDGES, EXPLORE, FEWER, FEWER_END, HIGHER}
+use Rattle.refusals.specs.declared.explanation.TheConstants.{LESS_OPEN, MAIN}
 use Rattle.refusals.specs.declared.explanation.TheConstants.{MARKED, NO_HIGHER, NO_MEMORY, ONE_ROUND, OPEN}
 use Rattle.refusals.specs.declared.explanation.TheConstants.{PLACES, PLACES_END, ROUNDS, RUN, SHORTER, TOO_DEEP, TOO_LONG, WIDE}
 use Rattle.refusals.specs.declared.explanation.TheConstants.{WIDE_CHARACTERS}
@@ -88,6 +89,10 @@ fewer rounds threads =
 abbrev pub ways_out : ℕ → List ℕ
 ways_out most = if most == most_edges then NO_HIGHER.now else HIGHER.now ++ (decimal most_edges ++ codes "\n")
 
+-- what to run if a limit of path edges was passed
+abbrev pub explore_hint : List ℕ → List ℕ
+explore_hint path = EXPLORE.now ++ (escaped path ++ codes "\n")
+
 -- the line about `main__`, which has no place, and has more path edges than this
 abbrev pub main_line : List ℕ → ℕ → List ℕ
 main_line path most =
@@ -103,7 +108,7 @@ TellsOver path text at most old new =
 abbrev pub ExplainsOver : List ℕ → List ℕ → Option ℕ → ℕ → ℕ → List ℕ → List ℕ → Type 0
 ExplainsOver path text at rounds most old new =
     (told : List ℕ) × TellsOver path text at most old told
-    × ((threads : ℕ) × CountsThreads text threads × (new ≡ (told ++ ways_out most) ++ fewer rounds threads))
+    × ((threads : ℕ) × CountsThreads text threads × (new ≡ ((told ++ ways_out most) ++ fewer rounds threads) ++ explore_hint path))
 
 -- For a passed limit of path edges it is said which procedure passed it, and then what helps; nothing for an order
 -- without such a limit.

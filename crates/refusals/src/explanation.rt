@@ -4,8 +4,8 @@ ghost use Rattle.std.specs.Prelude.{◌≡◌, ◌++◌, OnOk};
 ghost use Rattle.std.specs.String.{string_bytes};
 ghost use Rattle.refusals.specs.Explained.{Explains, ExplainsFault, ExplainsLimit, ExplainsOver};
 ghost use Rattle.refusals.specs.Explained.{LocatesFault};
-ghost use Rattle.refusals.specs.Explained.{ExplainsUnread, TellsOver, ascii_hint, fewer, is_memory};
-ghost use Rattle.refusals.specs.Explained.{no_memory};
+ghost use Rattle.refusals.specs.Explained.{ExplainsUnread, TellsOver, ascii_hint, explore_hint};
+ghost use Rattle.refusals.specs.Explained.{fewer, is_memory, no_memory};
 ghost use Rattle.diagnostics.specs.Name.{escaped};
 ghost use Rattle.orders.specs.Parts.{rounds_of};
 ghost use Rattle.refusals.specs.Explained.{ExplainsDepth, ExplainsWide, LocatesDepth, LocatesWide};
@@ -43,6 +43,9 @@ const FEWER: &str = "hint: fewer rounds than ";
 
 const FEWER_END: &str =
     " may answer, and another order of the thread lines may need fewer rounds\n";
+
+/// What helps if a limit of path edges was passed, whatever was asked: another program; the name of the file follows.
+const EXPLORE: &str = "hint: a search without copies of the globals may answer: bebopk-explore ";
 
 /// What is said of places: how many the globals take, and the others, come between.
 const PLACES: &str = "hint: a place is a variable of the sequential program: the globals take ";
@@ -289,6 +292,16 @@ fn push_ways_out<A: Allocator>(message: &mut String<A>, edges: u32) -> Result<()
     }
 }
 
+/// Writes what to run if a limit of path edges was passed.
+fn push_explore<A: Allocator>(message: &mut String<A>, path: &str) -> Result<(), AllocError>
+    ensures { OnOk result (string_bytes message.new
+        ≡ string_bytes message.old ++ explore_hint path.now) }
+{
+    message.push_str(EXPLORE)?;
+    push_escaped(message, path)?;
+    message.push_str("\n")
+}
+
 /// Writes that `main__` has more path edges than a limit.
 fn push_main<A: Allocator>(
     message: &mut String<A>,
@@ -364,7 +377,8 @@ fn over_limit<A: Allocator + Copy>(
     let threads = threads_in(alloc, text)?;
     over(message, path, text, at, edges)?;
     push_ways_out(message, edges)?;
-    push_fewer(message, rounds, threads)
+    push_fewer(message, rounds, threads)?;
+    push_explore(message, path)
 }
 
 /// How many rounds an order names.

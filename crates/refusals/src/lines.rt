@@ -67,7 +67,10 @@ fn located<A: Allocator>(
 }
 
 /// The line of a text that is not read. Only a line with an offset takes memory.
-pub fn unread_line<A: Allocator>(alloc: A, fault: &ReadFault) -> Result<CowSlice<'static, u8, A>, AllocError>
+pub fn unread_line<A: Allocator>(
+    alloc: A,
+    fault: &ReadFault,
+) -> Result<CowSlice<'static, u8, A>, AllocError>
     ensures line { IfOk result (λ line. cow_slice_items line ≡ unread_line fault.now) }
     ensures memory { IfErr result (λ _. NamesOffset (why.Unread fault.now)) }
 {

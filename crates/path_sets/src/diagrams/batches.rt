@@ -1,7 +1,8 @@
 //! Path edges that are gathered, in batches, before they go into the diagrams.
 
 ghost use Rattle.std.specs.Prelude.{◌≡◌, ◌<◌, ℕ, [], Some, length, slice_get, IfOk, OnErr};
-ghost use Rattle.std.specs.Prelude.{◌≤◌, ◌⊎◌, ◌↔◌, ◌+◌, ◌-◌, ◌^◌, min, IfSome, IsNone, IsSome, IsTrue, OnOk};
+ghost use Rattle.std.specs.Prelude.{◌≤◌, ◌⊎◌, ◌↔◌, ◌+◌, ◌-◌, ◌^◌, min, IfSome, IsNone, IsSome};
+ghost use Rattle.std.specs.Prelude.{IsTrue, OnOk};
 ghost use Rattle.std.specs.Bool.{OnTrue};
 ghost use Rattle.std.specs.Map.{keys_of};
 ghost use Rattle.language.specs.Lists.{Member};
@@ -17,10 +18,10 @@ use language::Word;
 use std::alloc::{AllocError, Allocator};
 
 /// How many masks may wait for each that has gone into the diagrams.
-const WAITING_PER_MERGED: usize = 64;
+const WAITING_PER_MERGED: usize = 512;
 
 /// The least limit on the number of masks that wait.
-const MIN_WAITING: usize = 5_000;
+const MIN_WAITING: usize = 256;
 
 /// The greatest limit on the number of masks that wait.
 const MAX_WAITING: usize = 1_048_576;

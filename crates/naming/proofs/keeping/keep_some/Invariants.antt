@@ -1,0 +1,9 @@
+use Rattle.stack_sets.specs.Nodes.{IsPrefix, nodes_in}
+use Rattle.naming.specs.Moves.{HaveNumbers}
+use Rattle.naming.proofs.keeping.keep_some.Given as goal
+
+abbrev pub invariant-loop-index : goal.invariant-loop-index
+invariant-loop-index g l = record {
+  kept : HaveNumbers l.base l.nodes l.names (nodes_in l.sets);
+  keeps : IsPrefix (nodes_in l.fn.sets) (nodes_in l.sets);
+}
