@@ -10,7 +10,7 @@ from programs import handshake  # noqa: E402
 # `said` is what standard error must have among its text, if anything.
 Shape = collections.namedtuple("Shape", "name text words reply why said", defaults=[""])
 SKIP = "t() begin skip; end thread t;"
-# Rounds for a program of one thread, which settles.
+# Rounds for a program that settles.
 SETTLES = (1, 2, 3, 4294967295, "all")
 
 
@@ -125,12 +125,12 @@ def threads():
     text = "decl x; a() begin skip; end b() begin assume(x); assert(0); end c() begin x := 1; end thread a; thread b; thread c;"
     yield from turns_at("a thread that has ended", text, 2, "b is before c, and a needs no turn")
     text = "decl x, y; a() begin x := 1; end b() begin assume(x); y := 1; assume(!x); assert(0); end thread a; thread b;"
-    yield from safe("none left to write", text, "a has ended, and x stays 1", (1, 2, 3, 8))
+    yield from safe("none left to write", text, "a has ended, and x stays 1", SETTLES)
     text = "decl x; t() begin x := !x; assert(x); end thread t; thread t;"
     yield from turns_at("two of one procedure", text, 1, "the second turns x back before the assert of the first, or its own")
     text = "t() begin decl v; assert(!v); v := 1; assert(v); end thread t; thread t;"
-    yield from safe("two of one procedure, locals", text, "each thread has locals of its own", (1, 2, 3, 8))
-    for waits in (0, 1, 2, 3, 5, 9):
+    yield from safe("two of one procedure, locals", text, "each thread has locals of its own", SETTLES)
+    for waits in (0, 1, 2, 3, 5, 9, 30):
         why = "each wait needs a round of its own, and the last one more"
         yield from turns_at(f"handshake, {waits} waits", handshake(waits), waits + 2, why)
     names = [f"x{n}" for n in range(8)]
