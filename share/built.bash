@@ -18,7 +18,11 @@ find_kit() {
 }
 
 # Prints when each file whose path is in `$out/files` was last changed. A copy can keep an older time of writing, but not this one.
-change_times() { (cd "$root" && exec xargs -0 stat -Lc '%.9Z %n' --) < "$out/files" 2> /dev/null; }
+# The shell in which it runs ends with it, since one more process takes a millisecond.
+change_times() {
+  local files
+  mapfile -d '' -t files < "$out/files" && cd "$root" && exec stat -Lc '%.9Z %n' -- "${files[@]}"
+} 2> /dev/null
 
 # Neither the code nor its definitions nor rt was changed since ./build last compared the sources with those that the program was proved
 # from. It takes a few milliseconds. A proof that was changed since leaves the program as it was proved. If it fails, `./build --done`
