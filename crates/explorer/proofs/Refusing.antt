@@ -1,5 +1,5 @@
 -- Which refusal a reply reports: one that stands.
-use Rattle.std.proofs.Common.{◌≡◌, ◌⊎◌, ◌≤◌, ◌++◌, ℕ, Bool, List, None, Some, inl, inr, arith, refl, subst, sym}
+use Rattle.std.proofs.Common.{◌≡◌, ◌⊎◌, ◌≤◌, ◌++◌, ℕ, Bool, List, None, inl, inr, arith, subst, sym}
 use Rattle.language.specs.Tree.{Tree}
 use Rattle.syntax.specs.Text.{Text}
 use Rattle.syntax.specs.declared.fault.ReadFault.TheVariants as read
@@ -12,13 +12,13 @@ use Rattle.exploration.specs.declared.report.Answer.TheVariants.{Safe, Unsafe}
 use Rattle.exploration.specs.declared.report.NoVerdict.{NoVerdict}
 use Rattle.exploration.specs.declared.report.NoVerdict.TheVariants as cause
 use Rattle.exploration.specs.declared.report.Report.{Report}
-use Rattle.explorer.specs.Lines.{NamesOffset, answer_line, answer_status, line_behind, line_of, status_of}
+use Rattle.explorer.specs.Lines.{NamesOffset, answer_line, answer_status, line_behind}
 use Rattle.explorer.specs.Refused.{HasPlace, IsProgramOf, IsToldAs, RefusalStands}
 use Rattle.streams.specs.Written.{bytes_of}
 use Rattle.explorer.specs.Replies.{Refuses, Reports, TellsOrLacks, TellsRefusal}
 use Rattle.explore_line.specs.declared.asked.Order.{Order}
 use Rattle.explorer.specs.declared.refusal.Refusal.{Refusal}
-use Rattle.explorer.specs.declared.refusal.Refusal.TheVariants.{Unread, Unchecked, TooWide, Memory, Limit}
+use Rattle.explorer.specs.declared.refusal.Refusal.TheVariants.{Unread, Unchecked, Memory}
 use Rattle.streams.specs.declared.reply.Reply.{Reply}
 
 -- a fault of scopes that is not lack of memory has its place

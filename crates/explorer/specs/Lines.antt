@@ -1,9 +1,7 @@
 -- The lines of replies, and their statuses.
 use Rattle.std.specs.Prelude.{⊤, ℕ, Bool, true, false, List, [], ◌++◌, codes}
 use Rattle.std.specs.Fmt.{decimal}
-use Rattle.syntax.specs.declared.fault.ReadFault.{ReadFault}
 use Rattle.syntax.specs.declared.fault.ReadFault.TheVariants as read
-use Rattle.checked.specs.declared.fault.ScopeFault.{ScopeFault}
 use Rattle.checked.specs.declared.fault.ScopeFault.TheVariants as scope
 use Rattle.refusals.specs.Lines.{memory_line, unchecked_line, unread_line}
 use Rattle.exploration.specs.declared.report.Answer.{Answer}
