@@ -5,13 +5,13 @@ mod broken;
 mod kinds;
 mod memory;
 mod refused;
-mod streams;
+mod test_streams;
 
 use crate::escapes::bytes_of;
 use crate::serving::broken::count;
 use crate::serving::memory::served;
 use crate::serving::refused::in_turn;
-use crate::serving::streams::{Manner, SOUND, Sink, Source};
+use crate::serving::test_streams::{Manner, SOUND, Sink, Source};
 use cases::words_behind;
 use cli::{Order, ended, order, serve_telling};
 use std::alloc::{AllocError, Global};
