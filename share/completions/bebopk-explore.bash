@@ -4,7 +4,7 @@ _bebopk_explore() {
   COMPREPLY=()
   case $before in
     --rounds) mapfile -t COMPREPLY < <(compgen -W 'all 1 2 3 4 5 6 7 8' -- "$word") ;;
-    --limit) mapfile -t COMPREPLY < <(compgen -W '100000000 4294967295' -- "$word") ;;
+    --limit) mapfile -t COMPREPLY < <(compgen -W '40000000 4294967295' -- "$word") ;;
     *)
       case $word in
         -*) mapfile -t COMPREPLY < <(compgen -W '--rounds --limit --stats --help --version -h -V' -- "$word") ;;

@@ -20,7 +20,7 @@ explore words = codes "bebopk-explore" ∷ words
 -- a.bp
 defaults : (fault_of bebopk_explore (explore (codes "a.bp" ∷ [])) ≡ [])
     × (found (explore (codes "a.bp" ∷ []))
-    ≡ (Some (codes "all"), Some (codes "100000000"), Some (codes "false"), Some (codes "a.bp")))
+    ≡ (Some (codes "all"), Some (codes "40000000"), Some (codes "false"), Some (codes "a.bp")))
 unfolding clap_on_literals
 defaults = (refl, refl)
 
@@ -36,7 +36,7 @@ behind = (refl, refl)
 -- --rounds 0 a.bp: the text is found, and reads as no rounds
 zero_rounds : (fault_of bebopk_explore (explore (codes "--rounds" ∷ codes "0" ∷ codes "a.bp" ∷ [])) ≡ [])
     × (found (explore (codes "--rounds" ∷ codes "0" ∷ codes "a.bp" ∷ []))
-    ≡ (Some (codes "0"), Some (codes "100000000"), Some (codes "false"), Some (codes "a.bp")))
+    ≡ (Some (codes "0"), Some (codes "40000000"), Some (codes "false"), Some (codes "a.bp")))
 unfolding clap_on_literals
 zero_rounds = (refl, refl)
 

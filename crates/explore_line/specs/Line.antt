@@ -23,7 +23,7 @@ abbrev pub rounds : Rule
 rounds = record (option_by String (codes "rounds")) { defaults = codes "all" ∷ [] }
 
 abbrev pub limit : Rule
-limit = record (number_up_to greatest (codes "limit")) { defaults = codes "100000000" ∷ [] }
+limit = record (number_up_to greatest (codes "limit")) { defaults = codes "40000000" ∷ [] }
 
 -- bebopk-explore --version
 abbrev pub bare : App

@@ -30,7 +30,7 @@ fn limit<'a>(alloc: Global) -> Arg<'a>
 {
     let help = "How much is found and met at most: 1 to 4294967295";
     let parser = value_parser!(u32).range(1..=4_294_967_295);
-    option(alloc, "limit", "N", help, parser).default_value("100000000")
+    option(alloc, "limit", "N", help, parser).default_value("40000000")
 }
 
 /// The command line without arguments.
