@@ -3,12 +3,14 @@
 //! node and what lies below it is in the head's node.
 #![tactic(auto)]
 
+mod inclusions;
 mod laws;
 mod no_turn;
 mod node;
 mod stack_sets;
 mod turn;
 
+pub use inclusions::{Inclusions, Pair};
 pub use laws::{
     a_failing_turn_of_a_tuple_that_is_reached_is_unsafe,
     a_named_ending_has_the_stacks_that_a_turn_can_end_with,
