@@ -14,7 +14,7 @@ use Rattle.exploration.specs.declared.tuple.Tuple.{Tuple}
 use Rattle.exploration.specs.Met.{Stacks, AreHeld, IsMet, AreMet}
 use Rattle.exploration.specs.Turns.{AreTurns}
 use Rattle.exploration.specs.Searched.{IsReached, NeverFails, IsExpanded, IsTuple, IsSearched}
-use Rattle.exploration.proofs.NodeLemmas.{in_later, in_before, in_within}
+use Rattle.stack_sets.proofs.GrowLemmas.{in_later, in_before, in_within}
 
 -- what is at a place of a list stays there when others are appended
 pub get_before : {A : Type 0} (xs ys : List A) (j : ℕ) (x : A) → j < length xs → slice_get (xs ++ ys) j ≡ Some x → slice_get xs j ≡ Some x

@@ -1,6 +1,5 @@
 pub mod BetweenLemmas
 pub mod HeldLemmas
-pub mod NodeLemmas
 pub mod TurnLemmas
 pub mod TupleLemmas
 pub mod GrowLemmas

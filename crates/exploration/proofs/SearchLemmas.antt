@@ -22,7 +22,7 @@ use Rattle.exploration.specs.Moments.{ComesNext, Follows}
 use Rattle.exploration.specs.Turns.{HasStart, AreTurns, IsTurn}
 use Rattle.exploration.specs.Searched.{threads_by, IsReached, NeverFails, IsExpanded, IsTuple, IsSearched, IsNew}
 use Rattle.exploration.proofs.HeldLemmas.{member_get}
-use Rattle.exploration.proofs.NodeLemmas.{in_within}
+use Rattle.stack_sets.proofs.GrowLemmas.{in_within}
 use Rattle.exploration.proofs.TurnLemmas.{turn_found}
 use Rattle.exploration.proofs.GrowLemmas.{tuple_later, reached_later, searched_later}
 use Rattle.exploration.proofs.ExpandLemmas.{never_fails, is_expanded, after_is, after_reached}

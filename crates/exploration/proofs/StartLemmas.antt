@@ -23,7 +23,7 @@ use Rattle.exploration.specs.Searched.{threads_by, IsReached, IsTuple, HasCome}
 use Rattle.exploration.specs.Starts.{first_stack, IsAlone, AreBegun, IsFirstTuple}
 use Rattle.exploration.proofs.ComeLemmas.{less_or_same, met_at_first, holds_at_first}
 use Rattle.exploration.proofs.GrowLemmas.{get_member}
-use Rattle.exploration.proofs.NodeLemmas.{in_later, in_before, in_within}
+use Rattle.stack_sets.proofs.GrowLemmas.{in_later, in_before, in_within}
 use Rattle.exploration.proofs.SearchLemmas.{threads_count}
 use Rattle.exploration.proofs.TurnLemmas.{prefix_length}
 

@@ -9,7 +9,7 @@ use Rattle.stack_sets.specs.Nodes.{by_number, IsPrefix}
 use Rattle.stack_sets.specs.declared.node.Node.{Node}
 use Rattle.stack_sets.specs.Turns.{AreWhole, AreEndings}
 use Rattle.stack_sets.specs.declared.turn.Ending.{Ending}
-use Rattle.exploration.proofs.NodeLemmas.{in_later, in_before}
+use Rattle.stack_sets.proofs.GrowLemmas.{in_later, in_before}
 use Rattle.language.proofs.Members.{member_append}
 use Rattle.exploration.specs.declared.kept_turns.Start.{Start}
 use Rattle.exploration.specs.declared.kept_turns.KeptTurn.{KeptTurn}

@@ -15,7 +15,8 @@ use Rattle.naming.specs.declared.part.Part.{Part}
 use Rattle.naming.specs.declared.part.Part.TheVariants.{Call, Ending}
 use Rattle.naming.specs.Names.{put, HasName, IsPut, IsBared}
 use Rattle.naming.specs.Holds.{HasEnding, Holds}
-use Rattle.naming.proofs.PlaceLemmas.{get_left, get_last, get_member, set_here, at_is, is_at, at_left, at_last, set_at, at_set}
+use Rattle.stack_sets.proofs.PlaceLemmas.{at_is, is_at, at_left, at_last, set_at, at_set}
+use Rattle.naming.proofs.PlaceLemmas.{get_left, get_last, get_member, set_here}
 use Rattle.naming.proofs.PartLemmas.{put_same, put_gone}
 
 -- ---- what is found, and one item more

@@ -15,7 +15,7 @@ use Rattle.naming.specs.Moves.{HaveNumbers, MayAddMoved, filled, missing}
 use Rattle.naming.proofs.ListLemmas.{take_one}
 use Rattle.naming.proofs.MoveLemmas.{at_on, prefix_last, moved_as, are_moved_as, moved_back, set_gives, set_keeps}
 use Rattle.naming.proofs.MoveLemmas.{filled_length, filled_has, filled_none, missing_last}
-use Rattle.naming.proofs.PlaceLemmas.{at_is, at_last, at_within}
+use Rattle.stack_sets.proofs.PlaceLemmas.{at_is, at_last, at_within}
 
 -- the node has this number, and is one of the first so many, or had it before
 abbrev pub Done : List (Option ℕ) → List ℕ → ℕ → ℕ → ℕ → Type 0

@@ -14,7 +14,7 @@ use Rattle.stack_sets.specs.declared.node.Head.{Head}
 use Rattle.stack_sets.specs.declared.node.Node.{Node}
 use Rattle.naming.specs.Moves.{IsNumber, HasNumber, IsMoved, AreMoved, IsFilled, filled, missing}
 use Rattle.naming.proofs.ListLemmas.{take_one}
-use Rattle.naming.proofs.PlaceLemmas.{at_left}
+use Rattle.stack_sets.proofs.PlaceLemmas.{at_left}
 
 -- ---- lists that go on
 
@@ -41,11 +41,6 @@ module _ {Alloc : Type 0} where
   pub at_both : (P Q : Node Alloc → Type 0) (o : Option (Node Alloc)) → AtNode o P → AtNode o Q → (x : Node Alloc) × P x × Q x
   at_both P Q None p q = absurd p
   at_both P Q (Some x) p q = (x, p, q)
-
-pub place_member : {A : Type 0} (xs : List A) (i : ℕ) (d : A) → i < length xs → Member (get_or xs i d) xs
-place_member [] i d small = absurd (omega (arith, small))
-place_member (x ∷ xs) zero d small = inl refl
-place_member (x ∷ xs) (suc i) d small = inr (place_member xs i d (omega (arith, small)))
 
 -- ---- final numbers that are known stay
 

@@ -12,7 +12,7 @@ use Rattle.stack_sets.specs.Turns.{AreWhole}
 use Rattle.stack_sets.specs.declared.node.Node.{Node}
 use Rattle.naming.specs.Moves.{IsMoved, IsKept, AreKept}
 use Rattle.naming.proofs.MoveLemmas.{at_on, at_as, at_both, moved_there, moved_back}
-use Rattle.naming.proofs.PlaceLemmas.{at_is, is_at, at_left, at_right, at_before, right_at, at_within}
+use Rattle.stack_sets.proofs.PlaceLemmas.{at_is, is_at, at_left, at_right, at_before, right_at, at_within}
 
 module _ {Alloc : Type 0} (before nodes there : List (Node Alloc)) (whole : AreWhole before) (prefix : IsPrefix before there)
     (Is : ℕ → ℕ → Type 0) (are : AreKept (length before) Is Is nodes there) where

@@ -28,7 +28,8 @@ use Rattle.naming.specs.Moves.{IsNumber, ReachBelow, AreKept}
 use Rattle.naming.specs.Names.{put, IsAt, HasName, IsEndingAt, IsLevel, AreListed}
 use Rattle.naming.specs.Holds.{HasEnding, Holds, HaveSome, HoldsFor}
 use Rattle.naming.proofs.HoldLemmas.{holds_as, ending_as}
-use Rattle.naming.proofs.PlaceLemmas.{at_within, at_left, at_before, at_right, right_at, at_either}
+use Rattle.stack_sets.proofs.GrowLemmas.{in_within}
+use Rattle.stack_sets.proofs.PlaceLemmas.{at_within, at_left, at_before, at_right, right_at, at_either}
 use Rattle.naming.proofs.StackLemmas.{kept_stacks, kept_within, kept_whole}
 
 -- what lies below a frame
@@ -65,10 +66,6 @@ module _ {Alloc : Type 0} (m : Machine ℕ NumberedFrame) (before : List (Node A
   lies_below (Ending g) f b found = has_below m (by_number before) g0 start whole.full (turn.head g f b) found
 
   -- a node that has a stack is there
-  in_within : (q : ℕ) (fs : List NumberedFrame) → InNode (by_number before) q fs → q < base
-  in_within q [] bare = at_within IsBare before q bare
-  in_within q (f ∷ fs) (n, has, is) = at_within (Bears f n) before q has
-
   -- the names of sets: a node from before is its own
   abbrev Named : sets.Part ℕ ℕ NumberedFrame → ℕ → Type 0
   Named (sets.below (turn.old q)) n = (n ≡ q) × (q < base)
@@ -77,7 +74,7 @@ module _ {Alloc : Type 0} (m : Machine ℕ NumberedFrame) (before : List (Node A
 
   named_below : (b : Lower) (n : ℕ) (fs : List NumberedFrame) → LiesBelow (by_number before) Is b fs → HasName base parts b n
       → Named (sets.below b) n
-  named_below (turn.old q) n fs lies same = (same, in_within q fs lies)
+  named_below (turn.old q) n fs lies same = (same, in_within before q fs lies)
   named_below (turn.call g e) n fs lies name = name
 
   named_over : (p : Part) (f : NumberedFrame) (b : Lower) (n : ℕ) → Is (put p f b) → HasName base parts b n → Named (sets.below b) n

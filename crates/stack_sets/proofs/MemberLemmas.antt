@@ -1,10 +1,17 @@
 -- What is found in lists, or put into them, by a test.
-use Rattle.std.proofs.Common.{◌≡◌, Bool, true, false, List, [], ◌∷◌, inl, inr, refl, sym, subst, ◌++◌, true≢false}
+use Rattle.std.proofs.Common.{◌≡◌, ◌<◌, ℕ, zero, suc, Bool, true, false, List, [], ◌∷◌, inl, inr, refl, sym, subst, ◌++◌, true≢false, length}
+use Rattle.std.proofs.Common.{get_or, arith}
 use Rattle.std.proofs.lemmas.Bool.{or_cases}
 use Rattle.std.specs.Prelude.{if◌then◌else◌}
 use Rattle.std.specs.List.{list_any}
 use Rattle.language.specs.Lists.{Member}
 use Rattle.language.proofs.Members.{member_right}
+
+-- what stands at a place is a member
+pub place_member : {A : Type 0} (xs : List A) (i : ℕ) (d : A) → i < length xs → Member (get_or xs i d) xs
+place_member [] i d small = absurd (omega (arith, small))
+place_member (x ∷ xs) zero d small = inl refl
+place_member (x ∷ xs) (suc i) d small = inr (place_member xs i d (omega (arith, small)))
 
 module _ {A : Type 0} (eq : A → A → Bool) where
   -- where items that compare as equal are the same, one that is like one of a list is a member

@@ -1,4 +1,4 @@
--- Heads that compare as equal, and nodes that are added.
+-- Heads and pairs that compare as equal, and nodes that are added.
 use Rattle.std.proofs.Common.{◌≡◌, ◌++◌, Bool, true, ◌&&◌, nat_eq, List, [], ◌∷◌, false, Some, length, slice_get, refl, sym, ap₂}
 use Rattle.std.proofs.Common.{true≢false}
 use Rattle.std.specs.Bool.{beq}
@@ -6,6 +6,7 @@ use Rattle.std.specs.Cmp.Lexicographic.{pointwise}
 use Rattle.std.proofs.lemmas.Map.Views.{exact_unsigned_eq}
 use Rattle.std.proofs.lemmas.Bool.{and_parts}
 use Rattle.turns.specs.declared.numbered_frame.NumberedFrame.{NumberedFrame}
+use Rattle.stack_sets.specs.declared.inclusions.Pair.{Pair}
 use Rattle.stack_sets.specs.declared.node.Head.{Head}
 
 -- whether two heads are the same
@@ -37,6 +38,17 @@ same_head x y h =
     let a' = same_frame x.frame y.frame a in
     let b' = exact_unsigned_eq x.below y.below b in
     λ i. record { frame = a' i; below = b' i }
+
+-- whether two pairs are the same
+abbrev pub pair_eq : Pair → Pair → Bool
+pair_eq x y = nat_eq x.under y.under && nat_eq x.over y.over
+
+pub same_pair : (x y : Pair) → pair_eq x y ≡ true → x ≡ y
+same_pair x y h =
+    let (a, b) = and_parts (nat_eq x.under y.under) (nat_eq x.over y.over) h in
+    let a' = exact_unsigned_eq x.under y.under a in
+    let b' = exact_unsigned_eq x.over y.over b in
+    λ i. record { under = a' i; over = b' i }
 
 -- what is added last is behind the others
 pub last_is : {A : Type 0} (xs : List A) (x : A) → slice_get (xs ++ x ∷ []) (length xs) ≡ Some x

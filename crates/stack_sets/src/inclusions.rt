@@ -52,12 +52,19 @@ fn node_at<'a, A: Allocator + Copy>(
     }
 }
 
+/// Whether a pair is one of these.
+fn has<A: Allocator>(pairs: &Pairs<A>, pair: Pair) -> bool
+    ensures { IsTrue result → Member pair pairs.now.keys }
+{
+    pairs.contains(&pair)
+}
+
 /// Whether two nodes are one, or a pair of either kind.
 fn is_under<A: Allocator>(pairs: &Pairs<A>, known: &Pairs<A>, under: usize, over: usize) -> bool
     ensures { IsTrue result → IsUnder pairs.now.keys known.now.keys under over }
 {
     let pair = Pair { under, over };
-    under == over || known.contains(&pair) || pairs.contains(&pair)
+    under == over || has(known, pair) || has(pairs, pair)
 }
 
 /// Whether some head has the same frame, over a node that is paired with what lies below this one.
@@ -125,21 +132,22 @@ fn is_simulation<A: Allocator + Copy>(
     true
 }
 
-/// The pairs of which the second node has what the first has.
-fn those_that_hold<A: Allocator + Copy>(
+/// Leaves out the pairs of which the second node lacks something that the first has.
+fn narrow<A: Allocator + Copy>(
     alloc: A,
     sets: &StackSets<A>,
     more: &[Node<A>],
-    pairs: &Pairs<A>,
+    pairs: &mut Pairs<A>,
     known: &Pairs<A>,
-) -> Result<Pairs<A>, AllocError> {
+) -> Result<(), AllocError> {
     let mut some = IndexSet::new(alloc);
     for pair in pairs.as_slice() {
         if holds(sets, more, pairs, known, *pair) {
             some.insert(*pair)?;
         }
     }
-    Ok(some)
+    *pairs = some;
+    Ok(())
 }
 
 /// Adds the pairs of what lies below heads with one frame.
@@ -198,14 +206,24 @@ impl<A: Allocator + Copy> Inclusions<A> {
         Ok(pairs)
     }
 
+    /// Notes a pair.
+    fn note(&mut self, pair: Pair) -> Result<(), AllocError>
+        ensures { OnOk result
+            ((p : Pair) → Member p (found_in self.new)
+            → Member p (found_in self.old) ⊎ (p ≡ pair)) }
+    {
+        self.found.insert(pair)?;
+        Ok(())
+    }
+
     /// Notes pairs that are a simulation.
-    fn note(&mut self, pairs: &Pairs<A>) -> Result<(), AllocError>
+    fn note_all(&mut self, pairs: &Pairs<A>) -> Result<(), AllocError>
         ensures { OnOk result
             ((p : Pair) → Member p (found_in self.new)
             → Member p (found_in self.old) ⊎ Member p pairs.now.keys) }
     {
         for pair in pairs.as_slice() {
-            self.found.insert(*pair)?;
+            self.note(*pair)?;
         }
         Ok(())
     }
@@ -218,6 +236,26 @@ impl<A: Allocator + Copy> Inclusions<A> {
         Ok(())
     }
 
+    /// Notes pairs if they are a simulation. Returns whether they are.
+    fn is_noted(
+        &mut self,
+        sets: &StackSets<A>,
+        more: &[Node<A>],
+        pairs: &Pairs<A>,
+    ) -> Result<bool, AllocError>
+        requires known { AreWithin (nodes_in sets.now ++ more.now) (found_in self.old) }
+        ensures known { OnOk result
+            (AreWithin (nodes_in sets.now ++ more.now) (found_in self.new)) }
+        ensures within { IfOk result (λ yes. IsTrue yes
+            → AreWithin (nodes_in sets.now ++ more.now) pairs.now.keys) }
+    {
+        if !is_simulation(sets, more, pairs, &self.found) {
+            return Ok(false);
+        }
+        self.note_all(pairs)?;
+        Ok(true)
+    }
+
     /// Looks for a simulation that has a pair, among these, and notes it.
     fn search(
         &mut self,
@@ -225,7 +263,7 @@ impl<A: Allocator + Copy> Inclusions<A> {
         sets: &StackSets<A>,
         more: &[Node<A>],
         pair: Pair,
-        reached: Pairs<A>,
+        pairs: &mut Pairs<A>,
     ) -> Result<bool, AllocError>
         requires known { AreWithin (nodes_in sets.now ++ more.now) (found_in self.old) }
         ensures known { OnOk result
@@ -233,18 +271,15 @@ impl<A: Allocator + Copy> Inclusions<A> {
         ensures within { IfOk result (λ yes. IsTrue yes
             → IsWithin (nodes_in sets.now ++ more.now) pair.under pair.over) }
     {
-        let mut pairs = reached;
         for _ in 0..=pairs.len() {
-            if !pairs.contains(&pair) {
-                break;
+            if !has(pairs, pair) {
+                return Ok(false);
             }
-            if is_simulation(sets, more, &pairs, &self.found) {
-                self.note(&pairs)?;
+            if self.is_noted(sets, more, pairs)? {
                 return Ok(true);
             }
-            pairs = those_that_hold(alloc, sets, more, &pairs, &self.found)?;
+            narrow(alloc, sets, more, pairs, &self.found)?;
         }
-        self.give_up(pair)?;
         Ok(false)
     }
 
@@ -263,14 +298,21 @@ impl<A: Allocator + Copy> Inclusions<A> {
         ensures within { IfOk result (λ yes. IsTrue yes
             → IsWithin (nodes_in sets.now ++ more.now) pair.under pair.over) }
     {
-        if pair.under == pair.over || self.found.contains(&pair) {
+        if pair.under == pair.over {
+            return Ok(true);
+        }
+        if has(&self.found, pair) {
             return Ok(true);
         }
         if self.missed.contains(&pair) {
             return Ok(false);
         }
-        let reached = self.reached(alloc, sets, more, pair)?;
-        self.search(alloc, sets, more, pair, reached)
+        let mut pairs = self.reached(alloc, sets, more, pair)?;
+        if self.search(alloc, sets, more, pair, &mut pairs)? {
+            return Ok(true);
+        }
+        self.give_up(pair)?;
+        Ok(false)
     }
 
     /// The same of nodes that are kept.
@@ -285,6 +327,7 @@ impl<A: Allocator + Copy> Inclusions<A> {
         ensures within { IfOk result (λ yes. IsTrue yes
             → IsWithin (nodes_in sets.now) pair.under pair.over) }
     {
-        self.is_within(alloc, sets, &[], pair)
+        let none: Vec<Node<A>, A> = Vec::new(alloc);
+        self.is_within(alloc, sets, none.as_slice(), pair)
     }
 }

@@ -1,7 +1,8 @@
 use Rattle.std.proofs.Common.{refl, subst}
 use Rattle.language.specs.Lists.{Member}
 use Rattle.naming.specs.Moves.{IsNumber}
-use Rattle.naming.proofs.MoveLemmas.{moved_step, moved_whole, place_member}
+use Rattle.stack_sets.proofs.MemberLemmas.{place_member}
+use Rattle.naming.proofs.MoveLemmas.{moved_step, moved_whole}
 use Rattle.naming.proofs.moving.move_all.Goals as goal
 
 pub last_number-requires : goal.last_number-requires
