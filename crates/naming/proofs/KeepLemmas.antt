@@ -13,7 +13,7 @@ use Rattle.stack_sets.proofs.NodeLemmas.{last_is}
 use Rattle.naming.specs.Moves.{IsNumber, HasNumber, NoneHas, IsMoved, ReachBelow, ReachesBelow, IsMovedNode, IsKept, AreKept}
 use Rattle.naming.specs.Moves.{HaveNumbers, MayAddMoved, filled, missing}
 use Rattle.naming.proofs.ListLemmas.{take_one}
-use Rattle.naming.proofs.MoveLemmas.{at_on, prefix_last, moved_as, are_moved_as, moved_back, set_gives, set_keeps}
+use Rattle.naming.proofs.MoveLemmas.{at_on, prefix_last, moved_as, are_moved_as, set_gives, set_keeps}
 use Rattle.naming.proofs.MoveLemmas.{filled_length, filled_has, filled_none, missing_last}
 use Rattle.stack_sets.proofs.PlaceLemmas.{at_is, at_last, at_within}
 
@@ -44,7 +44,7 @@ module _ {Alloc : Type 0} (base : ℕ) where
 
     moved_new : (f : NumberedFrame) (r : ℕ) → Member (head_over f r) moved.heads.items → Over f r
     moved_new f r member =
-        let (m, member', mv) = moved_back base Is node.heads.items moved.heads.items is.1 f r member in
+        let (m, member', mv) = is.1.1 f r member in
         (i, m, at_is (λ x. Member (head_over f m) x.heads.items) nodes i node at member', moved_as base Is Js sub m r mv)
 
     moved_more : (there' : List (Node Alloc)) → MayAdd moved there there' → (q : ℕ) (f : NumberedFrame) (r : ℕ) → base ≤ q

@@ -1,5 +1,5 @@
 -- Heads over final numbers, final numbers that are given one after another, and lists that go on.
-use Rattle.std.proofs.Common.{◌≡◌, ◌⊎◌, ◌<◌, ◌≤◌, ◌+◌, ◌++◌, ℕ, zero, suc, Option, None, Some, List, [], ◌∷◌, length, take, get_or}
+use Rattle.std.proofs.Common.{◌≡◌, ◌⊎◌, ◌↔◌, ◌<◌, ◌≤◌, ◌+◌, ◌++◌, ℕ, zero, suc, Option, None, Some, List, [], ◌∷◌, length, take, get_or}
 use Rattle.std.proofs.Common.{slice_get}
 use Rattle.std.proofs.Common.{inl, inr, refl, sym, ap, ◌∙◌, subst, arith, append_assoc, append-nil, false}
 use Rattle.std.proofs.Common.{true≢false}
@@ -8,6 +8,7 @@ use Rattle.std.specs.Option.{is_some}
 use Rattle.std.proofs.lemmas.List.{take_all}
 use Rattle.std.proofs.lemmas.Option.{same_Some, none-some}
 use Rattle.language.specs.Lists.{Member}
+use Rattle.language.proofs.Members.{member_append, member_left, member_right}
 use Rattle.turns.specs.declared.numbered_frame.NumberedFrame.{NumberedFrame}
 use Rattle.stack_sets.specs.Nodes.{AtNode, IsPrefix, head_over}
 use Rattle.stack_sets.specs.declared.node.Head.{Head}
@@ -50,42 +51,49 @@ module _ (base : ℕ) (Is Js : ℕ → ℕ → Type 0) (sub : (i n : ℕ) → Is
   moved_as m n (inr (i, e, is)) = inr (i, e, sub i n is)
 
   pub are_moved_as : (xs ys : List Head) → AreMoved base Is xs ys → AreMoved base Js xs ys
-  are_moved_as [] [] are = tt
-  are_moved_as [] (y ∷ ys) are = absurd are
-  are_moved_as (x ∷ xs) [] are = absurd are
-  are_moved_as (x ∷ xs) (y ∷ ys) (frame, below, are) = (frame, moved_as x.below y.below below, are_moved_as xs ys are)
+  are_moved_as xs ys (there, back) = (
+    λ f m member. let (n, member', mv) = there f m member in (n, member', moved_as m n mv),
+    λ f n member. let (m, member', mv) = back f n member in (m, member', moved_as m n mv),
+  )
 
 -- ---- heads one by one
 
 module _ (base : ℕ) (Is : ℕ → ℕ → Type 0) where
-  pub moved_last : (xs ys : List Head) (x y : Head) → AreMoved base Is xs ys → y.frame ≡ x.frame → IsMoved base Is x.below y.below
+  pub none_moved : AreMoved base Is [] []
+  none_moved = (λ f m member. absurd member, λ f n member. absurd member)
+
+  moved_last : (xs ys : List Head) (x y : Head) → AreMoved base Is xs ys → y.frame ≡ x.frame → IsMoved base Is x.below y.below
       → AreMoved base Is (xs ++ x ∷ []) (ys ++ y ∷ [])
-  moved_last [] [] x y are frame below = (frame, below, tt)
-  moved_last [] (z ∷ ys) x y are frame below = absurd are
-  moved_last (w ∷ xs) [] x y are frame below = absurd are
-  moved_last (w ∷ xs) (z ∷ ys) x y (frame', below', are) frame below = (frame', below', moved_last xs ys x y are frame below)
-
-  pub moved_there : (xs ys : List Head) → AreMoved base Is xs ys → (f : NumberedFrame) (m : ℕ) → Member (head_over f m) xs
-      → (n : ℕ) × Member (head_over f n) ys × IsMoved base Is m n
-  moved_there [] ys are f m is = absurd is
-  moved_there (x ∷ xs) [] are f m is = absurd are
-  moved_there (x ∷ xs) (y ∷ ys) (frame, below, are) f m (inl same) =
-      let same_f : f ≡ y.frame = ap (λ (h : Head). h.frame) same ∙ sym frame in
-      let same_m : m ≡ x.below = ap (λ (h : Head). h.below) same in
-      (y.below, inl (ap (λ z. head_over z y.below) same_f), subst (λ z. IsMoved base Is z y.below) (sym same_m) below)
-  moved_there (x ∷ xs) (y ∷ ys) (frame, below, are) f m (inr is) =
-      let (n, is', mv) = moved_there xs ys are f m is in (n, inr is', mv)
-
-  pub moved_back : (xs ys : List Head) → AreMoved base Is xs ys → (f : NumberedFrame) (n : ℕ) → Member (head_over f n) ys
-      → (m : ℕ) × Member (head_over f m) xs × IsMoved base Is m n
-  moved_back xs [] are f n is = absurd is
-  moved_back [] (y ∷ ys) are f n is = absurd are
-  moved_back (x ∷ xs) (y ∷ ys) (frame, below, are) f n (inl same) =
-      let same_f : f ≡ x.frame = ap (λ (h : Head). h.frame) same ∙ frame in
-      let same_n : n ≡ y.below = ap (λ (h : Head). h.below) same in
-      (x.below, inl (ap (λ z. head_over z x.below) same_f), subst (λ z. IsMoved base Is x.below z) (sym same_n) below)
-  moved_back (x ∷ xs) (y ∷ ys) (frame, below, are) f n (inr is) =
-      let (m, is', mv) = moved_back xs ys are f n is in (m, inr is', mv)
+  moved_last xs ys x y (there, back) frame below = (
+    λ f m member.
+        elim (member_append (head_over f m) xs (x ∷ []) member) [
+          | inl was ↦
+              let (n, member', mv) = there f m was in
+              (n, member_left (head_over f n) ys (y ∷ []) member', mv)
+          | inr (inl same) ↦
+              let same_f : f ≡ y.frame = ap (λ (h : Head). h.frame) same ∙ sym frame in
+              let same_m : m ≡ x.below = ap (λ (h : Head). h.below) same in (
+                y.below,
+                member_right (head_over f y.below) ys (y ∷ []) (inl (ap (λ z. head_over z y.below) same_f)),
+                subst (λ z. IsMoved base Is z y.below) (sym same_m) below,
+              )
+          | inr (inr none) ↦ absurd none
+        ],
+    λ f n member.
+        elim (member_append (head_over f n) ys (y ∷ []) member) [
+          | inl was ↦
+              let (m, member', mv) = back f n was in
+              (m, member_left (head_over f m) xs (x ∷ []) member', mv)
+          | inr (inl same) ↦
+              let same_f : f ≡ x.frame = ap (λ (h : Head). h.frame) same ∙ frame in
+              let same_n : n ≡ y.below = ap (λ (h : Head). h.below) same in (
+                x.below,
+                member_right (head_over f x.below) xs (x ∷ []) (inl (ap (λ z. head_over z x.below) same_f)),
+                subst (λ z. IsMoved base Is x.below z) (sym same_n) below,
+              )
+          | inr (inr none) ↦ absurd none
+        ],
+  )
 
   pub moved_step : (xs : List Head) (i : ℕ) (d : Head) (ys ys' : List Head) (n : ℕ) → i < length xs → AreMoved base Is (take i xs) ys
       → IsMoved base Is (get_or xs i d).below n → ys' ≡ ys ++ head_over (get_or xs i d).frame n ∷ []
@@ -95,9 +103,13 @@ module _ (base : ℕ) (Is : ℕ → ℕ → Type 0) where
       (sym more)
       (moved_last (take i xs) ys (get_or xs i d) (head_over (get_or xs i d).frame n) are refl below))
 
-  pub moved_whole : (xs xs' : List Head) (i : ℕ) (ys : List Head) → length xs ≤ i → xs ≡ xs' → AreMoved base Is (take i xs) ys
-      → AreMoved base Is xs' ys
-  moved_whole xs xs' i ys large same are = subst (λ l. AreMoved base Is l ys) (take_all i xs large ∙ same) are
+  pub moved_whole : (xs xs' : List Head) (i : ℕ) (ys zs : List Head) → length xs ≤ i → xs ≡ xs' → AreMoved base Is (take i xs) ys
+      → ((h : Head) → Member h ys ↔ Member h zs) → AreMoved base Is xs' zs
+  moved_whole xs xs' i ys zs large same are alike =
+      let (there, back) = subst (λ l. AreMoved base Is l ys) (take_all i xs large ∙ same) are in (
+        λ f m member. let (n, member', mv) = there f m member in (n, (alike (head_over f n)).0 member', mv),
+        λ f n member. back f n ((alike (head_over f n)).1 member),
+      )
 
 -- ---- a number is put down
 

@@ -11,7 +11,7 @@ use Rattle.stack_sets.specs.Nodes.{AtNode, IsPrefix, by_number, head_over}
 use Rattle.stack_sets.specs.Turns.{AreWhole}
 use Rattle.stack_sets.specs.declared.node.Node.{Node}
 use Rattle.naming.specs.Moves.{IsMoved, IsKept, AreKept}
-use Rattle.naming.proofs.MoveLemmas.{at_on, at_as, at_both, moved_there, moved_back}
+use Rattle.naming.proofs.MoveLemmas.{at_on, at_as, at_both}
 use Rattle.stack_sets.proofs.PlaceLemmas.{at_is, is_at, at_left, at_right, at_before, right_at, at_within}
 
 module _ {Alloc : Type 0} (before nodes there : List (Node Alloc)) (whole : AreWhole before) (prefix : IsPrefix before there)
@@ -44,7 +44,7 @@ module _ {Alloc : Type 0} (before nodes there : List (Node Alloc)) (whole : AreW
       → (by_number turn).Has (base + i) f m → (k : ℕ) × (by_number there).Has n f k × Under m k
   has_there i n node at (heads, moved, here) f m has =
       let member = is_at (Bears f m) nodes i node at (right_at (Bears f m) before nodes i has) in
-      let (k, member', mv) = moved_there base Is node.heads.items heads moved f m member in (
+      let (k, member', mv) = moved.0 f m member in (
         k,
         at_as (λ x. (x.bare ≡ node.bare) × (x.heads.items ≡ heads)) (Bears f k) (λ x p. subst (Member (head_over f k)) (sym p.1) member')
             (slice_get there n) here,
@@ -61,7 +61,7 @@ module _ {Alloc : Type 0} (before nodes there : List (Node Alloc)) (whole : AreW
       → (by_number there).Has n f k → (m : ℕ) × (by_number turn).Has (base + i) f m × Under m k
   has_back i n node at (heads, moved, here) f k has =
       let (x, is, member) = at_both (λ x. (x.bare ≡ node.bare) × (x.heads.items ≡ heads)) (Bears f k) (slice_get there n) here has in
-      let (m, member', mv) = moved_back base Is node.heads.items heads moved f k (subst (Member (head_over f k)) is.1 member) in
+      let (m, member', mv) = moved.1 f k (subst (Member (head_over f k)) is.1 member) in
       (m, at_right (Bears f m) before nodes i (at_is (Bears f m) nodes i node at member'), mv)
 
   -- ---- stacks

@@ -23,12 +23,11 @@ NoneHas names = (i n : ℕ) → HasNumber names i n → ⊥
 abbrev pub IsMoved : ℕ → (ℕ → ℕ → Type 0) → ℕ → ℕ → Type 0
 IsMoved base Is m n = ((m < base) × (n ≡ m)) ⊎ ((i : ℕ) × (m ≡ base + i) × Is i n)
 
--- the frames are the same, each over the final number of what it lay over
+-- the frames are the same, each over the final number of what it lay over, in whatever order
 abbrev pub AreMoved : ℕ → (ℕ → ℕ → Type 0) → List Head → List Head → Type 0
-AreMoved base Is [] [] = Unit {0}
-AreMoved base Is [] (y ∷ ys) = ⊥
-AreMoved base Is (x ∷ xs) [] = ⊥
-AreMoved base Is (x ∷ xs) (y ∷ ys) = (y.frame ≡ x.frame) × IsMoved base Is x.below y.below × AreMoved base Is xs ys
+AreMoved base Is xs ys =
+    ((f : NumberedFrame) (m : ℕ) → Member (head_over f m) xs → (n : ℕ) × Member (head_over f n) ys × IsMoved base Is m n)
+    × ((f : NumberedFrame) (n : ℕ) → Member (head_over f n) ys → (m : ℕ) × Member (head_over f m) xs × IsMoved base Is m n)
 
 module _ {Alloc : Type 0} where
   -- the heads of the node lie over nodes with smaller numbers
