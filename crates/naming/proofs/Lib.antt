@@ -7,3 +7,4 @@ pub mod MoveLemmas
 pub mod KeepLemmas
 pub mod StackLemmas
 pub mod TurnLemmas
+pub mod CircleLemmas

@@ -14,6 +14,10 @@ IsNumber names i n = slice_get names i ≡ Some n
 abbrev pub HasNumber : List (Option ℕ) → ℕ → ℕ → Type 0
 HasNumber names i n = slice_get names i ≡ Some (Some n)
 
+-- what has a number keeps it
+abbrev pub KeepsNumbers : List (Option ℕ) → List (Option ℕ) → Type 0
+KeepsNumbers old new = (i n : ℕ) → HasNumber old i n → HasNumber new i n
+
 -- none has a number
 abbrev pub NoneHas : List (Option ℕ) → Type 0
 NoneHas names = (i n : ℕ) → HasNumber names i n → ⊥
@@ -58,6 +62,15 @@ module _ {Alloc : Type 0} (base : ℕ) (Is : ℕ → ℕ → Type 0) where
   abbrev pub MayAddMoved : Node Alloc → Option ℕ → List (Node Alloc) → List (Node Alloc) → Type 0
   MayAddMoved node (Some n) old new = new ≡ old
   MayAddMoved node None old new = (moved : Node Alloc) × IsMovedNode node moved × (new ≡ old ++ moved ∷ [])
+
+-- if the node at an index has a number, it is the one with that number among those that are there, over final numbers
+abbrev pub IsKeptAt : {Alloc : Type 0} → ℕ → List (Option ℕ) → List (Node Alloc) → List (Node Alloc) → ℕ → Type 0
+IsKeptAt {Alloc} base names nodes there i = (n : ℕ) → HasNumber names i n
+    → (node : Node Alloc) × (slice_get nodes i ≡ Some node) × IsKept base (HasNumber names) there node n
+
+-- the same at each index
+abbrev pub AreAllKept : {Alloc : Type 0} → ℕ → List (Option ℕ) → List (Node Alloc) → List (Node Alloc) → Type 0
+AreAllKept base names nodes there = (i : ℕ) → IsKeptAt base names nodes there i
 
 -- the nodes that have numbers are kept
 abbrev pub HaveNumbers : {Alloc : Type 0} → ℕ → List (Node Alloc) → List (Option ℕ) → List (Node Alloc) → Type 0

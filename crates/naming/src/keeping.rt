@@ -7,13 +7,14 @@ ghost use Rattle.naming.specs.Moves.{AreKept, HasNumber, HaveNumbers, IsFilled, 
 ghost use Rattle.naming.specs.Moves.{MayAddMoved, NoneHas, ReachBelow, ReachesBelow, filled};
 ghost use Rattle.stack_sets.specs.Nodes.{IsPrefix, nodes_in};
 
+use crate::circles::{keep_circle, note_rest};
 use crate::moving::{move_all, move_now};
-use crate::part::node_at;
+use crate::part::{Part, node_at};
 use stack_sets::{NoTurn, Node, StackSets};
 use std::alloc::{AllocError, Allocator};
 
 /// The node at an index.
-fn node_in<A: Allocator>(nodes: &[Node<A>], index: usize) -> &Node<A>
+pub(crate) fn node_in<A: Allocator>(nodes: &[Node<A>], index: usize) -> &Node<A>
     requires { index < length nodes.now }
     ensures { slice_get nodes.now index ≡ Some result.now }
 {
@@ -21,7 +22,7 @@ fn node_in<A: Allocator>(nodes: &[Node<A>], index: usize) -> &Node<A>
 }
 
 /// The number at an index, if it is there yet.
-fn name_at(names: &[Option<usize>], index: usize) -> Option<usize>
+pub(crate) fn name_at(names: &[Option<usize>], index: usize) -> Option<usize>
     requires { index < length names.now }
     ensures { slice_get names.now index ≡ Some result }
 {
@@ -110,6 +111,29 @@ fn keep_most<A: Allocator + Copy>(
         if !keep_some(alloc, base, nodes, names, sets)? {
             break;
         }
+    }
+    Ok(())
+}
+
+/// Keeps nodes, and circles that are known, until no more are found.
+fn keep_known<A: Allocator + Copy>(
+    alloc: A,
+    base: usize,
+    nodes: &[Node<A>],
+    parts: &[Part],
+    names: &mut Vec<Option<usize>, A>,
+    sets: &mut StackSets<A>,
+) -> Result<(), AllocError>
+    requires { HaveNumbers base nodes.now names.old.items (nodes_in sets.old) }
+    ensures kept { OnOk result (HaveNumbers base nodes.now names.new.items (nodes_in sets.new)) }
+    ensures keeps { IsPrefix (nodes_in sets.old) (nodes_in sets.new) }
+{
+    keep_most(alloc, base, nodes, names.as_mut_slice(), sets)?;
+    for _ in 0..nodes.len() {
+        if !keep_circle(alloc, base, nodes, parts, names, sets)? {
+            break;
+        }
+        keep_most(alloc, base, nodes, names.as_mut_slice(), sets)?;
     }
     Ok(())
 }
@@ -203,6 +227,7 @@ pub(crate) fn keep_all<A: Allocator + Copy>(
     alloc: A,
     base: usize,
     nodes: &[Node<A>],
+    parts: &[Part],
     sets: &mut StackSets<A>,
 ) -> Result<Vec<usize, A>, NoTurn>
     requires base { base ≡ length (nodes_in sets.old) }
@@ -214,8 +239,17 @@ pub(crate) fn keep_all<A: Allocator + Copy>(
     ensures keeps { IsPrefix (nodes_in sets.old) (nodes_in sets.new) }
 {
     let mut names = no_names(alloc, nodes.len())?;
-    keep_most(alloc, base, nodes, names.as_mut_slice(), sets)?;
+    keep_known(alloc, base, nodes, parts, &mut names, sets)?;
     let all = fill(alloc, sets.len(), names.as_slice())?;
     add_rest(alloc, base, nodes, names.as_slice(), all.as_slice(), sets)?;
+    note_rest(
+        alloc,
+        base,
+        nodes,
+        parts,
+        names.as_mut_slice(),
+        all.as_slice(),
+        sets,
+    )?;
     Ok(all)
 }

@@ -2,6 +2,7 @@
 //! there, or behind them.
 #![tactic(auto)]
 
+mod circles;
 mod keeping;
 mod listing;
 mod moving;

@@ -6,6 +6,7 @@ ghost use Rattle.std.specs.Prelude.{slice_get};
 ghost use Rattle.stack_sets.specs.Nodes.{HasContent, IsNumbered, IsPrefix, IsSame, MayAdd};
 
 use crate::node::{Head, Node};
+use groups::Groups;
 use indexmap::IndexMap;
 use std::alloc::{AllocError, Allocator};
 use std::hash::{BuildHasherDefault, FoldHasher, Hash, Hasher};
@@ -19,6 +20,8 @@ pub struct StackSets<A: Allocator> {
     nodes: Vec<Node<A>, A>,
     /// For a hash of contents the number of a node with that, as a guess where to find equal contents.
     guesses: IndexMap<u64, usize, BuildHasherDefault<FoldHasher>, A>,
+    /// For a hash of the contents of a circle of nodes the numbers of one with that, in order, as such a guess.
+    circles: Groups<u64, usize, A>,
 }
 
 /// Whether two nodes have the same content.
@@ -53,6 +56,7 @@ impl<A: Allocator + Copy> StackSets<A> {
         Ok(StackSets {
             nodes,
             guesses: IndexMap::new(alloc),
+            circles: Groups::new(alloc),
         })
     }
 
@@ -82,13 +86,22 @@ impl<A: Allocator + Copy> StackSets<A> {
         Ok(number)
     }
 
+    /// Whether the node of a number is there and has this content.
+    pub fn has_content(&self, number: usize, node: &Node<A>) -> bool
+        ensures { IsTrue result → HasContent (nodes_in self.now) number node.now }
+    {
+        match self.nodes.get(number) {
+            Some(known) => is_same(known, node),
+            None => false,
+        }
+    }
+
     /// The number of a node that has this content, if the one that was added last with this hash has it.
     fn guessed(&self, hash: u64, node: &Node<A>) -> Option<usize>
         ensures { IfSome result (λ n. HasContent (nodes_in self.now) n node.now) }
     {
         let number = *self.guesses.get(&hash)?;
-        let known = self.nodes.get(number)?;
-        if is_same(known, node) {
+        if self.has_content(number, node) {
             Some(number)
         } else {
             None
@@ -108,5 +121,29 @@ impl<A: Allocator + Copy> StackSets<A> {
         let number = self.add(node)?;
         self.guesses.insert(hash, number)?;
         Ok(number)
+    }
+
+    /// Notes the content of the node of a number, so that `keep` finds it.
+    pub fn note_content(&mut self, number: usize) -> Result<(), AllocError>
+        ensures { nodes_in self.new ≡ nodes_in self.old }
+    {
+        if let Some(node) = self.nodes.get(number) {
+            let hash = hash_of(node);
+            self.guesses.insert(hash, number)?;
+        }
+        Ok(())
+    }
+
+    /// The numbers that were noted for circles with this hash.
+    // No more is promised of them: whoever takes them looks at the nodes.
+    pub fn circles(&self, hash: u64) -> &[usize] {
+        self.circles.of(hash)
+    }
+
+    /// Notes the number of a node of a circle with this hash.
+    pub fn note_circle(&mut self, hash: u64, number: usize) -> Result<(), AllocError>
+        ensures { nodes_in self.new ≡ nodes_in self.old }
+    {
+        self.circles.add(hash, number)
     }
 }

@@ -1,16 +1,14 @@
 use Rattle.std.proofs.Common.{◌≡◌, length, subst, sym, arith, rules}
 use Rattle.std.proofs.lemmas.Grind.{common_steps}
-use Rattle.stack_sets.specs.Nodes.{nodes_in}
-use Rattle.naming.specs.Moves.{HaveNumbers}
+use Rattle.stack_sets.specs.Nodes.{IsPrefix, nodes_in}
 use Rattle.naming.proofs.KeepLemmas.{all_length, none_kept}
 use Rattle.naming.proofs.MoveLemmas.{prefix_on}
 use Rattle.naming.proofs.keeping.keep_all.Goals as goal
 
-pub keep_most-requires : goal.keep_most-requires
-keep_most-requires g c =
-    subst (λ l. HaveNumbers c.args.base c.args.nodes.now l (nodes_in c.args.sets.now)) (sym c.as_mut_slice.ensures.value)
-    (none_kept c.args.base c.args.nodes.now (nodes_in c.args.sets.now) c.in_ok-names.names.items c.requires.base
-    c.in_ok-names.ensures.count c.in_ok-names.ensures.none)
+pub keep_known-requires : goal.keep_known-requires
+keep_known-requires g c =
+    none_kept c.args.base c.args.nodes.now (nodes_in c.args.sets.now) c.in_ok-names.names.items c.requires.base
+    c.in_ok-names.ensures.count c.in_ok-names.ensures.none
 
 pub returns-clause-count : goal.returns-clause-count
 returns-clause-count g c =
@@ -19,5 +17,6 @@ returns-clause-count g c =
 
 pub returns-clause-keeps : goal.returns-clause-keeps
 returns-clause-keeps g c =
-    prefix_on (nodes_in c.args.sets.now) (nodes_in c.keep_most.new.sets) (nodes_in c.add_rest.new.sets) c.keep_most.ensures.keeps
-    c.add_rest.ensures.keeps
+    subst (λ l. IsPrefix (nodes_in c.args.sets.now) l) (sym c.note_rest.ensures)
+    (prefix_on (nodes_in c.args.sets.now) (nodes_in c.keep_known.new.sets) (nodes_in c.add_rest.new.sets) c.keep_known.ensures.keeps
+    c.add_rest.ensures.keeps)

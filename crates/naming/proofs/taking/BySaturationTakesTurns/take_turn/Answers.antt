@@ -59,8 +59,8 @@ returns-clause-comes g c =
           (subst (λ l. AreKept c.len-base.result (IsNumber names) (IsNumber names) l there) c.as_slice-2.ensures.value
           c.in_ok-names.ensures.kept)
           c.in_ok-endings.endings.items
-          (subst (λ l. AreListed l c.in_ok-named.named.parts.keys c.in_ok-endings.endings.items) c.as_slice-3.ensures.value
-          (subst (λ l. AreListed c.as_slice-3.result.now l c.in_ok-endings.endings.items) c.as_slice-4.ensures.keys
+          (subst (λ l. AreListed l c.in_ok-named.named.parts.keys c.in_ok-endings.endings.items) c.as_slice-4.ensures.value
+          (subst (λ l. AreListed c.as_slice-4.result.now l c.in_ok-endings.endings.items) c.as_slice-5.ensures.keys
           c.in_ok-endings.ensures.listed)),
       λ fails.
           c.in_ok-items.ensures.passes (subst IsSome (sym c.in-Some.is) refl)
