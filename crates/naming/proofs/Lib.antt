@@ -6,4 +6,5 @@ pub mod NamedLemmas
 pub mod MoveLemmas
 pub mod KeepLemmas
 pub mod StackLemmas
+pub mod PruneLemmas
 pub mod TurnLemmas
