@@ -6,5 +6,6 @@ pub mod NamedLemmas
 pub mod MoveLemmas
 pub mod KeepLemmas
 pub mod StackLemmas
+pub mod PruneLemmas
 pub mod TurnLemmas
 pub mod CircleLemmas

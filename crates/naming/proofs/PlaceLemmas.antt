@@ -1,9 +1,9 @@
 -- What stands at a place of a list that goes on, or of which one item is changed.
-use Rattle.std.proofs.Common.{◌≡◌, ◌⊎◌, ◌++◌, ℕ, zero, suc, List, [], ◌∷◌, Some, slice_get, length, inl, inr, refl, sym, ap}
-use Rattle.std.proofs.Common.{◌∙◌}
+use Rattle.std.proofs.Common.{◌≡◌, ◌⊎◌, ◌++◌, ℕ, zero, suc, List, [], ◌∷◌, Some, slice_get, length, inl, inr, refl, sym, ap, ◌∙◌}
 use Rattle.std.specs.Prelude.{slice_set, IsPermutation}
+use Rattle.std.specs.List.{Contains}
 use Rattle.std.proofs.lemmas.List.Sorted.{Contains-permutation}
-use Rattle.std.proofs.lemmas.Option.{same_Some, none-some, slice_get_within, get_or_from_slice_get, slice_get-get_or}
+use Rattle.std.proofs.lemmas.Option.{get_or_from_slice_get, none-some, same_Some, slice_get-get_or, slice_get_within}
 use Rattle.language.specs.Lists.{Member}
 
 module _ {A : Type 0} where
@@ -24,21 +24,20 @@ module _ {A : Type 0} where
   get_member (z ∷ xs) zero x at = inl (sym (same_Some z x at))
   get_member (z ∷ xs) (suc i) x at = inr (get_member xs i x at)
 
+  index_of : (xs : List A) (x : A) → Member x xs → (i : ℕ) × (slice_get xs i ≡ Some x)
+  index_of [] x m = absurd m
+  index_of (z ∷ xs) x (inl same) = (zero, ap Some (sym same))
+  index_of (z ∷ xs) x (inr m) = let (i, at) = index_of xs x m in (suc i, at)
+
+  -- a member is one in another order too
+  pub reordered : (xs ys : List A) (x : A) → IsPermutation xs ys → Member x xs → Member x ys
+  reordered xs ys x order m =
+      let (i, at) = index_of xs x m in
+      let had : Contains xs x = (i, slice_get_within xs i x at, get_or_from_slice_get xs i x x at) in
+      let (j, small, same) = Contains-permutation xs ys x order had in
+      get_member ys j x (slice_get-get_or ys j x small ∙ ap Some same)
+
   pub set_here : (xs : List A) (i : ℕ) (x y : A) → slice_get xs i ≡ Some x → slice_get (slice_set xs i y) i ≡ Some y
   set_here [] i x y at = absurd (none-some x at)
   set_here (z ∷ xs) zero x y at = refl
   set_here (z ∷ xs) (suc i) x y at = set_here xs i x y at
-
-  -- the place of a member
-  index_of : (xs : List A) (x : A) → Member x xs → (i : ℕ) × (slice_get xs i ≡ Some x)
-  index_of [] x m = absurd m
-  index_of (y ∷ xs) x (inl same) = (0, ap Some (sym same))
-  index_of (y ∷ xs) x (inr m) = let (i, at) = index_of xs x m in (suc i, at)
-
-  -- a member is one in another order, too
-  pub reordered : (xs ys : List A) (x : A) → IsPermutation xs ys → Member x xs → Member x ys
-  reordered xs ys x order m =
-      let (i, at) = index_of xs x m in
-      let (j, within, same) =
-      Contains-permutation xs ys x order (i, slice_get_within xs i x at, get_or_from_slice_get xs i x x at) in
-      get_member ys j x (slice_get-get_or ys j x within ∙ ap Some same)

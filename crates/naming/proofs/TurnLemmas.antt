@@ -25,11 +25,13 @@ use Rattle.naming.specs.declared.named.Named as kept
 use Rattle.naming.specs.declared.part.Part.{Part}
 use Rattle.naming.specs.declared.part.Part.TheVariants.{Call, Ending}
 use Rattle.naming.specs.Moves.{IsNumber, ReachBelow, AreKept}
+use Rattle.naming.specs.Pruned.{ArePruned}
 use Rattle.naming.specs.Names.{put, IsAt, HasName, IsEndingAt, IsLevel, AreListed}
 use Rattle.naming.specs.Holds.{HasEnding, Holds, HaveSome, HoldsFor}
 use Rattle.naming.proofs.HoldLemmas.{holds_as, ending_as}
 use Rattle.stack_sets.proofs.GrowLemmas.{in_within}
-use Rattle.stack_sets.proofs.PlaceLemmas.{at_within, at_left, at_before, at_right, right_at, at_either}
+use Rattle.stack_sets.proofs.PlaceLemmas.{at_left, at_before, at_right, right_at, at_either}
+use Rattle.naming.proofs.PruneLemmas.{pruned_length, pruned_reach, pruned_stacks, pruned_whole}
 use Rattle.naming.proofs.StackLemmas.{kept_stacks, kept_within, kept_whole}
 
 -- what lies below a frame
@@ -208,50 +210,59 @@ module _ {Alloc : Type 0} (m : Machine ℕ NumberedFrame) (before : List (Node A
   some_stack h (inr (f, b, found)) = let (fs, lies) = lies_below (Ending h) f b found in (f ∷ fs, (b, found, lies))
 
   -- the nodes of the turn reach no further than to each other
-  pub turn_reaches : ReachBelow (base + length nodes) nodes
+  turn_reaches : ReachBelow (base + length nodes) nodes
   turn_reaches i f r has =
       let small : r < length after = after_whole.within (base + i) f r (at_right (Bears f r) before nodes i has) in
       omega (arith, small, length-append before nodes)
 
-  -- ---- the nodes that are kept for them
+  -- ---- the nodes with fewer heads
 
-  module _ (there : List (Node Alloc)) (prefix : IsPrefix before there) (names : List ℕ) (count : length names ≡ length nodes)
-      (kept : AreKept base (IsNumber names) (IsNumber names) nodes there) where
-    pub there_whole : AreWhole there
-    there_whole = kept_whole before nodes there whole prefix (IsNumber names) kept after_whole
+  module _ (fewer : List (Node Alloc)) (pruned : ArePruned after nodes fewer) where
+    pub fewer_reach : ReachBelow (base + length fewer) fewer
+    fewer_reach = pruned_reach before nodes fewer pruned base turn_reaches
 
-    -- each ending has a number
-    named_at : (i h : ℕ) → slice_get parts i ≡ Some (Ending h) → (n : ℕ) × IsNumber names i n
-    named_at i h at =
-        let small : i < length parts = slice_get_within parts i (Ending h) at in
-        let small' : i < length names = omega (arith, small, level, count) in
-        (get_or names i 0, slice_get-get_or names i 0 small')
+    -- ---- the nodes that are kept for them
 
-    there_stacks : (h n : ℕ) → IsEndingAt names parts h n → (stack : List NumberedFrame)
-        → InNode (by_number there) n stack ↔ IsStackOf (by_number before) Is h stack
-    there_stacks h n (i, at, name) stack =
-        let first = kept_stacks before nodes there whole prefix (IsNumber names) kept (base + i) n (inr (i, refl, name)) stack in
-        let second = ending_stacks h (base + i) (i, at, refl) stack in
-        (λ inside. second.0 (first.0 inside), λ is. first.1 (second.1 is))
+    module _ (there : List (Node Alloc)) (prefix : IsPrefix before there) (names : List ℕ) (count : length names ≡ length fewer)
+        (kept : AreKept base (IsNumber names) (IsNumber names) fewer there) where
+      pub there_whole : AreWhole there
+      there_whole =
+          kept_whole before fewer there whole prefix (IsNumber names) kept (pruned_whole before nodes fewer pruned after_whole)
 
-    pub are_endings : HaveSome Is parts → (listed : List endings.Ending) → AreListed names parts listed
-        → AreEndings m before there g0 start listed
-    are_endings some listed all = record {
-      only = λ h n stack member inside.
-          (found_ends m (by_number before) g0 start h stack).0 ((there_stacks h n ((all h n).0 member) stack).0 inside);
-      all = λ h stack ends.
-          let is = (found_ends m (by_number before) g0 start h stack).1 ends in
-          let (i, at) = ending_at h stack is in
-          let (n, name) = named_at i h at in
-          (n, (all h n).1 (i, at, name), (there_stacks h n (i, at, name) stack).1 is);
-      within = λ h n member.
-          let (i, at, name) = (all h n).0 member in
-          kept_within before nodes there whole prefix (IsNumber names) kept (base + i) n (inr (i, refl, name));
-      some = λ h n member.
-          let at = (all h n).0 member in
-          let (stack, is) = some_stack h (some at.0 h at.1) in
-          (stack, (there_stacks h n at stack).1 is);
-    }
+      -- each ending has a number
+      named_at : (i h : ℕ) → slice_get parts i ≡ Some (Ending h) → (n : ℕ) × IsNumber names i n
+      named_at i h at =
+          let small : i < length parts = slice_get_within parts i (Ending h) at in
+          let same = pruned_length after nodes fewer pruned in
+          let small' : i < length names = omega (arith, small, level, same, count) in
+          (get_or names i 0, slice_get-get_or names i 0 small')
+
+      there_stacks : (h n : ℕ) → IsEndingAt names parts h n → (stack : List NumberedFrame)
+          → InNode (by_number there) n stack ↔ IsStackOf (by_number before) Is h stack
+      there_stacks h n (i, at, name) stack =
+          let first = kept_stacks before fewer there whole prefix (IsNumber names) kept (base + i) n (inr (i, refl, name)) stack in
+          let second = pruned_stacks before nodes fewer pruned (base + i) stack in
+          let third = ending_stacks h (base + i) (i, at, refl) stack in
+          (λ inside. third.0 (second.0 (first.0 inside)), λ is. first.1 (second.1 (third.1 is)))
+
+      pub are_endings : HaveSome Is parts → (listed : List endings.Ending) → AreListed names parts listed
+          → AreEndings m before there g0 start listed
+      are_endings some listed all = record {
+        only = λ h n stack member inside.
+            (found_ends m (by_number before) g0 start h stack).0 ((there_stacks h n ((all h n).0 member) stack).0 inside);
+        all = λ h stack ends.
+            let is = (found_ends m (by_number before) g0 start h stack).1 ends in
+            let (i, at) = ending_at h stack is in
+            let (n, name) = named_at i h at in
+            (n, (all h n).1 (i, at, name), (there_stacks h n (i, at, name) stack).1 is);
+        within = λ h n member.
+            let (i, at, name) = (all h n).0 member in
+            kept_within before fewer there whole prefix (IsNumber names) kept (base + i) n (inr (i, refl, name));
+        some = λ h n member.
+            let at = (all h n).0 member in
+            let (stack, is) = some_stack h (some at.0 h at.1) in
+            (stack, (there_stacks h n at stack).1 is);
+      }
 
 -- ---- the whole turn
 
@@ -267,25 +278,30 @@ module _ {Alloc : Type 0} (m : Machine ℕ NumberedFrame) (before : List (Node A
   some_found : HaveSome (turn.Found m (by_number before) g0 start) named.parts.keys
   some_found i h at = ending_as (IsAmong items) (turn.Found m (by_number before) g0 start) (λ x is. (all x).0 is) h (holds.1 i h at)
 
-  -- heads lie over nodes that get final numbers
-  pub reach_then : ReachBelow (n + length named.nodes.items) named.nodes.items
-  reach_then = subst (λ b. ReachBelow (b + length named.nodes.items) named.nodes.items) (sym is_base)
-      (turn_reaches m before g0 start whole named.parts.keys named.nodes.items level holds_found)
+  module _ (fewer : List (Node Alloc)) (pruned : ArePruned (before ++ named.nodes.items) named.nodes.items fewer) where
+    -- heads lie over nodes that get final numbers
+    pub reach_then : ReachBelow (n + length fewer) fewer
+    reach_then = subst (λ b. ReachBelow (b + length fewer) fewer) (sym is_base)
+        (fewer_reach m before g0 start whole named.parts.keys named.nodes.items level holds_found fewer pruned)
 
-  module _ (there : List (Node Alloc)) (prefix : IsPrefix before there) (names : List ℕ)
-      (count : length names ≡ length named.nodes.items)
-      (are : AreKept n (IsNumber names) (IsNumber names) named.nodes.items there) where
-    are_kept : AreKept (length before) (IsNumber names) (IsNumber names) named.nodes.items there
-    are_kept = subst (λ b. AreKept b (IsNumber names) (IsNumber names) named.nodes.items there) is_base are
+    -- there is one for each set
+    pub level_then : length fewer ≡ length named.parts.keys
+    level_then = pruned_length (before ++ named.nodes.items) named.nodes.items fewer pruned ∙ level
 
-    -- the nodes after the turn are whole
-    pub whole_then : AreWhole there
-    whole_then =
-        there_whole m before g0 start whole named.parts.keys named.nodes.items level holds_found there prefix names count are_kept
+    module _ (there : List (Node Alloc)) (prefix : IsPrefix before there) (names : List ℕ) (count : length names ≡ length fewer)
+        (are : AreKept n (IsNumber names) (IsNumber names) fewer there) where
+      are_kept : AreKept (length before) (IsNumber names) (IsNumber names) fewer there
+      are_kept = subst (λ b. AreKept b (IsNumber names) (IsNumber names) fewer there) is_base are
 
-    -- and the listed endings are those of the turn
-    pub endings_then : (listed : List endings.Ending) → AreListed names named.parts.keys listed
-        → AreEndings m before there g0 start listed
-    endings_then listed is =
-        are_endings m before g0 start whole named.parts.keys named.nodes.items level holds_found there prefix names count are_kept
-        some_found listed is
+      -- the nodes after the turn are whole
+      pub whole_then : AreWhole there
+      whole_then =
+          there_whole m before g0 start whole named.parts.keys named.nodes.items level holds_found fewer pruned there prefix names count
+          are_kept
+
+      -- and the listed endings are those of the turn
+      pub endings_then : (listed : List endings.Ending) → AreListed names named.parts.keys listed
+          → AreEndings m before there g0 start listed
+      endings_then listed is =
+          are_endings m before g0 start whole named.parts.keys named.nodes.items level holds_found fewer pruned there prefix names count
+          are_kept some_found listed is

@@ -1,3 +1,4 @@
 pub mod Names
 pub mod Holds
 pub mod Moves
+pub mod Pruned

@@ -8,6 +8,7 @@ mod listing;
 mod moving;
 mod named;
 mod part;
+mod pruning;
 mod taking;
 
 pub use taking::BySaturation;

@@ -8,6 +8,7 @@ ghost use Rattle.stack_sets.specs.Turns.{AreWhole, machine_by};
 use crate::keeping::keep_all;
 use crate::listing::list_endings;
 use crate::named::name_all;
+use crate::pruning::prune_all;
 use flow_graph::{Asserts, Graphs};
 use language::Word;
 use saturation::find;
@@ -32,10 +33,11 @@ impl<A: Allocator + Copy> TakesTurns<A> for BySaturation {
         };
         let base = sets.len();
         let named = name_all(alloc, base, items.as_slice())?;
+        let nodes = prune_all(alloc, sets, named.nodes.as_slice())?;
         let names = keep_all(
             alloc,
             base,
-            named.nodes.as_slice(),
+            nodes.as_slice(),
             named.parts.as_slice(),
             sets,
         )?;

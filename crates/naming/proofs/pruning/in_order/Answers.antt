@@ -1,0 +1,8 @@
+use Rattle.std.proofs.Common.{subst}
+use Rattle.std.specs.Prelude.{IsPermutation}
+use Rattle.naming.proofs.pruning.in_order.Goals as goal
+
+pub returns : goal.returns
+returns g c =
+    subst (λ l. IsPermutation l c.sort_unstable_by_key.new.self.items) c.in_ok-sorted.ensures.items
+    c.sort_unstable_by_key.ensures.permutation
