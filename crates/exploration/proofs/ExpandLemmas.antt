@@ -1,5 +1,5 @@
 -- What the turn of a tuple comes to.
-use Rattle.std.proofs.Common.{◌≡◌, ℕ, zero, suc, ◌+◌, ◌-◌, ◌<◌, ◌≤◌, List, [], ◌∷◌, ◌++◌, length, set, get_or, inl, inr, refl, sym, ◌∙◌, ap}
+use Rattle.std.proofs.Common.{◌≡◌, ℕ, zero, suc, ◌+◌, ◌-◌, ◌<◌, ◌≤◌, List, [], ◌∷◌, ◌++◌, length, set, get_or, inl, inr, sym, ◌∙◌, ap}
 use Rattle.std.proofs.Common.{subst, arith, length-append}
 use Rattle.std.proofs.Math.ListN.{length-set}
 use Rattle.language.specs.Lists.{Member}
@@ -12,7 +12,7 @@ use Rattle.stack_sets.specs.declared.node.Node.{Node}
 use Rattle.stack_sets.specs.Turns.{AreEndings, ending}
 use Rattle.exploration.specs.declared.tuple.Tuple.{Tuple}
 use Rattle.exploration.specs.Moments.{ComesNext}
-use Rattle.exploration.specs.Met.{Stacks, Ending, AreHeld, AreMet, after_turn}
+use Rattle.exploration.specs.Met.{Stacks, Ending, AreHeld, AreMet, IsCovered, after_turn}
 use Rattle.exploration.specs.Searched.{IsReached, NeverFails, IsExpanded, IsTuple}
 use Rattle.exploration.proofs.BetweenLemmas.{next_over, last_of}
 use Rattle.exploration.proofs.HeldLemmas.{held_at, held_set, set_at, held_back, around, member_set}
@@ -47,13 +47,14 @@ module _ {Alloc : Type 0} (p : Threads ℕ NumberedFrame) (nodes : List (Node Al
     met_next tuples h had stack' (s ∷ left) n m e count same_g same_t held (inr (all, same, to)) = absurd (omega (arith, e, count, all))
 
     -- what the endings lead to is met
-    pub is_expanded : (tuples : List Tuple) → ((e : Ending) → Member e es → Member (after_turn t thread' e) tuples)
+    pub is_expanded : (tuples : List Tuple) → ((e : Ending) → Member e es → IsCovered nodes tuples (after_turn t thread' e))
         → IsExpanded p nodes tuples t
     is_expanded tuples added = λ h had stack stack' left e count held run.
         let (m, inside, at) = are.all h stack' (stack, own_at had stack left e held, run) in
         let held' : AreHeld nodes (had ++ stack' ∷ left) (set t.nodes t.thread m) =
         subst (λ i. AreHeld nodes (had ++ stack' ∷ left) (set t.nodes i m)) e (held_set nodes had stack stack' left t.nodes m held at) in
-        met_next tuples h had stack' left (after_turn t thread' (ending h m)) (added (ending h m) inside) e count refl refl held' next
+        let (other, is_there, same_t, same_g, all) = added (ending h m) inside in
+        met_next tuples h had stack' left other is_there e count same_g same_t (all (had ++ stack' ∷ left) held') next
 
     module _ (e : Ending) (inside : Member e es) where
       -- the tuple after the turn

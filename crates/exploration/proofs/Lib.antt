@@ -2,6 +2,7 @@ pub mod BetweenLemmas
 pub mod HeldLemmas
 pub mod TurnLemmas
 pub mod TupleLemmas
+pub mod CoverLemmas
 pub mod GrowLemmas
 pub mod ExpandLemmas
 pub mod ComeLemmas

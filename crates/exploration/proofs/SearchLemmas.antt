@@ -17,7 +17,7 @@ use Rattle.exploration.specs.declared.kept_turns.KeptTurn.{KeptTurn}
 use Rattle.exploration.specs.declared.kept_turns.Start.{Start}
 use Rattle.exploration.specs.declared.moment.Moment.{Moment}
 use Rattle.exploration.specs.declared.tuple.Tuple.{Tuple}
-use Rattle.exploration.specs.Met.{Adds, Ending, after_turn}
+use Rattle.exploration.specs.Met.{Adds, Ending, IsCovered, after_turn}
 use Rattle.exploration.specs.Moments.{ComesNext, Follows}
 use Rattle.exploration.specs.Turns.{HasStart, AreTurns, IsTurn}
 use Rattle.exploration.specs.Searched.{threads_by, IsReached, NeverFails, IsExpanded, IsTuple, IsSearched, IsNew}
@@ -76,7 +76,7 @@ module _ {A : Type 0} (p : Threads ℕ NumberedFrame) (old new : List (Node A)) 
   comes = subst (λ z. ComesNext (length p.stacks) moment.round z next.round next.thread) (sym same) follows
 
   -- the tuple's turn is made
-  pub expanded_by : (tuples : List Tuple) → ((e : Ending) → Member e es → Member (after_turn t next.thread e) tuples)
+  pub expanded_by : (tuples : List Tuple) → ((e : Ending) → Member e es → IsCovered new tuples (after_turn t next.thread e))
       → IsExpanded p new tuples t × NeverFails p new t
   expanded_by tuples added = (
     is_expanded p new t now es are moment.round next.round next.thread comes tuples added,

@@ -28,12 +28,22 @@ after_turn tuple thread ending = record {
   nodes = slice_set tuple.nodes tuple.thread ending.node;
 }
 
+-- the tuple that has this node in one place, and else is the same
+abbrev pub with_node : Tuple → ℕ → ℕ → Tuple
+with_node tuple at node = record { globals = tuple.globals; thread = tuple.thread; nodes = slice_set tuple.nodes at node }
+
 module _ {Alloc : Type 0} (nodes : List (Node Alloc)) where
   -- each stack is in the node at its place
   abbrev pub AreHeld : Stacks → List ℕ → Type 0
   AreHeld [] qs = Unit {0}
   AreHeld (stack ∷ stacks) [] = ⊥
   AreHeld (stack ∷ stacks) (q ∷ qs) = InNode (by_number nodes) q stack × AreHeld stacks qs
+
+  -- some tuple before the same thread's turn has the same globals, and nodes of all stacks that this one has
+  abbrev pub IsCovered : List Tuple → Tuple → Type 0
+  IsCovered tuples t =
+      (other : Tuple) × Member other tuples × (other.thread ≡ t.thread) × (other.globals ≡ t.globals)
+      × ((stacks : Stacks) → AreHeld stacks t.nodes → AreHeld stacks other.nodes)
 
   -- some tuple before the turn of this thread has these globals, and nodes of these stacks
   abbrev pub IsMet : List Tuple → ℕ → ℕ → Stacks → Type 0

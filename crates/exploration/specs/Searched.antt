@@ -12,6 +12,7 @@ use Rattle.turns.specs.declared.numbered_frame.NumberedFrame.{NumberedFrame}
 use Rattle.stack_sets.specs.Nodes.{by_number, nodes_in}
 use Rattle.stack_sets.specs.declared.node.Node.{Node}
 use Rattle.stack_sets.specs.Turns.{AreWhole}
+use Rattle.stack_sets.specs.Within.{AreWithin, found_in}
 use Rattle.exploration.specs.declared.kept_turns.KeptTurn.{KeptTurn}
 use Rattle.exploration.specs.declared.moment.Moment.{Moment}
 use Rattle.exploration.specs.declared.searching.Search.{Search}
@@ -95,3 +96,7 @@ IsSearch p search = IsSearched p (nodes_in search.sets) (turns_in search.turns) 
 abbrev pub IsAt : {Alloc : Type 0} → Threads ℕ NumberedFrame → Search Alloc → Moment → Type 0
 IsAt p search moment =
     HasCome p (nodes_in search.sets) (turns_in search.turns) search.tuples.keys search.expanded moment.round moment.thread
+
+-- what the search takes for nodes that have all stacks of others are such
+abbrev pub KnowsWithin : {Alloc : Type 0} → Search Alloc → Type 0
+KnowsWithin search = AreWithin (nodes_in search.sets) (found_in search.covers.known)

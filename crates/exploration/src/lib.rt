@@ -2,6 +2,7 @@
 //! turn fails (after the bound on contexts of Qadeer and Rehof 2005; here the bound is on rounds).
 #![tactic(auto)]
 
+mod covers;
 mod exploring;
 mod kept_turns;
 mod limits;

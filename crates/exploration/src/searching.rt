@@ -4,7 +4,7 @@ ghost use Rattle.std.specs.Prelude.{◌≡◌, ◌<◌, ◌≤◌, ◌+◌, ◌^
 ghost use Rattle.std.specs.Prelude.{length, suc};
 ghost use Rattle.exploration.specs.Moments.{Follows};
 ghost use Rattle.exploration.specs.Searched.{IsAt, IsExpansion, IsNew, IsReached, IsSearch};
-ghost use Rattle.exploration.specs.Searched.{IsTuple, threads_by};
+ghost use Rattle.exploration.specs.Searched.{IsTuple, KnowsWithin, threads_by};
 ghost use Rattle.exploration.specs.Turns.{AreTurns, IsTurnFrom};
 ghost use Rattle.turns.specs.Between.{FailsBelow};
 ghost use Rattle.exploration.specs.Ends.{HasBegun, HasRoom, IsEnd, IsStopped};
@@ -13,6 +13,7 @@ ghost use Rattle.stack_sets.specs.Turns.{AreWhole, machine_by};
 ghost use Rattle.stack_sets.specs.Nodes.{IsPrefix, nodes_in};
 ghost use Rattle.exploration.specs.Turns.{turns_in};
 
+use crate::covers::Covers;
 use crate::kept_turns::{KeptTurns, Start};
 use crate::limits::Rounds;
 use crate::moment::Moment;
@@ -28,6 +29,8 @@ pub(crate) struct Search<A: Allocator> {
     pub(crate) sets: StackSets<A>,
     pub(crate) turns: KeptTurns<A>,
     pub(crate) tuples: Tuples<A>,
+    /// Where is looked for tuples that cover others.
+    pub(crate) covers: Covers<A>,
     /// How many tuples, the first ones, have had their turn.
     pub(crate) expanded: usize,
     /// How much may still be found and met.
@@ -104,6 +107,7 @@ impl<A: Allocator + Copy> Search<A> {
     ) -> Result<bool, NoTurn>
         requires few { length procedures.now ≤ 8 }
         requires search { IsSearch (threads_by source.now procedures.now) self.old }
+        requires known { KnowsWithin self.old }
         requires tuple { IsTuple (threads_by source.now procedures.now)
             (nodes_in self.old.sets) tuple.now }
         requires thread { tuple.now.thread ≡ moment.thread }
@@ -114,6 +118,7 @@ impl<A: Allocator + Copy> Search<A> {
         ensures keeps { IsPrefix (nodes_in self.old.sets) (nodes_in self.new.sets) }
         ensures search { IfOk result
             (λ holds. IsTrue holds → IsSearch (threads_by source.now procedures.now) self.new) }
+        ensures known { IfOk result (λ holds. IsTrue holds → KnowsWithin self.new) }
         ensures turn { IfOk result
             (IsExpansion (threads_by source.now procedures.now)
             (nodes_in self.new.sets) self.new.tuples.keys tuple.now moment.round) }
@@ -141,7 +146,16 @@ impl<A: Allocator + Copy> Search<A> {
             return Ok(false);
         };
         let endings = self.turns.turns[number].endings.as_slice();
-        meet_all(&mut self.tuples, &mut self.left, tuple, next, endings)?;
+        meet_all(
+            alloc,
+            &self.sets,
+            &mut self.covers,
+            &mut self.tuples,
+            &mut self.left,
+            tuple,
+            next,
+            endings,
+        )?;
         Ok(true)
     }
 
@@ -156,9 +170,11 @@ impl<A: Allocator + Copy> Search<A> {
     ) -> Result<bool, NoTurn>
         requires few { length procedures.now ≤ 8 }
         requires come { IsAt (threads_by source.now procedures.now) self.old moment }
+        requires known { KnowsWithin self.old }
         requires follows { Follows (length procedures.now) moment next }
         ensures come { IfOk result
             (λ holds. IsTrue holds → IsAt (threads_by source.now procedures.now) self.new next) }
+        ensures known { IfOk result (λ holds. IsTrue holds → KnowsWithin self.new) }
         ensures fails { result ≡ Ok false
             → FailsBelow (threads_by source.now procedures.now) (suc moment.round) }
         ensures all { IfOk result
@@ -187,6 +203,7 @@ impl<A: Allocator + Copy> Search<A> {
     ) -> Result<End, Stopped>
         requires few { length procedures.now ≤ 8 }
         requires come { HasBegun (threads_by source.now procedures.now) self.old }
+        requires known { KnowsWithin self.old }
         requires room { self.old.left + length self.old.tuples.keys < 2 ^ 32 }
         ensures end { IfOk result (IsEnd (threads_by source.now procedures.now) rounds) }
         ensures room { IfOk result HasRoom }

@@ -7,9 +7,10 @@ ghost use Rattle.flow_graph.specs.Drawn.{graphs_of};
 ghost use Rattle.stack_sets.specs.Nodes.{IsPrefix, nodes_in};
 ghost use Rattle.exploration.specs.Ends.{HasBegun};
 ghost use Rattle.exploration.specs.Limits.{most_of};
-ghost use Rattle.exploration.specs.Searched.{threads_by};
+ghost use Rattle.exploration.specs.Searched.{KnowsWithin, threads_by};
 ghost use Rattle.exploration.specs.Starts.{AreBegun, IsAlone, IsFirstTuple, first_stack};
 
+use crate::covers::Covers;
 use crate::kept_turns::KeptTurns;
 use crate::limits::WorkLimit;
 use crate::searching::Search;
@@ -107,6 +108,7 @@ impl<A: Allocator + Copy> Search<A> {
         requires some { 0 < length procedures.now }
         requires few { length procedures.now ≤ 8 }
         ensures begun { IfOk result (HasBegun (threads_by source.now procedures.now)) }
+        ensures known { IfOk result KnowsWithin }
         ensures work { IfOk result
             (λ search. search.left + length search.tuples.keys ≤ most_of limit) }
     {
@@ -119,6 +121,7 @@ impl<A: Allocator + Copy> Search<A> {
             sets,
             turns: KeptTurns::new(alloc),
             tuples,
+            covers: Covers::new(alloc),
             expanded: 0,
             left,
         })

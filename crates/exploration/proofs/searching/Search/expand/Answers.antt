@@ -2,7 +2,9 @@ use Rattle.std.proofs.Common.{◌≡◌, ◌<◌, ℕ, length, slice_get, sym, s
 use Rattle.turns.specs.Between.{Threads}
 use Rattle.turns.specs.Turn.{SomeStackFails}
 use Rattle.turns.specs.declared.numbered_frame.NumberedFrame.{NumberedFrame}
+use Rattle.stack_sets.proofs.GrowLemmas.{within_later}
 use Rattle.stack_sets.specs.Nodes.{nodes_in, by_number}
+use Rattle.stack_sets.specs.Within.{found_in}
 use Rattle.exploration.specs.declared.kept_turns.Start.{Start}
 use Rattle.exploration.specs.Moments.{Follows}
 use Rattle.exploration.specs.Searched.{threads_by}
@@ -41,6 +43,11 @@ index-requires g c =
     c.in_ok-number.ensures.turn) in
     omega (arith, within, c.turn_from.new.turns.turns.ok.0)
 
+pub meet_all-requires-clause-known : goal.meet_all-requires-clause-known
+meet_all-requires-clause-known g c =
+    within_later (nodes_in c.args.self.now.sets) (nodes_in c.turn_from.new.sets) c.turn_from.ensures.keeps c.requires.search.whole
+    (found_in c.args.self.now.covers.known) c.requires.known
+
 pub returns-clause-search : goal.returns-clause-search
 returns-clause-search g c = λ yes.
     let p : Threads ℕ NumberedFrame = threads_by c.args.source.now c.args.procedures.now in
@@ -73,7 +80,7 @@ returns-clause-turn g c =
     expanded_by p (nodes_in c.args.self.now.sets) (nodes_in c.turn_from.new.sets) c.turn_from.ensures.keeps c.requires.search.whole
     c.args.tuple.now c.requires.tuple c.node.result c.node.ensures c.as_slice-endings.result.now ends c.args.moment c.args.next
     c.requires.thread (subst (λ z. Follows z c.args.moment c.args.next) (sym count) c.requires.follows)
-    (omega (arith, count, c.requires.next)) c.requires.reached c.meet_all.new.tuples.keys c.in_ok-meet_all.ensures.added
+    (omega (arith, count, c.requires.next)) c.requires.reached c.meet_all.new.tuples.keys c.in_ok-meet_all.ensures.covered
 
 pub returns-clause-adds : goal.returns-clause-adds
 returns-clause-adds g c =

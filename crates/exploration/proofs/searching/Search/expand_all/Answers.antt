@@ -15,6 +15,7 @@ loop-self-init g c =
     let p : Threads ℕ NumberedFrame = threads_by c.args.source.now c.args.procedures.now in record {
       passing = passing_begins p (nodes_in c.args.self.now.sets) (turns_in c.args.self.now.turns) c.args.self.now.tuples.keys
           c.args.self.now.expanded c.args.moment c.args.next c.requires.come;
+      known = c.requires.known;
       all = c.len-end.ensures.len;
       work = omega arith;
     }
@@ -73,6 +74,7 @@ loop-self-preserved g c =
           (λ z. IsSearched p (nodes_in c.expand.new.self.sets) (turns_in c.expand.new.self.turns) c.expand.new.self.tuples.keys z) same
           searched)
           t facts.3 turn c.in_ok-expand.ensures.adds);
+      known = c.in_ok-expand.ensures.known c.if-not-branch.false;
       all = c.loop-self.invariant.all;
       work = omega (arith, c.expand.ensures.work, c.loop-self.invariant.work);
     }
