@@ -1,9 +1,10 @@
 -- Heads over final numbers, final numbers that are given one after another, and lists that go on.
-use Rattle.std.proofs.Common.{◌≡◌, ◌⊎◌, ◌↔◌, ◌<◌, ◌≤◌, ◌+◌, ◌++◌, ℕ, zero, suc, Option, None, Some, List, [], ◌∷◌, length, take, get_or}
+use Rattle.std.proofs.Common.{◌≡◌, ◌⊎◌, ◌<◌, ◌≤◌, ◌+◌, ◌++◌, ℕ, zero, suc, Option, None, Some, List, [], ◌∷◌, length, take, get_or}
 use Rattle.std.proofs.Common.{slice_get}
 use Rattle.std.proofs.Common.{inl, inr, refl, sym, ap, ◌∙◌, subst, arith, append_assoc, append-nil, false}
 use Rattle.std.proofs.Common.{true≢false}
-use Rattle.std.specs.Prelude.{slice_set}
+use Rattle.std.specs.Prelude.{slice_set, IsPermutation}
+use Rattle.std.proofs.lemmas.List.Sorted.{IsPermutation-sym}
 use Rattle.std.specs.Option.{is_some}
 use Rattle.std.proofs.lemmas.List.{take_all}
 use Rattle.std.proofs.lemmas.Option.{same_Some, none-some}
@@ -15,6 +16,7 @@ use Rattle.stack_sets.specs.declared.node.Head.{Head}
 use Rattle.stack_sets.specs.declared.node.Node.{Node}
 use Rattle.naming.specs.Moves.{IsNumber, HasNumber, IsMoved, AreMoved, IsFilled, filled, missing}
 use Rattle.naming.proofs.ListLemmas.{take_one}
+use Rattle.naming.proofs.PlaceLemmas.{reordered}
 use Rattle.stack_sets.proofs.PlaceLemmas.{at_left}
 
 -- ---- lists that go on
@@ -104,11 +106,11 @@ module _ (base : ℕ) (Is : ℕ → ℕ → Type 0) where
       (moved_last (take i xs) ys (get_or xs i d) (head_over (get_or xs i d).frame n) are refl below))
 
   pub moved_whole : (xs xs' : List Head) (i : ℕ) (ys zs : List Head) → length xs ≤ i → xs ≡ xs' → AreMoved base Is (take i xs) ys
-      → ((h : Head) → Member h ys ↔ Member h zs) → AreMoved base Is xs' zs
-  moved_whole xs xs' i ys zs large same are alike =
+      → IsPermutation ys zs → AreMoved base Is xs' zs
+  moved_whole xs xs' i ys zs large same are order =
       let (there, back) = subst (λ l. AreMoved base Is l ys) (take_all i xs large ∙ same) are in (
-        λ f m member. let (n, member', mv) = there f m member in (n, (alike (head_over f n)).0 member', mv),
-        λ f n member. back f n ((alike (head_over f n)).1 member),
+        λ f m member. let (n, member', mv) = there f m member in (n, reordered ys zs (head_over f n) order member', mv),
+        λ f n member. back f n (reordered zs ys (head_over f n) (IsPermutation-sym ys zs order) member),
       )
 
 -- ---- a number is put down

@@ -7,6 +7,7 @@ mod keeping;
 mod listing;
 mod moving;
 mod named;
+mod order;
 mod part;
 mod pruning;
 mod taking;

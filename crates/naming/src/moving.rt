@@ -1,10 +1,9 @@
 //! Nodes of a turn whose heads are put over the final numbers of what lies below them.
 
-ghost use Rattle.std.specs.Prelude.{◌≡◌, ◌<◌, ◌+◌, ◌↔◌, IfOk, IfSome, length};
-ghost use Rattle.language.specs.Lists.{Member};
+ghost use Rattle.std.specs.Prelude.{◌≡◌, ◌<◌, ◌+◌, IfOk, IfSome, length};
 ghost use Rattle.naming.specs.Moves.{HasNumber, IsMoved, IsMovedNode, IsNumber, ReachesBelow};
-ghost use Rattle.stack_sets.specs.declared.node.Head.{Head as AHead};
 
+use crate::order::put_in_order;
 use stack_sets::{Head, Node};
 use std::alloc::{AllocError, Allocator};
 
@@ -17,20 +16,6 @@ fn number_now(base: usize, names: &[Option<usize>], number: usize) -> Option<usi
     } else {
         *names.get(number - base)?
     }
-}
-
-/// Puts heads into an order that depends on them alone, so that equal sets have equal lists.
-fn sort_heads<A: Allocator>(heads: &mut Vec<Head, A>)
-    ensures { (h : AHead) → Member h heads.old.items ↔ Member h heads.new.items }
-{
-    heads.sort_unstable_by_key(|head| {
-        (
-            head.frame.procedure,
-            head.frame.point,
-            head.frame.places,
-            head.below,
-        )
-    });
 }
 
 /// The node over the final numbers, if what lies below each of its heads has one.
@@ -53,7 +38,7 @@ pub(crate) fn move_now<A: Allocator>(
             below,
         })?;
     }
-    sort_heads(&mut heads);
+    put_in_order(&mut heads);
     Ok(Some(Node {
         bare: node.bare,
         heads,
@@ -89,7 +74,7 @@ pub(crate) fn move_all<A: Allocator>(
             below: last_number(base, names, head.below),
         })?;
     }
-    sort_heads(&mut heads);
+    put_in_order(&mut heads);
     Ok(Node {
         bare: node.bare,
         heads,

@@ -5,6 +5,7 @@ ghost use Rattle.stack_sets.specs.Nodes.{nodes_in};
 ghost use Rattle.stack_sets.specs.Within.{AreWithin, found_in};
 ghost use Rattle.naming.specs.Pruned.{AreEnough, ArePruned, Covers, IsCovered, IsPruned, MayKeep};
 
+use crate::order::put_in_order;
 use stack_sets::{Head, Inclusions, Node, Pair, StackSets};
 use std::alloc::{AllocError, Allocator};
 
@@ -106,15 +107,12 @@ fn turn_round<A: Allocator>(heads: &mut Vec<Head, A>)
     heads.reverse();
 }
 
-/// The heads in an order of their own, those over nodes with smaller numbers first.
+/// The heads, put in order.
 fn in_order<A: Allocator>(alloc: A, heads: &[Head]) -> Result<Vec<Head, A>, AllocError>
     ensures { IfOk result (λ sorted. IsPermutation heads.now sorted.items) }
 {
     let mut sorted = Vec::from_slice(alloc, heads)?;
-    sorted.sort_unstable_by_key(|head| {
-        let frame = head.frame;
-        (head.below, frame.procedure, frame.point, frame.places)
-    });
+    put_in_order(&mut sorted);
     Ok(sorted)
 }
 

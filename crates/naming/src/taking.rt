@@ -34,13 +34,7 @@ impl<A: Allocator + Copy> TakesTurns<A> for BySaturation {
         let base = sets.len();
         let named = name_all(alloc, base, items.as_slice())?;
         let nodes = prune_all(alloc, sets, named.nodes.as_slice())?;
-        let names = keep_all(
-            alloc,
-            base,
-            nodes.as_slice(),
-            named.parts.as_slice(),
-            sets,
-        )?;
+        let names = keep_all(alloc, base, nodes.as_slice(), named.parts.as_slice(), sets)?;
         let endings = list_endings(alloc, names.as_slice(), named.parts.as_slice())?;
         Ok(Turn::Ends(endings))
     }

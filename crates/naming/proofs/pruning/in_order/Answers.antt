@@ -4,5 +4,4 @@ use Rattle.naming.proofs.pruning.in_order.Goals as goal
 
 pub returns : goal.returns
 returns g c =
-    subst (λ l. IsPermutation l c.sort_unstable_by_key.new.self.items) c.in_ok-sorted.ensures.items
-    c.sort_unstable_by_key.ensures.permutation
+    subst (λ l. IsPermutation l c.put_in_order.new.heads.items) c.in_ok-sorted.ensures.items c.put_in_order.ensures
