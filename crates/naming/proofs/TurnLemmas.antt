@@ -284,10 +284,6 @@ module _ {Alloc : Type 0} (m : Machine ℕ NumberedFrame) (before : List (Node A
     reach_then = subst (λ b. ReachBelow (b + length fewer) fewer) (sym is_base)
         (fewer_reach m before g0 start whole named.parts.keys named.nodes.items level holds_found fewer pruned)
 
-    -- there is one for each set
-    pub level_then : length fewer ≡ length named.parts.keys
-    level_then = pruned_length (before ++ named.nodes.items) named.nodes.items fewer pruned ∙ level
-
     module _ (there : List (Node Alloc)) (prefix : IsPrefix before there) (names : List ℕ) (count : length names ≡ length fewer)
         (are : AreKept n (IsNumber names) (IsNumber names) fewer there) where
       are_kept : AreKept (length before) (IsNumber names) (IsNumber names) fewer there
