@@ -79,4 +79,4 @@ def all_large():
     yield Large("2 threads write 8 globals", free_writes(8), "all", "safe")
     for threads, rounds in ((3, 4), (4, 3), (6, 2)):
         yield Large(f"{threads} recursive threads that tell their stacks", told_stacks(threads), rounds, "safe")
-    yield Large("900 statements in 2 threads", statements(900, 2), "all", "safe")
+    yield Large("200 statements in 2 threads", statements(200, 2), 2, "safe")
