@@ -1,7 +1,8 @@
 //! Nodes on circles, or over one: which belong together, and whether they are known.
 
 ghost use Rattle.std.specs.Prelude.{◌≡◌, ◌<◌, ◌++◌, ◌∷◌, [], ℕ, IfOk, IsTrue, OnOk, Some, length};
-ghost use Rattle.naming.specs.Moves.{AreAllKept, HasNumber, HaveNumbers, IsKept, IsKeptAt, KeepsNumbers};
+ghost use Rattle.naming.specs.Moves.{AreAllKept, HasNumber, HaveNumbers, IsKept, IsKeptAt};
+ghost use Rattle.naming.specs.Moves.{KeepsNumbers};
 ghost use Rattle.stack_sets.specs.Nodes.{nodes_in};
 
 use crate::keeping::{name_at, node_in};

@@ -116,8 +116,8 @@ fn in_order<A: Allocator>(alloc: A, heads: &[Head]) -> Result<Vec<Head, A>, Allo
     Ok(sorted)
 }
 
-/// The heads, in an order of their own, without each that another one covers, as far as that is found. Of two that cover
-/// each other the one over the node with the smaller number stays.
+/// The heads, in an order of their own, without each that another one covers, as far as that is found. Of two that
+/// cover each other the one over the node with the smaller number stays.
 fn enough_of<A: Allocator + Copy>(
     alloc: A,
     sets: &StackSets<A>,

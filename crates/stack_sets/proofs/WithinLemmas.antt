@@ -65,7 +65,8 @@ module _ {A : Type 0} (P : A → Type 0) where
   each_whole xs i large all x m = all x (subst (λ l. Member x l) (sym (take_all i xs large)) m)
 
 -- what is found in a set to which one is added
-pub found_more : (eq : Pair → Pair → Bool) (p : Pair) (old new : List Pair) → new ≡ (if list_any (eq p) old then old else old ++ p ∷ []) → (x : Pair)
+pub found_more : (eq : Pair → Pair → Bool) (p : Pair) (old new : List Pair) → new ≡ (if list_any (eq p) old then old else old ++ p ∷ [])
+    → (x : Pair)
     → Member x new → Member x old ⊎ (x ≡ p)
 found_more eq p old new h x m = by (list_any (eq p) old) h
   where

@@ -39,7 +39,8 @@ loop-ending-preserved g c =
         | inr same ↦ subst (λ z. IsCovered (nodes_in c.args.sets.now) c.meet_after.new.tuples.keys z)
             (is ∙ ap (after_turn c.args.tuple.now c.args.next.thread) (sym same)) c.in_ok-meet_after.ensures.covered
       ];
-      adds = adds_then P (λ t. t ≡ c.in_ok-met.met) P c.args.tuples.now.keys c.loop-ending.tuples.keys c.meet_after.new.tuples.keys (λ t p. p)
+      adds =
+          adds_then P (λ t. t ≡ c.in_ok-met.met) P c.args.tuples.now.keys c.loop-ending.tuples.keys c.meet_after.new.tuples.keys (λ t p. p)
           (λ t same. (e, member_read c.args.endings.now c.loop-ending.ending-index d c.loop-ending-test.true, same ∙ is))
           c.loop-ending.invariant.adds c.meet_after.ensures.adds;
       work = omega (arith, c.meet_after.ensures.work, c.loop-ending.invariant.work);

@@ -20,6 +20,7 @@ pub returns : goal.returns
 returns g c = (
   refl,
   moved_whole c.args.base (IsNumber c.args.names.now) c.as_slice-head-items.result.now c.args.node.now.heads.items
-      c.loop-head.head-index c.loop-head.heads.items c.put_in_order.new.heads.items c.loop-head-test.false c.as_slice-head-items.ensures.value
+      c.loop-head.head-index c.loop-head.heads.items c.put_in_order.new.heads.items c.loop-head-test.false
+      c.as_slice-head-items.ensures.value
       c.loop-head.invariant c.put_in_order.ensures,
 )
