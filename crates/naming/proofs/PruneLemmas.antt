@@ -33,10 +33,6 @@ module _ {Alloc : Type 0} (all : List (Node Alloc)) where
   covers_on : (x y z : Head) → Covers all x y → Covers all y z → Covers all x z
   covers_on x y z (same, within) (same', within') = (same' ∙ same, λ stack inside. within' stack (within stack inside))
 
-  -- the one at a place does so
-  pub covered_here : (x : Head) (ys : List Head) (i : ℕ) (d : Head) → i < length ys → Covers all x (get_or ys i d) → IsCovered all x ys
-  covered_here x ys i d small covers = (get_or ys i d, place_member ys i d small, covers)
-
   covered_on : (x : Head) (ys zs : List Head) → AreEnough all ys zs → IsCovered all x ys → IsCovered all x zs
   covered_on x ys zs enough (y, m, covers) =
       let (z, m', covers') = enough.1 y m in

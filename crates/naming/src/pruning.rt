@@ -1,6 +1,7 @@
 //! The nodes of a turn without heads over stacks that a node has by another of its heads too.
 
-ghost use Rattle.std.specs.Prelude.{◌++◌, IfOk, IsPermutation, IsTrue, OnOk};
+ghost use Rattle.language.specs.Lists.{Member};
+ghost use Rattle.std.specs.Prelude.{◌<◌, length, ◌++◌, IfOk, IsPermutation, IsTrue, OnOk};
 ghost use Rattle.stack_sets.specs.Nodes.{nodes_in};
 ghost use Rattle.stack_sets.specs.Within.{AreWithin, found_in};
 ghost use Rattle.naming.specs.Pruned.{AreEnough, ArePruned, Covers, IsCovered, IsPruned, MayKeep};
@@ -34,7 +35,15 @@ fn covers<A: Allocator + Copy>(
     known.is_within(alloc, sets, nodes, pair)
 }
 
-/// Whether some head does so.
+/// The head at an index.
+fn head_at(heads: &[Head], index: usize) -> Head
+    requires { index < length heads.now }
+    ensures { Member result heads.now }
+{
+    heads[index]
+}
+
+/// Whether some head does so, of those at the end that have its frame.
 fn is_covered<A: Allocator + Copy>(
     alloc: A,
     sets: &StackSets<A>,
@@ -49,8 +58,12 @@ fn is_covered<A: Allocator + Copy>(
     ensures covered { IfOk result (λ yes. IsTrue yes
         → IsCovered (nodes_in sets.now ++ nodes.now) head kept.now) }
 {
-    for other in kept {
-        if covers(alloc, sets, nodes, known, head, *other)? {
+    for back in 0..kept.len() {
+        let other = head_at(kept, kept.len() - 1 - back);
+        if head.frame != other.frame {
+            break;
+        }
+        if covers(alloc, sets, nodes, known, head, other)? {
             return Ok(true);
         }
     }

@@ -23,8 +23,10 @@ pub struct Pair {
 /// Pairs, each once.
 type Pairs<A> = IndexSet<Pair, BuildHasherDefault<FoldHasher>, A>;
 
-/// How many pairs are looked at for one answer, at most. A search that would look at more finds nothing.
+/// How many pairs are looked at for one answer, and how often, at most. A search that would need more finds nothing.
 const MOST_PAIRS: usize = 4096;
+
+const MOST_PASSES: usize = 16;
 
 /// What is known of pairs.
 #[derive(Drop)]
@@ -158,6 +160,9 @@ fn add_below<A: Allocator>(
     heads: &[Head],
 ) -> Result<(), AllocError> {
     for other in heads {
+        if pairs.len() >= MOST_PAIRS {
+            break;
+        }
         let pair = Pair {
             under: head.below,
             over: other.below,
@@ -271,7 +276,7 @@ impl<A: Allocator + Copy> Inclusions<A> {
         ensures within { IfOk result (λ yes. IsTrue yes
             → IsWithin (nodes_in sets.now ++ more.now) pair.under pair.over) }
     {
-        for _ in 0..=pairs.len() {
+        for _ in 0..MOST_PASSES {
             if !has(pairs, pair) {
                 return Ok(false);
             }
