@@ -8,7 +8,6 @@ use Rattle.language.specs.Lists.{Member}
 use Rattle.language.proofs.Members.{member_append, member_left, member_right}
 use Rattle.turns.specs.Stacks.{InNode}
 use Rattle.turns.specs.declared.numbered_frame.NumberedFrame.{NumberedFrame}
-use Rattle.stack_sets.proofs.MemberLemmas.{place_member}
 use Rattle.stack_sets.specs.Nodes.{AtNode, by_number, head_over}
 use Rattle.stack_sets.specs.Turns.{AreWhole}
 use Rattle.stack_sets.specs.Within.{AreWithin, IsWithin}
